@@ -1,0 +1,149 @@
+-- The examples of document 01 that are marked P, file A's listing, and its limits, as one table under one theorem.
+-- A case is what the definitions compute and what the paper says, both as numbers.
+use mathlib.Core.Path.{_≡_, refl}
+use mathlib.Core.Bool.{Bool, true, false, cond, _||_}
+use mathlib.Core.List.{List, [], _∷_, _++_, map, flatMap}
+use Prim.Native.Nat.{ℕ, zero, suc, _+_, _*_, _/_, _%_}
+use lib.ListN.{length, drop, replicate}
+use lib.Dec.{eqb, ltb}
+use Rattle.scope.specs.Parsed.{Parsed, got, refused, Answer, answered, refusal, repeat}
+use Rattle.scope.specs.Number.{group, front, within, number, limited, reference, references, listed}
+use Rattle.scope.specs.Kinds.{Atom, Y, S, X, Entry, atom, spread, busy, limit, between, upTo, usesAt, from, member, usersFrom, outside, gapsAfter, gaps, rulesOf, longest}
+use Rattle.scope.specs.Instance.{eventAt, pairAt, boundsAt, clashAt, unavailableAt, preferredAt, splitAt, spreadAt, busyAt, overGroupsAt, fieldsAt, ended, constraintAt, sizesAt, groupsAt, constraintsAt, parse}
+use Rattle.scope.specs.Cnf.{Item, gate, byte, bit, lit, clause, clauses, hasTrue, withoutFalse, tidy, implied, gateClauses, value, hardClauses, outputs, softUnits, falsified}
+use Rattle.scope.specs.Score.{trues, any, all, deviation, charged, entryTrue, deviations, truth, eventRight, firstWrong, infeasibilityOf, objectiveOf, firstAbove}
+use Rattle.scope.specs.Formula.{noRow, ones, row, counter, lastRow, lowUnits, highUnits, shortUnits, boundItems, countInto, allAdded, listGates, listLiterals, ruleItems, rulesItems, starts, uses, durationRules, constraintRules, formula, variables, hardOf, softOf, tail, bounded, boundedVariables, boundedHard, words}
+use Rattle.scope.specs.Text.{digits, literalText, line, sumWeights, top, headerLine, text}
+use Rattle.scope.specs.Steps.{tokensAfter, numbers, readStep, allFalse, literalsOk, wellFormed, standing, hintsShow, deleted}
+use Rattle.scope.specs.PlainRun.{perform, run, start, plainRun}
+use Rattle.scope.specs.Operations.{Lent, readOf, scoreOf, sameBytes, sameSheetOf, sizesOf, textSizeOf, textOf, programPrints, lowestFalse, decodeOf, formulaFits, checkOf}
+use Rattle.scope.specs.declared.Infeasibility.{Infeasibility}
+use Rattle.scope.specs.declared.Objective.{Objective}
+use Rattle.scope.specs.declared.InstanceSize.{InstanceSize}
+
+-- file A: one time, one event, an empty group, kind 3 at weight 4
+fileA : List ℕ
+fileA = 0x01 ∷ 0x01 ∷ 0x00 ∷ 0x01 ∷ 0x00 ∷ 0x01 ∷ 0x00 ∷ 0x01 ∷ 0x03 ∷ 0x04 ∷ 0x01 ∷ 0x01 ∷ []
+
+-- the proof of its example, whose added clause has the given id
+proofA : ℕ → List ℕ
+proofA id = 0x61 ∷ id ∷ 0x00 ∷ 0x05 ∷ 0x04 ∷ 0x06 ∷ 0x0E ∷ 0x10 ∷ 0x00 ∷ []
+
+-- what the text program prints for A, line by line
+listingA : List ℕ
+listingA =
+    112 ∷ 32 ∷ 119 ∷ 99 ∷ 110 ∷ 102 ∷ 32 ∷ 52 ∷ 32 ∷ 56 ∷ 32 ∷ 53 ∷ 10
+    ∷ 53 ∷ 32 ∷ 49 ∷ 32 ∷ 45 ∷ 50 ∷ 32 ∷ 48 ∷ 10
+    ∷ 53 ∷ 32 ∷ 45 ∷ 49 ∷ 32 ∷ 50 ∷ 32 ∷ 48 ∷ 10
+    ∷ 53 ∷ 32 ∷ 45 ∷ 49 ∷ 32 ∷ 51 ∷ 32 ∷ 48 ∷ 10
+    ∷ 53 ∷ 32 ∷ 49 ∷ 32 ∷ 45 ∷ 51 ∷ 32 ∷ 48 ∷ 10
+    ∷ 53 ∷ 32 ∷ 51 ∷ 32 ∷ 48 ∷ 10
+    ∷ 53 ∷ 32 ∷ 45 ∷ 49 ∷ 32 ∷ 52 ∷ 32 ∷ 48 ∷ 10
+    ∷ 53 ∷ 32 ∷ 49 ∷ 32 ∷ 45 ∷ 52 ∷ 32 ∷ 48 ∷ 10
+    ∷ 52 ∷ 32 ∷ 45 ∷ 52 ∷ 32 ∷ 48 ∷ 10 ∷ []
+
+-- answers as numbers: 0 and the values, or a refusal's number and value
+numberSaid : Parsed ℕ → List ℕ
+numberSaid (got v next) = 0 ∷ v ∷ next ∷ []
+numberSaid (refused k v) = k ∷ v ∷ []
+
+stepsSaid : Answer ℕ → List ℕ
+stepsSaid (answered n) = 0 ∷ n ∷ []
+stepsSaid (refusal k v) = k ∷ v ∷ []
+
+scoreSaid : Answer (Infeasibility × Objective) → List ℕ
+scoreSaid (answered s) = 0 ∷ s .0 .0 ∷ s .1 .0 ∷ []
+scoreSaid (refusal k v) = k ∷ v ∷ []
+
+sizeSaid : Answer InstanceSize → List ℕ
+sizeSaid (answered z) = 0 ∷ z .times ∷ z .events ∷ z .resources ∷ z .groups ∷ z .constraints ∷ []
+sizeSaid (refusal k v) = k ∷ v ∷ []
+
+ample : Lent
+ample = record { words = 10000; rows = 10000; bytes = 10000 }
+
+checkA : ℕ → List ℕ → List ℕ
+checkA B proof = stepsSaid (checkOf fileA B proof ample)
+
+-- resource 1 is busy at times 2 and 5
+busyAt2And5 : Atom → Bool
+busyAt2And5 (Y e t) = false
+busyAt2And5 (S e t) = false
+busyAt2And5 (X r t) = eqb t 2 || eqb t 5
+
+-- every event starts at time 1
+startAt1 : Atom → Bool
+startAt1 (Y e t) = false
+startAt1 (S e t) = eqb t 1
+startAt1 (X r t) = false
+
+-- a counter over three literals, variables 1 to 3, and whether its clauses hold in a model
+counter3 : List Item
+counter3 = map gate (counter noRow (ones (2 ∷ 4 ∷ 6 ∷ [])) 3 4)
+
+holds3 : List ℕ → List ℕ
+holds3 m = byte (clauses (bit m) (hardClauses 4 counter3)) ∷ []
+
+-- a file with T times and nothing else but an event
+timesFile : ℕ → List ℕ
+timesFile T = T ∷ 0x01 ∷ 0x00 ∷ 0x01 ∷ 0x00 ∷ 0x00 ∷ 0x00 ∷ []
+
+-- a number in groups of seven bits, below 2^14
+spelt : ℕ → List ℕ
+spelt n = cond (ltb n 128) (n ∷ []) ((n % 128 + 128) ∷ n / 128 ∷ [])
+
+-- a file with n empty groups and a cluster over all of them: a counted list of n members
+listFile : ℕ → List ℕ
+listFile n =
+    0x01 ∷ 0x01 ∷ 0x01 ∷ 0x01 ∷ 0x00
+    ∷ (spelt n ++ replicate n 0 ++ 0x01 ∷ 0x07 ∷ 0x00 ∷ 0x01 ∷ (spelt n ++ flatMap spelt (from 1 n) ++ 0x00 ∷ 0x00 ∷ []))
+
+six : List Entry
+six = map atom (usesAt 1 (upTo 6))
+
+pub record Case : Type 0 where
+  pub computed : List ℕ
+  pub expected : List ℕ
+
+pub cases : List Case
+cases =
+    -- A's text
+    record { computed = programPrints fileA; expected = listingA }
+    -- 80 01 is 128; 80 00 gives 1
+    ∷ record { computed = numberSaid (number (0x80 ∷ 0x01 ∷ []) 0); expected = 0 ∷ 128 ∷ 2 ∷ [] }
+    ∷ record { computed = numberSaid (number (0x80 ∷ 0x00 ∷ []) 0); expected = 1 ∷ 0 ∷ [] }
+    -- timetable 01 01 on A scores infeasibility 0, objective 4; 00 00 gives 12, event 1
+    ∷ record { computed = scoreSaid (scoreOf fileA (1 ∷ 1 ∷ [])); expected = 0 ∷ 0 ∷ 4 ∷ [] }
+    ∷ record { computed = scoreSaid (scoreOf fileA (0 ∷ 0 ∷ [])); expected = 12 ∷ 1 ∷ [] }
+    -- A's proof at bound 3: no timetable, 1 step; at bound 4: 14, step 1; there with id 13 (hexadecimal): 16, step 1; none: 18
+    ∷ record { computed = checkA 3 (proofA 0x11); expected = 0 ∷ 1 ∷ [] }
+    ∷ record { computed = checkA 4 (proofA 0x11); expected = 14 ∷ 1 ∷ [] }
+    ∷ record { computed = checkA 4 (proofA 0x13); expected = 16 ∷ 1 ∷ [] }
+    ∷ record { computed = checkA 3 []; expected = 18 ∷ 0 ∷ [] }
+    -- a deleted clause is not used
+    ∷ record { computed = checkA 3 (0x64 ∷ 0x05 ∷ 0x00 ∷ proofA 0x11); expected = 15 ∷ 2 ∷ [] }
+    -- bounds 1 to 2: counts 0, 2, 3 deviate 1, 0, 1
+    ∷ record { computed = deviation 1 2 0 ∷ deviation 1 2 2 ∷ deviation 1 2 3 ∷ []; expected = 1 ∷ 0 ∷ 1 ∷ [] }
+    -- kind 6, 3 to 5: counts 0, 1 deviate 0, 2
+    ∷ record { computed = charged (limit 3 5 six) 0 ∷ charged (limit 3 5 six) 1 ∷ []; expected = 0 ∷ 2 ∷ [] }
+    -- busy at members 2 and 5 of six: 2 idle
+    ∷ record { computed = trues (map (entryTrue busyAt2And5) (gaps (usesAt 1 (upTo 6)))) ∷ []; expected = 2 ∷ [] }
+    -- two starts of a spread group at one time count twice
+    ∷ record { computed = deviations startAt1 (rulesOf 1 [] ((1 ∷ []) ∷ []) (spread (1 ∷ 2 ∷ []) 1 0 1)) ∷ []; expected = 1 ∷ [] }
+    -- literals 1, 0, 1 give last row 1, 1, 0; its clauses refuse a count that is too low or too high
+    ∷ record { computed = drop 6 (outputs counter3 (1 ∷ 0 ∷ 1 ∷ [])); expected = 1 ∷ 1 ∷ 0 ∷ [] }
+    ∷ record { computed = holds3 (1 ∷ 0 ∷ 1 ∷ 1 ∷ 0 ∷ 0 ∷ 1 ∷ 0 ∷ 0 ∷ 1 ∷ 1 ∷ 0 ∷ []); expected = 1 ∷ [] }
+    ∷ record { computed = holds3 (1 ∷ 0 ∷ 1 ∷ 1 ∷ 0 ∷ 0 ∷ 1 ∷ 0 ∷ 0 ∷ 1 ∷ 0 ∷ 0 ∷ []); expected = 0 ∷ [] }
+    ∷ record { computed = holds3 (1 ∷ 0 ∷ 1 ∷ 1 ∷ 0 ∷ 0 ∷ 1 ∷ 0 ∷ 0 ∷ 1 ∷ 1 ∷ 1 ∷ []); expected = 0 ∷ [] }
+    -- T = 125 passes, 126 gives 2; a list of 255 passes, 256 gives 4; bound 4,096 gives 7
+    ∷ record { computed = sizeSaid (readOf (timesFile 125)); expected = 0 ∷ 125 ∷ 1 ∷ 0 ∷ 0 ∷ 0 ∷ [] }
+    ∷ record { computed = sizeSaid (readOf (timesFile 126)); expected = 2 ∷ 0 ∷ [] }
+    ∷ record { computed = sizeSaid (readOf (listFile 255)); expected = 0 ∷ 1 ∷ 1 ∷ 1 ∷ 255 ∷ 1 ∷ [] }
+    ∷ record { computed = sizeSaid (readOf (listFile 256)); expected = 4 ∷ 264 ∷ [] }
+    ∷ record { computed = checkA 4096 []; expected = 7 ∷ 4096 ∷ [] }
+    ∷ []
+
+-- the definitions compute what the paper says
+pub examples : map (λ c. c .computed) cases ≡ map (λ c. c .expected) cases
+unfolding repeat group front within number limited reference references listed from member usersFrom outside gapsAfter gaps rulesOf longest eventAt pairAt boundsAt clashAt unavailableAt preferredAt splitAt spreadAt busyAt overGroupsAt fieldsAt ended constraintAt sizesAt groupsAt constraintsAt parse bit lit clause clauses hasTrue withoutFalse tidy implied gateClauses value hardClauses outputs softUnits falsified trues any all deviation charged entryTrue deviations truth eventRight firstWrong infeasibilityOf objectiveOf firstAbove row counter lastRow lowUnits highUnits shortUnits boundItems countInto allAdded listGates listLiterals ruleItems rulesItems starts uses durationRules constraintRules formula variables hardOf softOf tail bounded boundedVariables boundedHard words digits literalText line sumWeights top headerLine text tokensAfter numbers readStep allFalse literalsOk wellFormed standing hintsShow deleted perform run start plainRun readOf scoreOf sameBytes sameSheetOf sizesOf textSizeOf textOf programPrints lowestFalse decodeOf formulaFits checkOf fileA proofA listingA numberSaid stepsSaid scoreSaid sizeSaid ample checkA busyAt2And5 startAt1 counter3 holds3 timesFile spelt listFile six cases flatMap
+examples = refl

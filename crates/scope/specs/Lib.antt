@@ -1,0 +1,14 @@
+pub mod Parsed
+pub mod Number
+pub mod Kinds
+pub mod Instance
+pub mod Cnf
+pub mod Score
+pub mod Formula
+pub mod Text
+pub mod Steps
+pub mod PlainRun
+pub mod Operations
+pub mod Answers
+pub mod Demands
+pub mod Examples

@@ -1,0 +1,117 @@
+-- What each operation answers, for every input: the refusals in the order of their places, then the result.
+use mathlib.Core.Bool.{Bool, true, false, cond, _&&_}
+use mathlib.Core.List.{List, [], _∷_, _++_}
+use mathlib.Core.Option.{Option, none, some}
+use Prim.Native.Nat.{ℕ, zero, suc, _+_, _*_}
+use lib.ListN.{length, take}
+use lib.Dec.{leb, ltb, eqb}
+use Rattle.scope.specs.Parsed.{Answer, answered, refusal, with, provided}
+use Rattle.scope.specs.Instance.{Instance, parse}
+use Rattle.scope.specs.Cnf.{Assignment, bit, clause, falsified}
+use Rattle.scope.specs.Score.{cells, ofBytes, ofTimetable, unlessFound, infeasibility, objective}
+use Rattle.scope.specs.Formula.{primary, variables, hardOf, softOf, boundedVariables, boundedHard, words, mostBound, mostVariables}
+use Rattle.scope.specs.Text.{text, decimal, space, newline}
+use Rattle.scope.specs.PlainRun.{Limits, plainRun}
+use Rattle.scope.specs.declared.Infeasibility.{Infeasibility}
+use Rattle.scope.specs.declared.Objective.{Objective}
+use Rattle.scope.specs.declared.InstanceSize.{InstanceSize}
+use Rattle.scope.specs.declared.FormulaSize.{FormulaSize}
+
+-- reading: 1 to 6
+abbrev pub instanceSize : Instance → InstanceSize
+instanceSize i =
+    record {
+      times = i .times;
+      events = length (i .events);
+      resources = i .resources;
+      groups = length (i .groups);
+      constraints = length (i .constraints);
+    }
+
+unfoldable pub readOf : List ℕ → Answer InstanceSize
+readOf file = with (parse file) (λ i. answered (instanceSize i))
+
+-- scoring: 1 to 6, 10 to 12
+unfoldable pub scoreOf : List ℕ → List ℕ → Answer (Infeasibility × Objective)
+scoreOf file b = with (parse file) (λ i. ofTimetable i b (answered (infeasibility i b, objective i b)))
+
+-- "Two timetables are the same sheet if their Y bytes agree": 1 to 6, 10 to 12 for the first, then for the second
+unfoldable pub sameBytes : List ℕ → List ℕ → Bool
+sameBytes [] [] = true
+sameBytes [] (b ∷ bs) = false
+sameBytes (a ∷ xs) [] = false
+sameBytes (a ∷ xs) (b ∷ bs) = eqb a b && sameBytes xs bs
+
+unfoldable pub sameSheetOf : List ℕ → List ℕ → List ℕ → Answer Bool
+sameSheetOf file a b =
+    with (parse file)
+    (λ i. ofTimetable i a (ofTimetable i b (answered (sameBytes (take (cells i) a) (take (cells i) b)))))
+
+-- the sizing place: 8; for proof checks 7, then 8 with the tail
+abbrev pub ofSize : {A : Type 0} → Instance → Answer A → Answer A
+ofSize i a = provided (leb (variables i) mostVariables) 8 0 a
+
+abbrev pub ofBound : {A : Type 0} → Instance → ℕ → Answer A → Answer A
+ofBound i B a = provided (leb B mostBound) 7 B (provided (leb (boundedVariables i B) mostVariables) 8 0 a)
+
+-- what hard clauses and tail need of the stores: 1 to 8
+abbrev pub formulaSize : Instance → ℕ → FormulaSize
+formulaSize i B =
+    record { variables = boundedVariables i B; clauses = length (boundedHard i B); words = words (boundedHard i B) }
+
+unfoldable pub sizesOf : List ℕ → ℕ → Answer FormulaSize
+sizesOf file B = with (parse file) (λ i. ofBound i B (answered (formulaSize i B)))
+
+-- the text: 1 to 6, 8; 9 where the lent output is too short
+unfoldable pub textSizeOf : List ℕ → Answer ℕ
+textSizeOf file = with (parse file) (λ i. ofSize i (answered (length (text i))))
+
+unfoldable pub textOf : List ℕ → ℕ → Answer (List ℕ)
+textOf file room = with (parse file) (λ i. ofSize i (provided (leb (length (text i)) room) 9 0 (answered (text i))))
+
+-- what the text program prints for its standard input
+abbrev pub printed : Answer (List ℕ) → List ℕ
+printed (answered bytes) = bytes
+printed (refusal k v) = decimal k ++ space ++ decimal v ++ newline
+
+unfoldable pub programPrints : List ℕ → List ℕ
+programPrints input = printed (cond (leb (length input) 65536) (textOf input 65536) (refusal 9 0))
+
+-- the lowest id of a clause that is false, where the first of the list has the id n
+unfoldable pub lowestFalse : Assignment → ℕ → List (List ℕ) → Option ℕ
+lowestFalse ν n [] = none
+lowestFalse ν n (c ∷ cs) = cond (clause ν c) (lowestFalse ν (suc n) cs) (some n)
+
+-- decoding: 1 to 6, 8, 10, 11, 13; the part that holds Y and S, and the falsified soft weight
+abbrev pub part : Instance → List ℕ → List ℕ
+part i m = take (primary i) m
+
+abbrev pub falsifiedSoft : Instance → List ℕ → Objective
+falsifiedSoft i m = record { 0 = falsified (bit m) (softOf i) }
+
+unfoldable pub decodeOf : List ℕ → List ℕ → Answer (List ℕ × Objective)
+decodeOf file m =
+    with (parse file)
+    (λ i.
+    ofSize i
+    (ofBytes (variables i) m (unlessFound 13 (lowestFalse (bit m) 1 (hardOf i)) (answered (part i m, falsifiedSoft i m)))))
+
+-- what a proof check is lent: words, directory rows, and bytes for the variables
+pub record Lent : Type 0 where
+  pub words : ℕ
+  pub rows : ℕ
+  pub bytes : ℕ
+
+-- "9 if a lent store is too short for the formula"
+unfoldable pub formulaFits : Instance → ℕ → Lent → Bool
+formulaFits i B l =
+    leb (words (boundedHard i B)) (l .words) && leb (length (boundedHard i B)) (l .rows) && leb (boundedVariables i B) (l .bytes)
+
+abbrev pub limitsOf : Instance → ℕ → Lent → Limits
+limitsOf i B l = record { lastVariable = boundedVariables i B; wordsLent = l .words; rowsLent = l .rows }
+
+-- checking a bound proof: 1 to 9, then the plain run's answer
+unfoldable pub checkOf : List ℕ → ℕ → List ℕ → Lent → Answer ℕ
+checkOf file B proof l =
+    with (parse file)
+    (λ i. ofBound i B (provided (formulaFits i B l) 9 0 (plainRun (limitsOf i B l) (boundedHard i B) proof)))
