@@ -55,6 +55,10 @@ scoreSaid : Answer (Infeasibility × Objective) → List ℕ
 scoreSaid (answered s) = 0 ∷ s .0 .0 ∷ s .1 .0 ∷ []
 scoreSaid (refusal k v) = k ∷ v ∷ []
 
+decodeSaid : Answer (List ℕ × Objective) → List ℕ
+decodeSaid (answered d) = 0 ∷ d .1 .0 ∷ d .0
+decodeSaid (refusal k v) = k ∷ v ∷ []
+
 sizeSaid : Answer InstanceSize → List ℕ
 sizeSaid (answered z) = 0 ∷ z .times ∷ z .events ∷ z .resources ∷ z .groups ∷ z .constraints ∷ []
 sizeSaid (refusal k v) = k ∷ v ∷ []
@@ -65,11 +69,15 @@ ample = record { words = 10000; rows = 10000; bytes = 10000 }
 checkA : ℕ → List ℕ → List ℕ
 checkA B proof = stepsSaid (checkOf fileA B proof ample)
 
--- resource 1 is busy at times 2 and 5
-busyAt2And5 : Atom → Bool
-busyAt2And5 (Y e t) = false
-busyAt2And5 (S e t) = false
-busyAt2And5 (X r t) = eqb t 2 || eqb t 5
+-- A's proof at bound 3 in stores of these sizes
+roomA : ℕ → ℕ → ℕ → List ℕ
+roomA w r b = stepsSaid (checkOf fileA 3 (proofA 0x11) (record { words = w; rows = r; bytes = b }))
+
+-- every resource is busy at two times
+busyTimes : ℕ → ℕ → Atom → Bool
+busyTimes t u (Y e v) = false
+busyTimes t u (S e v) = false
+busyTimes t u (X r v) = eqb v t || eqb v u
 
 -- every event starts at time 1
 startAt1 : Atom → Bool
@@ -105,45 +113,65 @@ pub record Case : Type 0 where
   pub computed : List ℕ
   pub expected : List ℕ
 
+abbrev shows : List ℕ → List ℕ → Case
+shows c e = record { computed = c; expected = e }
+
 pub cases : List Case
 cases =
     -- A's text
-    record { computed = programPrints fileA; expected = listingA }
+    shows (programPrints fileA) listingA
     -- 80 01 is 128; 80 00 gives 1
-    ∷ record { computed = numberSaid (number (0x80 ∷ 0x01 ∷ []) 0); expected = 0 ∷ 128 ∷ 2 ∷ [] }
-    ∷ record { computed = numberSaid (number (0x80 ∷ 0x00 ∷ []) 0); expected = 1 ∷ 0 ∷ [] }
+    ∷ shows (numberSaid (number (0x80 ∷ 0x01 ∷ []) 0)) (0 ∷ 128 ∷ 2 ∷ [])
+    ∷ shows (numberSaid (number (0x80 ∷ 0x00 ∷ []) 0)) (1 ∷ 0 ∷ [])
     -- timetable 01 01 on A scores infeasibility 0, objective 4; 00 00 gives 12, event 1
-    ∷ record { computed = scoreSaid (scoreOf fileA (1 ∷ 1 ∷ [])); expected = 0 ∷ 0 ∷ 4 ∷ [] }
-    ∷ record { computed = scoreSaid (scoreOf fileA (0 ∷ 0 ∷ [])); expected = 12 ∷ 1 ∷ [] }
+    ∷ shows (scoreSaid (scoreOf fileA (1 ∷ 1 ∷ []))) (0 ∷ 0 ∷ 4 ∷ [])
+    ∷ shows (scoreSaid (scoreOf fileA (0 ∷ 0 ∷ []))) (12 ∷ 1 ∷ [])
+    ∷ shows (scoreSaid (scoreOf fileA (1 ∷ 0 ∷ []))) (12 ∷ 1 ∷ [])
+    -- A's one model decodes to 01 01 at cost 4; with the soft unit's variable false clause 6 is; one byte too few; a byte above 1
+    ∷ shows (decodeSaid (decodeOf fileA (1 ∷ 1 ∷ 1 ∷ 1 ∷ []))) (0 ∷ 4 ∷ 1 ∷ 1 ∷ [])
+    ∷ shows (decodeSaid (decodeOf fileA (1 ∷ 1 ∷ 1 ∷ 0 ∷ []))) (13 ∷ 6 ∷ [])
+    ∷ shows (decodeSaid (decodeOf fileA (1 ∷ 1 ∷ 1 ∷ []))) (10 ∷ 4 ∷ [])
+    ∷ shows (decodeSaid (decodeOf fileA (1 ∷ 1 ∷ 2 ∷ 1 ∷ []))) (11 ∷ 2 ∷ [])
     -- A's proof at bound 3: no timetable, 1 step; at bound 4: 14, step 1; there with id 13 (hexadecimal): 16, step 1; none: 18
-    ∷ record { computed = checkA 3 (proofA 0x11); expected = 0 ∷ 1 ∷ [] }
-    ∷ record { computed = checkA 4 (proofA 0x11); expected = 14 ∷ 1 ∷ [] }
-    ∷ record { computed = checkA 4 (proofA 0x13); expected = 16 ∷ 1 ∷ [] }
-    ∷ record { computed = checkA 3 []; expected = 18 ∷ 0 ∷ [] }
+    ∷ shows (checkA 3 (proofA 0x11)) (0 ∷ 1 ∷ [])
+    ∷ shows (checkA 4 (proofA 0x11)) (14 ∷ 1 ∷ [])
+    ∷ shows (checkA 4 (proofA 0x13)) (16 ∷ 1 ∷ [])
+    ∷ shows (checkA 3 []) (18 ∷ 0 ∷ [])
+    -- a hint that is already true breaks the rule
+    ∷ shows (checkA 3 (0x61 ∷ 0x11 ∷ 0x00 ∷ 0x05 ∷ 0x05 ∷ 0x04 ∷ 0x06 ∷ 0x0E ∷ 0x10 ∷ 0x00 ∷ [])) (16 ∷ 1 ∷ [])
     -- a deleted clause is not used
-    ∷ record { computed = checkA 3 (0x64 ∷ 0x05 ∷ 0x00 ∷ proofA 0x11); expected = 15 ∷ 2 ∷ [] }
+    ∷ shows (checkA 3 (0x64 ∷ 0x05 ∷ 0x00 ∷ proofA 0x11)) (15 ∷ 2 ∷ [])
+    -- bytes after the empty clause; a step d without ids; the formula just fits, then one word, row or byte too few
+    ∷ shows (checkA 3 (proofA 0x11 ++ 0x00 ∷ [])) (18 ∷ 1 ∷ [])
+    ∷ shows (checkA 3 (0x64 ∷ 0x00 ∷ [])) (18 ∷ 1 ∷ [])
+    ∷ shows (roomA 30 16 8) (0 ∷ 1 ∷ [])
+    ∷ shows (roomA 29 16 8) (9 ∷ 0 ∷ [])
+    ∷ shows (roomA 30 15 8) (9 ∷ 0 ∷ [])
+    ∷ shows (roomA 30 16 7) (9 ∷ 0 ∷ [])
     -- bounds 1 to 2: counts 0, 2, 3 deviate 1, 0, 1
-    ∷ record { computed = deviation 1 2 0 ∷ deviation 1 2 2 ∷ deviation 1 2 3 ∷ []; expected = 1 ∷ 0 ∷ 1 ∷ [] }
+    ∷ shows (deviation 1 2 0 ∷ deviation 1 2 2 ∷ deviation 1 2 3 ∷ []) (1 ∷ 0 ∷ 1 ∷ [])
     -- kind 6, 3 to 5: counts 0, 1 deviate 0, 2
-    ∷ record { computed = charged (limit 3 5 six) 0 ∷ charged (limit 3 5 six) 1 ∷ []; expected = 0 ∷ 2 ∷ [] }
+    ∷ shows (charged (limit 3 5 six) 0 ∷ charged (limit 3 5 six) 1 ∷ []) (0 ∷ 2 ∷ [])
     -- busy at members 2 and 5 of six: 2 idle
-    ∷ record { computed = trues (map (entryTrue busyAt2And5) (gaps (usesAt 1 (upTo 6)))) ∷ []; expected = 2 ∷ [] }
+    ∷ shows (trues (map (entryTrue (busyTimes 2 5)) (gaps (usesAt 1 (upTo 6)))) ∷ []) (2 ∷ [])
+    -- at members 2 and 4 of six: 1 idle
+    ∷ shows (trues (map (entryTrue (busyTimes 2 4)) (gaps (usesAt 1 (upTo 6)))) ∷ []) (1 ∷ [])
     -- two starts of a spread group at one time count twice
-    ∷ record { computed = deviations startAt1 (rulesOf 1 [] ((1 ∷ []) ∷ []) (spread (1 ∷ 2 ∷ []) 1 0 1)) ∷ []; expected = 1 ∷ [] }
+    ∷ shows (deviations startAt1 (rulesOf 1 [] ((1 ∷ []) ∷ []) (spread (1 ∷ 2 ∷ []) 1 0 1)) ∷ []) (1 ∷ [])
     -- literals 1, 0, 1 give last row 1, 1, 0; its clauses refuse a count that is too low or too high
-    ∷ record { computed = drop 6 (outputs counter3 (1 ∷ 0 ∷ 1 ∷ [])); expected = 1 ∷ 1 ∷ 0 ∷ [] }
-    ∷ record { computed = holds3 (1 ∷ 0 ∷ 1 ∷ 1 ∷ 0 ∷ 0 ∷ 1 ∷ 0 ∷ 0 ∷ 1 ∷ 1 ∷ 0 ∷ []); expected = 1 ∷ [] }
-    ∷ record { computed = holds3 (1 ∷ 0 ∷ 1 ∷ 1 ∷ 0 ∷ 0 ∷ 1 ∷ 0 ∷ 0 ∷ 1 ∷ 0 ∷ 0 ∷ []); expected = 0 ∷ [] }
-    ∷ record { computed = holds3 (1 ∷ 0 ∷ 1 ∷ 1 ∷ 0 ∷ 0 ∷ 1 ∷ 0 ∷ 0 ∷ 1 ∷ 1 ∷ 1 ∷ []); expected = 0 ∷ [] }
+    ∷ shows (drop 6 (outputs counter3 (1 ∷ 0 ∷ 1 ∷ []))) (1 ∷ 1 ∷ 0 ∷ [])
+    ∷ shows (holds3 (1 ∷ 0 ∷ 1 ∷ 1 ∷ 0 ∷ 0 ∷ 1 ∷ 0 ∷ 0 ∷ 1 ∷ 1 ∷ 0 ∷ [])) (1 ∷ [])
+    ∷ shows (holds3 (1 ∷ 0 ∷ 1 ∷ 1 ∷ 0 ∷ 0 ∷ 1 ∷ 0 ∷ 0 ∷ 1 ∷ 0 ∷ 0 ∷ [])) (0 ∷ [])
+    ∷ shows (holds3 (1 ∷ 0 ∷ 1 ∷ 1 ∷ 0 ∷ 0 ∷ 1 ∷ 0 ∷ 0 ∷ 1 ∷ 1 ∷ 1 ∷ [])) (0 ∷ [])
     -- T = 125 passes, 126 gives 2; a list of 255 passes, 256 gives 4; bound 4,096 gives 7
-    ∷ record { computed = sizeSaid (readOf (timesFile 125)); expected = 0 ∷ 125 ∷ 1 ∷ 0 ∷ 0 ∷ 0 ∷ [] }
-    ∷ record { computed = sizeSaid (readOf (timesFile 126)); expected = 2 ∷ 0 ∷ [] }
-    ∷ record { computed = sizeSaid (readOf (listFile 255)); expected = 0 ∷ 1 ∷ 1 ∷ 1 ∷ 255 ∷ 1 ∷ [] }
-    ∷ record { computed = sizeSaid (readOf (listFile 256)); expected = 4 ∷ 264 ∷ [] }
-    ∷ record { computed = checkA 4096 []; expected = 7 ∷ 4096 ∷ [] }
+    ∷ shows (sizeSaid (readOf (timesFile 125))) (0 ∷ 125 ∷ 1 ∷ 0 ∷ 0 ∷ 0 ∷ [])
+    ∷ shows (sizeSaid (readOf (timesFile 126))) (2 ∷ 0 ∷ [])
+    ∷ shows (sizeSaid (readOf (listFile 255))) (0 ∷ 1 ∷ 1 ∷ 1 ∷ 255 ∷ 1 ∷ [])
+    ∷ shows (sizeSaid (readOf (listFile 256))) (4 ∷ 264 ∷ [])
+    ∷ shows (checkA 4096 []) (7 ∷ 4096 ∷ [])
     ∷ []
 
 -- the definitions compute what the paper says
 pub examples : map (λ c. c .computed) cases ≡ map (λ c. c .expected) cases
-unfolding repeat group front within number limited reference references listed from member usersFrom outside gapsAfter gaps rulesOf longest eventAt pairAt boundsAt clashAt unavailableAt preferredAt splitAt spreadAt busyAt overGroupsAt fieldsAt ended constraintAt sizesAt groupsAt constraintsAt parse bit lit clause clauses hasTrue withoutFalse tidy implied gateClauses value hardClauses outputs softUnits falsified trues any all deviation charged entryTrue deviations truth eventRight firstWrong infeasibilityOf objectiveOf firstAbove row counter lastRow lowUnits highUnits shortUnits boundItems countInto allAdded listGates listLiterals ruleItems rulesItems starts uses durationRules constraintRules formula variables hardOf softOf tail bounded boundedVariables boundedHard words digits literalText line sumWeights top headerLine text tokensAfter numbers readStep allFalse literalsOk wellFormed standing hintsShow deleted perform run start plainRun readOf scoreOf sameBytes sameSheetOf sizesOf textSizeOf textOf programPrints lowestFalse decodeOf formulaFits checkOf fileA proofA listingA numberSaid stepsSaid scoreSaid sizeSaid ample checkA busyAt2And5 startAt1 counter3 holds3 timesFile spelt listFile six cases flatMap
+unfolding repeat group front within number limited reference references listed from member usersFrom outside gapsAfter gaps rulesOf longest eventAt pairAt boundsAt clashAt unavailableAt preferredAt splitAt spreadAt busyAt overGroupsAt fieldsAt ended constraintAt sizesAt groupsAt constraintsAt parse bit lit clause clauses hasTrue withoutFalse tidy implied gateClauses value hardClauses outputs softUnits falsified trues any all deviation charged entryTrue deviations truth eventRight firstWrong infeasibilityOf objectiveOf firstAbove row counter lastRow lowUnits highUnits shortUnits boundItems countInto allAdded listGates listLiterals ruleItems rulesItems starts uses durationRules constraintRules formula variables hardOf softOf tail bounded boundedVariables boundedHard words digits literalText line sumWeights top headerLine text tokensAfter numbers readStep allFalse literalsOk wellFormed standing hintsShow deleted perform run start plainRun readOf scoreOf sameBytes sameSheetOf sizesOf textSizeOf textOf programPrints lowestFalse decodeOf formulaFits checkOf fileA proofA listingA numberSaid stepsSaid scoreSaid decodeSaid sizeSaid ample checkA roomA busyTimes startAt1 counter3 holds3 timesFile spelt listFile six cases flatMap
 examples = refl
