@@ -1,12 +1,16 @@
--- Small laws of Booleans and answers.
+-- Small laws of Booleans and constructors.
 use mathlib.Core.Path.{_≡_, refl, sym}
 use mathlib.Core.Bool.{Bool, true, false, _&&_, _||_}
 use Prim.Native.Nat.{ℕ}
 use native.Mathlib.Omega.{arith}
 
+-- what follows where two constructors would be equal: `impossible (cc)`
+pub impossible : {A : Type 0} → _≡_ {A = ℕ} 0 1 → A
+impossible e = absurd (omega arith)
+
 -- false is not true
 pub never-true : {A : Type 0} → false ≡ true → A
-never-true e = let z : _≡_ {A = ℕ} 0 1 = cc in absurd (omega arith)
+never-true e = impossible (cc)
 
 -- both parts of a true "and"
 pub and-true : (a b : Bool) → (a && b) ≡ true → (a ≡ true) × (b ≡ true)

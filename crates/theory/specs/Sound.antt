@@ -13,7 +13,7 @@ use Rattle.scope.specs.Parsed.{Answer, answered, refusal}
 use Rattle.scope.specs.Cnf.{Assignment, signed, lit, clause, clauses}
 use Rattle.scope.specs.Steps.{Step, add, delete, Tokens, stop, bad, num, tokens, StepRead, read, misread, readStep, wellFormed, put, Marks, allOpen, makeTrue, makeFalse, allFalse, Standing, falsified, oneOpen, other, alsoOpen, alsoLiteral, standing, Live, hintOf, byStanding, byHint, ifLast, Shown, follows, notLive, breaks, hintsShow, ifLive, deleted}
 use Rattle.scope.specs.PlainRun.{State, Limits, Outcome, next, empty, refused, withClause, fits, byShown, byDeleted, perform, byOutcome, byForm, byRead, run, byId, start, plainRun}
-use Rattle.theory.specs.Cases.{never-true, and-true, or-false}
+use Rattle.theory.specs.Cases.{impossible, never-true, and-true, or-false}
 
 -- the mark of a variable with this value
 abbrev markOf : Bool → ℕ
@@ -122,7 +122,7 @@ module _ (ν : Assignment) where
   -- then no hints lead from marks that agree to a clause with all literals false
   hints-sound : (L : Live) → Holds L → (m : Marks) → Agrees m → (hs : List ℕ) → hintsShow L m hs ≡ follows → ⊥
   unfolding hintsShow
-  hints-sound L k m a [] e = let z : _≡_ {A = ℕ} 0 1 = cc in omega arith
+  hints-sound L k m a [] e = impossible (cc)
   hints-sound L k m a (h ∷ hs) e =
       byLive (λ l g. hints-sound L k (makeTrue m l) (agrees-put m (l / 2) (1 + l % 2) (true-mark l g) a) hs) (L h) refl e
     where
@@ -132,10 +132,10 @@ module _ (ν : Assignment) where
       byRight : Ih → (s : Standing) → Right s → byHint (byStanding s) (λ l. hintsShow L (makeTrue m l) hs) (ifLast hs) ≡ follows → ⊥
       byRight ih falsified g e = g
       byRight ih (oneOpen l) g e = ih l g e
-      byRight ih other g e = let z : _≡_ {A = ℕ} 0 1 = cc in omega arith
+      byRight ih other g e = impossible (cc)
 
       byLive : Ih → (o : Option (List ℕ)) → L h ≡ o → byHint (hintOf o m) (λ l. hintsShow L (makeTrue m l) hs) (ifLast hs) ≡ follows → ⊥
-      byLive ih none t e = let z : _≡_ {A = ℕ} 0 1 = cc in omega arith
+      byLive ih none t e = impossible (cc)
       byLive ih (some c) t e = byRight ih (standing m falsified c) (right-clause m a falsified c (inl (k h c t))) e
 
   -- a clause that follows by its hints from true clauses is true
@@ -157,10 +157,10 @@ module _ (ν : Assignment) where
   unfolding deleted
   holds-deleted L k [] L′ e = let p : L ≡ L′ = cc in rw p at k
   holds-deleted L k (d ∷ ds) L′ e =
-      go (holds-deleted (put L d none) (holds-put L k d none (λ c e. let z : _≡_ {A = ℕ} 0 1 = cc in absurd (omega arith))) ds L′) (L d) e
+      go (holds-deleted (put L d none) (holds-put L k d none (λ c e. impossible (cc))) ds L′) (L d) e
     where
       go : (deleted (put L d none) ds ≡ some L′ → Holds L′) → (o : Option (List ℕ)) → ifLive o (deleted (put L d none) ds) ≡ some L′ → Holds L′
-      go ih none e = let z : _≡_ {A = ℕ} 0 1 = cc in absurd (omega arith)
+      go ih none e = impossible (cc)
       go ih (some c) e = ih e
 
   -- a step keeps every live clause true, and never adds the empty clause
@@ -218,12 +218,12 @@ module _ (ν : Assignment) where
   -- the formula's clauses by their ids
   holds-formula : (f : List (List ℕ)) → clauses ν f ≡ true → (i : ℕ) (c : List ℕ) → getElem? f i ≡ some c → clause ν c ≡ true
   unfolding clauses
-  holds-formula [] h i c e = let z : _≡_ {A = ℕ} 0 1 = cc in absurd (omega arith)
+  holds-formula [] h i c e = impossible (cc)
   holds-formula (d ∷ f) h zero c e = let p : d ≡ c = cc in rw (← p) (and-true (clause ν d) (clauses ν f) h .0)
   holds-formula (d ∷ f) h (suc i) c e = holds-formula f (and-true (clause ν d) (clauses ν f) h .1) i c e
 
   holds-start : (f : List (List ℕ)) → clauses ν f ≡ true → Holds (byId f)
-  holds-start f h zero c e = let z : _≡_ {A = ℕ} 0 1 = cc in absurd (omega arith)
+  holds-start f h zero c e = impossible (cc)
   holds-start f h (suc i) c e = holds-formula f h i c e
 
 -- "no timetable" is never answered for a formula that some assignment makes true, whatever the proof's bytes
