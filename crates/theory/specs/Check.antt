@@ -1,5 +1,5 @@
 -- When a proof check answers "no timetable": the sizes are kept, the formula fits, and the plain run answers so.
-use mathlib.Core.Path.{_≡_, refl, sym, ap, _∙_}
+use mathlib.Core.Path.{_≡_, refl}
 use mathlib.Core.Logic.{_↔_}
 use mathlib.Core.Bool.{Bool, true, false, _&&_}
 use mathlib.Core.List.{List}
@@ -7,12 +7,12 @@ use Prim.Native.Nat.{ℕ, _≤_}
 use lib.Dec.{leb}
 use lib.ListN.{length}
 use borrow.Author.Tests.{leb-true, le-leb}
-use Rattle.scope.specs.Parsed.{Answer, answered, refusal, provided, with}
-use Rattle.scope.specs.Instance.{Instance, parse}
+use Rattle.scope.specs.Parsed.{Answer, answered, provided}
+use Rattle.scope.specs.Instance.{Instance}
 use Rattle.scope.specs.Cnf.{Assignment, clauses}
 use Rattle.scope.specs.Formula.{boundedVariables, boundedHard, words, mostBound, mostVariables}
 use Rattle.scope.specs.PlainRun.{plainRun}
-use Rattle.scope.specs.Operations.{Lent, limitsOf, formulaFits, ofBound, checkOf}
+use Rattle.scope.specs.Operations.{Lent, limitsOf, formulaFits, checkOf}
 use Rattle.scope.specs.Demands.{Accepted, Refuted, Bytes}
 use Rattle.theory.specs.Cases.{impossible, and-true}
 use Rattle.theory.specs.Sound.{plain-sound}
@@ -55,7 +55,8 @@ fits-lent i B l z = rw (le-leb _ _ (z .word-room), le-leb _ _ (z .row-room), le-
 
 module _ (file : List ℕ) (i : Instance) (B : ℕ) (proof : List ℕ) (l : Lent) (n : ℕ) (a : Accepted file i) where
   -- the answer comes from the plain run, where the sizes are kept and the formula fits
-  pub check-plain : (checkOf file B proof l ≡ answered n) ↔ (Sized i B l × (plainRun (limitsOf i B l) (boundedHard i B) proof ≡ answered n))
+  pub check-plain : (checkOf file B proof l ≡ answered n)
+      ↔ (Sized i B l × (plainRun (limitsOf i B l) (boundedHard i B) proof ≡ answered n))
   unfolding checkOf
   check-plain = rw (a .parsed) (to, from)
     where

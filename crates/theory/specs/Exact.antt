@@ -1,6 +1,6 @@
--- The plain run is exact: it answers "no timetable" where, and only where, the bytes spell a list of steps, each well formed and
--- taken on what the one before it left, of which the last, and no earlier one, adds the empty clause.
-use mathlib.Core.Path.{_≡_, refl, sym, ap, _∙_}
+-- The plain run is exact: it answers "no timetable" where, and only where, the bytes spell a list of steps, each well formed
+-- and taken on what the one before it left, of which the last, and no earlier one, adds the empty clause.
+use mathlib.Core.Path.{_≡_, refl, ap, _∙_}
 use mathlib.Core.Logic.{_↔_}
 use mathlib.Core.Bool.{Bool, true, false, cond}
 use mathlib.Core.List.{List, [], _∷_}
@@ -9,8 +9,10 @@ use Prim.Native.Nat.{ℕ, zero, suc, _+_, _≤_}
 use native.Mathlib.Omega.{arith}
 use lib.ListN.{length}
 use Rattle.scope.specs.Parsed.{Answer, answered, refusal}
-use Rattle.scope.specs.Steps.{Step, add, delete, Tokens, stop, bad, num, tokens, StepRead, read, misread, readStep, wellFormed, allOpen, allFalse, Live, Shown, follows, notLive, breaks, hintsShow, deleted}
-use Rattle.scope.specs.PlainRun.{State, Limits, Outcome, next, empty, refused, withClause, fits, byShown, byDeleted, perform, atEnd, byOutcome, byForm, byRead, run, start, plainRun}
+use Rattle.scope.specs.Steps.{Step, add, delete, Tokens, stop, bad, num, tokens, StepRead, read, misread, readStep, wellFormed}
+use Rattle.scope.specs.Steps.{allOpen, allFalse, Live, Shown, follows, notLive, breaks, hintsShow, deleted}
+use Rattle.scope.specs.PlainRun.{State, Limits, Outcome, next, empty, refused, withClause, fits, byShown, byDeleted, perform}
+use Rattle.scope.specs.PlainRun.{atEnd, byOutcome, byForm, byRead, run, start, plainRun}
 use Rattle.scope.specs.Demands.{SpellsProof, Taken, ends, goes-on, Bytes}
 use Rattle.theory.specs.Cases.{impossible}
 use Rattle.theory.specs.Spelt.{ReadAs, done, first, proof-exact, few-steps}
@@ -40,58 +42,66 @@ counts lim st (delete ids) = go (deleted (st .live) ids)
     go none = tt
     go (some L) = refl
 
+-- the state that a step leaves has counted it
+counted : (lim : Limits) (st : State) (s : Step) {st′ : State} → perform lim st s ≡ next st′ → st′ .steps ≡ st .steps + 1
+counted lim st s e = rw e at (counts lim st s)
+
 -- what is left to read is a list of steps that are taken from this state on, n steps with those before
 abbrev Listed : Limits → State → Tokens → ℕ → Type 0
 Listed lim st ts n = (ss : List Step) × ReadAs ts ss × Taken lim st ss × (st .steps + length ss ≡ n)
 
+-- P of the number of steps that an answer carries
 abbrev IfAnswered : Answer ℕ → (ℕ → Type 0) → Type 0
 IfAnswered (answered n) P = P n
 IfAnswered (refusal k n) P = Unit {0}
 
--- a well-formed step in front of a list
-module _ (lim : Limits) (st : State) (ts ts′ : Tokens) (s : Step) (r : readStep ts ≡ read s ts′) (w : wellFormed (lim .lastVariable) (st .highest) s ≡ true) where
-  in-front : (st′ : State) → perform lim st s ≡ next st′ → st′ .steps ≡ st .steps + 1 → (a : Answer ℕ) → IfAnswered a (Listed lim st′ ts′) → IfAnswered a (Listed lim st ts)
-  in-front st′ e c (answered m) h = (s ∷ h .0, first r (h .1), goes-on w e (h .2), rw (← h .3) (omega arith))
-  in-front st′ e c (refusal j m) h = tt
+-- a step is read and well formed
+module _ (lim : Limits) (st : State) (ts ts′ : Tokens) (s : Step) (r : readStep ts ≡ read s ts′)
+    (w : wellFormed (lim .lastVariable) (st .highest) s ≡ true) where
+  in-front : (st′ : State) → perform lim st s ≡ next st′ → (a : Answer ℕ) → IfAnswered a (Listed lim st′ ts′)
+      → IfAnswered a (Listed lim st ts)
+  in-front st′ e (answered m) h =
+      let c = counted lim st s e in
+      (s ∷ h .0, first r (h .1), goes-on w e (h .2), rw (← h .3) (omega arith))
+  in-front st′ e (refusal j m) h = tt
 
-  at-last : perform lim st s ≡ empty → ts′ ≡ stop → Listed lim st ts (st .steps + 1)
-  at-last e t = (s ∷ [], first {ss = []} r (rw t done), ends w e, refl)
+  at-last : perform lim st s ≡ empty → (us : Tokens) → ts′ ≡ us → IfAnswered (atEnd (st .steps + 1) us) (Listed lim st ts)
+  at-last e stop t = (s ∷ [], first {ss = []} r (rw t done), ends w e, refl)
+  at-last e bad t = tt
+  at-last e (num k us) t = tt
 
-  last-step : perform lim st s ≡ empty → (us : Tokens) → ts′ ≡ us → IfAnswered (atEnd (st .steps + 1) us) (Listed lim st ts)
-  last-step e stop t = at-last e t
-  last-step e bad t = tt
-  last-step e (num k us) t = tt
+  -- where go answers for what is left after it
+  outcome-lists : (go : State → Answer ℕ) → ((st′ : State) → IfAnswered (go st′) (Listed lim st′ ts′)) → (o : Outcome)
+      → perform lim st s ≡ o → IfAnswered (byOutcome o (st .steps + 1) ts′ go) (Listed lim st ts)
+  outcome-lists go ih (next st′) e = in-front st′ e (go st′) (ih st′)
+  outcome-lists go ih empty e = at-last e ts′ refl
+  outcome-lists go ih (refused j) e = tt
 
+-- a run that answers "no timetable" has read such a list
 run-lists : (k : ℕ) (lim : Limits) (st : State) (ts : Tokens) → IfAnswered (run k lim st ts) (Listed lim st ts)
 unfolding run
 run-lists zero lim st ts = tt
 run-lists (suc k) lim st stop = tt
 run-lists (suc k) lim st bad = tt
-run-lists (suc k) lim st (num n us) = go (run-lists k lim) (readStep (num n us)) refl
+run-lists (suc k) lim st (num n us) = go (λ ts′ st′. run-lists k lim st′ ts′) (readStep ts) refl
   where
     ts : Tokens
     ts = num n us
 
     Ih : Type 0
-    Ih = (st′ : State) (ts′ : Tokens) → IfAnswered (run k lim st′ ts′) (Listed lim st′ ts′)
+    Ih = (ts′ : Tokens) (st′ : State) → IfAnswered (run k lim st′ ts′) (Listed lim st′ ts′)
 
-    outcome : Ih → (s : Step) (ts′ : Tokens) → readStep ts ≡ read s ts′ → wellFormed (lim .lastVariable) (st .highest) s ≡ true
-        → (d : Outcome) → perform lim st s ≡ d → Counts (st .steps + 1) d
-        → IfAnswered (byOutcome d (st .steps + 1) ts′ (λ st′. run k lim st′ ts′)) (Listed lim st ts)
-    outcome ih s ts′ r w (next st′) e c = in-front lim st ts ts′ s r w st′ e c (run k lim st′ ts′) (ih st′ ts′)
-    outcome ih s ts′ r w empty e c = last-step lim st ts ts′ s r w e ts′ refl
-    outcome ih s ts′ r w (refused j) e c = tt
-
-    form : Ih → (s : Step) (ts′ : Tokens) → readStep ts ≡ read s ts′ → (b : Bool) → wellFormed (lim .lastVariable) (st .highest) s ≡ b
+    form : Ih → (s : Step) (ts′ : Tokens) → readStep ts ≡ read s ts′ → (b : Bool)
+        → wellFormed (lim .lastVariable) (st .highest) s ≡ b
         → IfAnswered (byForm b lim st s ts′ (λ st′. run k lim st′ ts′)) (Listed lim st ts)
     form ih s ts′ r false w = tt
-    form ih s ts′ r true w = outcome ih s ts′ r w (perform lim st s) refl (counts lim st s)
+    form ih s ts′ r true w = outcome-lists lim st ts ts′ s r w (λ st′. run k lim st′ ts′) (ih ts′) (perform lim st s) refl
 
     go : Ih → (q : StepRead) → readStep ts ≡ q → IfAnswered (byRead q lim st (λ ts′ st′. run k lim st′ ts′)) (Listed lim st ts)
     go ih misread e = tt
     go ih (read s ts′) e = form ih s ts′ e (wellFormed (lim .lastVariable) (st .highest) s) refl
 
--- the other way, with k at least the number of steps
+-- one step of a run
 run-step : (k : ℕ) (lim : Limits) (st : State) (ts : Tokens) {ts′ : Tokens} {s : Step} → readStep ts ≡ read s ts′
     → wellFormed (lim .lastVariable) (st .highest) s ≡ true
     → run (suc k) lim st ts ≡ byOutcome (perform lim st s) (st .steps + 1) ts′ (λ st′. run k lim st′ ts′)
@@ -100,13 +110,11 @@ run-step k lim st stop e w = impossible (cc)
 run-step k lim st bad e w = impossible (cc)
 run-step k lim st (num n us) e w = rw (e, w)
 
+-- no step is left
 none-left : {ts : Tokens} → ReadAs ts [] → ts ≡ stop
 none-left done = refl
 
--- the state that a step leaves has counted it
-counted : (lim : Limits) (st : State) (s : Step) {st′ : State} → perform lim st s ≡ next st′ → st′ .steps ≡ st .steps + 1
-counted lim st s e = rw e at (counts lim st s)
-
+-- the other way: such a list is run, where k is at least the number of steps
 lists-run : (k : ℕ) (lim : Limits) (st : State) {ts : Tokens} {ss : List Step} → ReadAs ts ss → Taken lim st ss → length ss ≤ k
     → run k lim st ts ≡ answered (st .steps + length ss)
 lists-run zero lim st (first r q) (ends w e) h = absurd (omega arith)

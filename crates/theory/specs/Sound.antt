@@ -1,7 +1,7 @@
 -- The plain run is sound: where it answers "no timetable", no assignment makes every clause of the formula true.
 use mathlib.Core.Path.{_≡_, refl, sym, ap, _∙_}
 use mathlib.Core.Logic.{_⊎_, inl, inr, ⊎-elim}
-use mathlib.Core.Bool.{Bool, true, false, cond, _&&_, _||_, not}
+use mathlib.Core.Bool.{Bool, true, false, cond, _||_, not}
 use mathlib.Core.List.{List, [], _∷_}
 use mathlib.Core.Option.{Option, none, some}
 use Prim.Native.Nat.{ℕ, zero, suc, _+_, _-_, _/_, _%_, _<_}
@@ -10,9 +10,14 @@ use lib.Dec.{eqb}
 use lib.ListN.{length, getElem?}
 use borrow.Author.Tests.{eqb-true, eqb-false}
 use Rattle.scope.specs.Parsed.{Answer, answered, refusal}
-use Rattle.scope.specs.Cnf.{Assignment, signed, lit, clause, clauses}
-use Rattle.scope.specs.Steps.{Step, add, delete, Tokens, stop, bad, num, tokens, StepRead, read, misread, readStep, wellFormed, put, Marks, allOpen, makeTrue, makeFalse, allFalse, Standing, falsified, oneOpen, other, alsoOpen, alsoLiteral, standing, Live, hintOf, byStanding, byHint, ifLast, Shown, follows, notLive, breaks, hintsShow, ifLive, deleted}
-use Rattle.scope.specs.PlainRun.{State, Limits, Outcome, next, empty, refused, withClause, fits, byShown, byDeleted, perform, byOutcome, byForm, byRead, run, byId, start, plainRun}
+use Rattle.scope.specs.Cnf.{Assignment, lit, clause, clauses}
+use Rattle.scope.specs.Steps.{Step, add, delete, Tokens, stop, bad, num, tokens, StepRead, read, misread, readStep, wellFormed}
+use Rattle.scope.specs.Steps.{put, Marks, allOpen, makeTrue, makeFalse, allFalse}
+use Rattle.scope.specs.Steps.{Standing, falsified, oneOpen, other, alsoOpen, alsoLiteral, standing}
+use Rattle.scope.specs.Steps.{Live, hintOf, byStanding, byHint, ifLast, ifLive, deleted}
+use Rattle.scope.specs.Steps.{Shown, follows, notLive, breaks, hintsShow}
+use Rattle.scope.specs.PlainRun.{State, Limits, Outcome, next, empty, refused, withClause, fits, byShown, byDeleted, perform}
+use Rattle.scope.specs.PlainRun.{byOutcome, byForm, byRead, run, byId, start, plainRun}
 use Rattle.theory.specs.Cases.{impossible, never-true, and-true, or-false}
 
 -- the mark of a variable with this value
@@ -20,6 +25,7 @@ abbrev markOf : Bool → ℕ
 markOf true = 1
 markOf false = 2
 
+-- no such mark is that of an open variable
 mark-closed : (b : Bool) → eqb (markOf b) 0 ≡ false
 mark-closed true = refl
 mark-closed false = refl
@@ -48,6 +54,7 @@ module _ (ν : Assignment) where
       odd true = refl
       odd false = refl
 
+  -- the marks that make a literal true, or false, are those of its variable's value where it is so
   true-mark : (l : ℕ) → lit ν l ≡ true → 1 + l % 2 ≡ markOf (ν (l / 2))
   true-mark l e = sym (eqb-true _ _ (sym (lit-mark l) ∙ e))
 
@@ -62,6 +69,7 @@ module _ (ν : Assignment) where
   abbrev Agrees : Marks → Type 0
   Agrees m = (v : ℕ) → (m v ≡ 0) ⊎ (m v ≡ markOf (ν v))
 
+  -- they still agree with one more variable marked by its value, and with the literals of a false clause marked false
   agrees-put : (m : Marks) (v x : ℕ) → x ≡ markOf (ν v) → Agrees m → Agrees (put m v x)
   agrees-put m v x e a u = go (eqb u v) refl
     where
@@ -82,6 +90,7 @@ module _ (ν : Assignment) where
   Right (oneOpen l) = lit ν l ≡ true
   Right other = Unit {0}
 
+  -- one open literal more, true or false
   open-true : (s : Standing) (l : ℕ) → lit ν l ≡ true → Right (alsoOpen s l)
   open-true falsified l e = e
   open-true (oneOpen k) l e = tt
@@ -108,6 +117,7 @@ module _ (ν : Assignment) where
       go false (inl h) = inl h
       go false (inr g) = inr g
 
+  -- the standing of a true clause is right
   right-clause : (m : Marks) → Agrees m → (s : Standing) (c : List ℕ) → (clause ν c ≡ true) ⊎ Right s → Right (standing m s c)
   unfolding standing clause
   right-clause m a s [] (inl e) = never-true e
@@ -129,24 +139,28 @@ module _ (ν : Assignment) where
       Ih : Type 0
       Ih = (l : ℕ) → lit ν l ≡ true → hintsShow L (makeTrue m l) hs ≡ follows → ⊥
 
-      byRight : Ih → (s : Standing) → Right s → byHint (byStanding s) (λ l. hintsShow L (makeTrue m l) hs) (ifLast hs) ≡ follows → ⊥
+      byRight : Ih → (s : Standing) → Right s
+          → byHint (byStanding s) (λ l. hintsShow L (makeTrue m l) hs) (ifLast hs) ≡ follows → ⊥
       byRight ih falsified g e = g
       byRight ih (oneOpen l) g e = ih l g e
       byRight ih other g e = impossible (cc)
 
-      byLive : Ih → (o : Option (List ℕ)) → L h ≡ o → byHint (hintOf o m) (λ l. hintsShow L (makeTrue m l) hs) (ifLast hs) ≡ follows → ⊥
+      byLive : Ih → (o : Option (List ℕ)) → L h ≡ o
+          → byHint (hintOf o m) (λ l. hintsShow L (makeTrue m l) hs) (ifLast hs) ≡ follows → ⊥
       byLive ih none t e = impossible (cc)
       byLive ih (some c) t e = byRight ih (standing m falsified c) (right-clause m a falsified c (inl (k h c t))) e
 
   -- a clause that follows by its hints from true clauses is true
-  pub follows-sound : (L : Live) → Holds L → (c hs : List ℕ) → hintsShow L (allFalse allOpen c) hs ≡ follows → clause ν c ≡ true
+  follows-sound : (L : Live) → Holds L → (c hs : List ℕ) → hintsShow L (allFalse allOpen c) hs ≡ follows → clause ν c ≡ true
   follows-sound L k c hs e = go (clause ν c) refl
     where
       go : (b : Bool) → clause ν c ≡ b → b ≡ true
       go true t = refl
       go false t = absurd (hints-sound L k (allFalse allOpen c) (agrees-allFalse allOpen (λ v. inl refl) c t) hs e)
 
-  holds-put : (L : Live) → Holds L → (id : ℕ) (o : Option (List ℕ)) → ((c : List ℕ) → o ≡ some c → clause ν c ≡ true) → Holds (put L id o)
+  -- they stay true with one more true clause, and with some deleted
+  holds-put : (L : Live) → Holds L → (id : ℕ) (o : Option (List ℕ)) → ((c : List ℕ) → o ≡ some c → clause ν c ≡ true)
+      → Holds (put L id o)
   holds-put L k id o h i c = go (eqb i id)
     where
       go : (b : Bool) → cond b o (L i) ≡ some c → clause ν c ≡ true
@@ -159,7 +173,8 @@ module _ (ν : Assignment) where
   holds-deleted L k (d ∷ ds) L′ e =
       go (holds-deleted (put L d none) (holds-put L k d none (λ c e. impossible (cc))) ds L′) (L d) e
     where
-      go : (deleted (put L d none) ds ≡ some L′ → Holds L′) → (o : Option (List ℕ)) → ifLive o (deleted (put L d none) ds) ≡ some L′ → Holds L′
+      go : (deleted (put L d none) ds ≡ some L′ → Holds L′) → (o : Option (List ℕ))
+          → ifLive o (deleted (put L d none) ds) ≡ some L′ → Holds L′
       go ih none e = impossible (cc)
       go ih (some c) e = ih e
 
@@ -188,6 +203,7 @@ module _ (ν : Assignment) where
       go none f = tt
       go (some L) f = f L refl
 
+  -- an answer other than "no timetable"
   abbrev Refuses : Answer ℕ → Type 0
   Refuses (answered n) = ⊥
   Refuses (refusal k n) = Unit {0}
@@ -202,7 +218,8 @@ module _ (ν : Assignment) where
       Ih : Type 0
       Ih = (st′ : State) → Holds (st′ .live) → (ts′ : Tokens) → Refuses (run k lim st′ ts′)
 
-      outcome : Ih → (d : Outcome) → Kept d → (ts′ : Tokens) → Refuses (byOutcome d (st .steps + 1) ts′ (λ st′. run k lim st′ ts′))
+      outcome : Ih → (d : Outcome) → Kept d → (ts′ : Tokens)
+          → Refuses (byOutcome d (st .steps + 1) ts′ (λ st′. run k lim st′ ts′))
       outcome ih (next st′) h ts′ = ih st′ h ts′
       outcome ih empty h ts′ = absurd h
       outcome ih (refused j) h ts′ = tt

@@ -1,5 +1,5 @@
 -- The tokens of a proof from an offset on, by the number that stands there.
-use mathlib.Core.Path.{_≡_, refl, sym, ap, _∙_}
+use mathlib.Core.Path.{_≡_, refl, _∙_}
 use mathlib.Core.Bool.{Bool, true, false, cond}
 use mathlib.Core.List.{List, [], _∷_}
 use Prim.Native.Nat.{ℕ, zero, suc, _+_, _-_, _*_, _%_, _≤_, _<_}
@@ -7,9 +7,9 @@ use native.Mathlib.Omega.{arith}
 use lib.Dec.{leb, ltb, eqb}
 use lib.ListN.{length, drop, length-drop, drop-of-length-le}
 use lib.Seq.{drop-drop}
-use Rattle.scope.specs.Parsed.{Parsed, got, refused}
-use Rattle.scope.specs.Number.{Front, broken, whole, group, front, within, numberFrom, number}
-use Rattle.scope.specs.Steps.{Tokens, stop, bad, num, byFront, tokensAfter, tokens}
+use Rattle.scope.specs.Parsed.{got, refused}
+use Rattle.scope.specs.Number.{Front, broken, whole, group, front, most, within, numberFrom, number}
+use Rattle.scope.specs.Steps.{stop, bad, num, tokensAfter, tokens}
 use Rattle.theory.specs.Cases.{impossible}
 
 -- the bytes of a number that was read are passed over
@@ -45,7 +45,7 @@ front-inside (b ∷ bs) = go (ltb b 128) (front bs) (front-inside bs)
 within-inside : (k : ℕ) (f : Front) → Inside k f → Inside k (within f)
 unfolding within
 within-inside k broken h = tt
-within-inside k (whole v n) h = inside-cond k v n (h .0) (h .1) (leb v 4294967295)
+within-inside k (whole v n) h = inside-cond k v n (h .0) (h .1) (leb v most)
 
 -- a number that is not too large takes a byte at least, and no more than there are
 pub number-inside : (bs : List ℕ) (v n : ℕ) → within (front bs) ≡ whole v n → (1 ≤ n) × (n ≤ length bs)
@@ -60,6 +60,7 @@ tokens-whole (b ∷ bs) v (suc n) e =
     let d : suc n - 1 ≡ n = omega arith in
     rw (e, d, tokens-after n bs)
 
+-- no number stands there
 pub tokens-broken : (bs : List ℕ) → 1 ≤ length bs → within (front bs) ≡ broken → tokens bs ≡ bad
 unfolding tokensAfter
 tokens-broken [] h e = absurd (omega arith)
@@ -71,6 +72,7 @@ pub record TokenAt (s : List ℕ) (at v next : ℕ) : Type 0 where
   pub forward : at < next
   pub inside : next ≤ length s
 
+-- a number was read at the offset
 pub tokens-got : (s : List ℕ) (at v next : ℕ) → number s at ≡ got v next → TokenAt s at v next
 unfolding number
 tokens-got s at v next = go (within (front (drop at s))) refl
@@ -88,6 +90,7 @@ tokens-got s at v next = go (within (front (drop at s))) refl
           inside = omega arith;
         }
 
+-- bytes, and no number that can be read
 pub tokens-bad : (s : List ℕ) (at k o : ℕ) → number s at ≡ refused k o → at < length s → tokens (drop at s) ≡ bad
 unfolding number
 tokens-bad s at k o h l = go (within (front (drop at s))) refl h
@@ -96,6 +99,7 @@ tokens-bad s at k o h l = go (within (front (drop at s))) refl h
     go broken e h = tokens-broken (drop at s) (rw length-drop (omega arith)) e
     go (whole w n) e h = impossible (cc)
 
+-- no byte is left
 pub tokens-stop : (s : List ℕ) (at : ℕ) → length s ≤ at → tokens (drop at s) ≡ stop
 unfolding tokensAfter
 tokens-stop s at h = rw (drop-of-length-le s h)
