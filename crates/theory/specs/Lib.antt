@@ -6,3 +6,7 @@ pub mod Sound
 pub mod Exact
 pub mod Check
 pub mod Demand3
+pub mod Words
+pub mod Formed
+pub mod Hinted
+pub mod InWords
