@@ -32,6 +32,7 @@ pub record Sized (i : Instance) (B : ℕ) (l : Lent) : Type 0 where
   pub row-room : length (boundedHard i B) ≤ l .rows
   pub byte-room : boundedVariables i B ≤ l .bytes
 
+-- from the tests, and back
 sized : (i : Instance) (B : ℕ) (l : Lent) → leb B mostBound ≡ true → leb (boundedVariables i B) mostVariables ≡ true
     → formulaFits i B l ≡ true → Sized i B l
 unfolding formulaFits
@@ -104,7 +105,8 @@ module _ (file : List ℕ) (i : Instance) (B : ℕ) (proof : List ℕ) (l : Lent
           let z : Sized i B l =
           record { bound = r .bound; size = r .size; word-room = r .word-room; row-room = r .row-room; byte-room = r .byte-room }
           in
-          check-plain .1 (z, plain-exact (limitsOf i B l) (boundedHard i B) proof y n .1 (r .steps, r .spelt, r .taken, r .counted))
+          let k = plain-exact (limitsOf i B l) (boundedHard i B) proof y n in
+          check-plain .1 (z, k .1 (r .steps, r .spelt, r .taken, r .counted))
 
   -- the answer comes only for a bound within its limit
   pub check-bound : checkOf file B proof l ≡ answered n → B ≤ mostBound

@@ -32,6 +32,7 @@ module _ (model : BoundedModel) where
           let m = model file i B t cost a k (ltb-false B (cost .0) h) in
           absurd (check-unsat file i B proof l n a e (bit (m .0)) (m .1))
 
+  -- demand 3 in full
   pub demand3 : Demand3
   demand3 =
       record {

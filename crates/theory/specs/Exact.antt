@@ -121,7 +121,8 @@ lists-run zero lim st (first r q) (ends w e) h = absurd (omega arith)
 lists-run zero lim st (first r q) (goes-on w e a) h = absurd (omega arith)
 lists-run (suc k) lim st (first {ts} r q) (ends w e) h = run-step k lim st ts r w ∙ rw (e, none-left q)
 lists-run (suc k) lim st (first {ts} {s} r q) (goes-on {st′} {ss} w e a) h =
-    run-step k lim st ts r w ∙ rw e (lists-run k lim st′ q a (omega arith) ∙ ap answered (let z = counted lim st s e in omega arith))
+    let z = counted lim st s e in
+    run-step k lim st ts r w ∙ rw e (lists-run k lim st′ q a (omega arith) ∙ ap answered (omega arith))
 
 -- demand 3's "exactly when", of the plain run
 pub plain-exact : (lim : Limits) (f : List (List ℕ)) (proof : List ℕ) → Bytes proof → (n : ℕ)
@@ -139,5 +140,6 @@ plain-exact lim f proof y n = (to, from)
 
     from : Steps → plainRun lim f proof ≡ answered n
     from h =
-        lists-run (suc (length proof)) lim (start f) (proof-exact proof y (h .0) .1 (h .1)) (h .2) (omega (arith, few-steps (h .1)))
+        let k = proof-exact proof y (h .0) .1 (h .1) in
+        lists-run (suc (length proof)) lim (start f) k (h .2) (omega (arith, few-steps (h .1)))
         ∙ ap answered (omega (arith, h .3))

@@ -1,9 +1,10 @@
 -- A step is well formed exactly where the words of document 01 say so.
 use mathlib.Core.Path.{_≡_, refl, ap, _∙_}
-use mathlib.Core.Logic.{_↔_, _⊎_, inl, inr, ⊎-elim}
+use mathlib.Core.Logic.{_↔_, ⊎-elim}
 use mathlib.Core.Bool.{Bool, true, false, cond, _&&_}
-use mathlib.Core.List.{List, [], _∷_, List·Memᴰ, List·Memᴰ·head, List·Memᴰ·tail, List·Memᴰ·cases-cons, List·Memᴰ·not-nil}
-use Prim.Native.Nat.{ℕ, _-_, _/_, _%_, _≤_}
+use mathlib.Core.List.{List, [], _∷_}
+use mathlib.Core.List.{List·Memᴰ, List·Memᴰ·head, List·Memᴰ·tail, List·Memᴰ·cases-cons, List·Memᴰ·not-nil}
+use Prim.Native.Nat.{ℕ, _-_, _/_, _%_}
 use native.Mathlib.Omega.{arith}
 use lib.Dec.{leb, ltb, eqb}
 use borrow.Author.Tests.{le-leb, lt-ltb, eq-eqb, ne-eqb, leb-true, ltb-true, eqb-true, eqb-false}
@@ -29,7 +30,8 @@ open-after m l ls h = (λ k i. go k (h k i) .0, λ k i. go k (h k i) .1)
 pub open-before : (m : Marks) (l : ℕ) (ls : List ℕ) → AllOpen m ls → Fresh l ls → AllOpen (makeFalse m l) ls
 open-before m l ls h f k i = rw (ne-eqb (k / 2) (l / 2) (f k i)) (h k i)
 
-pub literals-formed : (last : ℕ) (m : Marks) (ls : List ℕ) → literalsOk last m ls ≡ true → Literals last ls × AllOpen m ls
+-- the literals of a clause whose variables are all open, both ways
+literals-formed : (last : ℕ) (m : Marks) (ls : List ℕ) → literalsOk last m ls ≡ true → Literals last ls × AllOpen m ls
 unfolding literalsOk
 literals-formed last m [] e = (no-literal, λ k i. absurd (List·Memᴰ·not-nil i))
 literals-formed last m (l ∷ ls) e =
@@ -57,6 +59,7 @@ formed-literals last m (l ∷ ls) (literal a b f k) h =
       formed-literals last (makeFalse m l) ls k (open-before m l ls (λ j i. h j (List·Memᴰ·tail i)) f),
     )
 
+-- a step is well formed exactly where it is in words
 pub formed-exact : (last highest : ℕ) (s : Step) → (wellFormed last highest s ≡ true) ↔ WellFormed last highest s
 unfolding wellFormed
 formed-exact last highest (add id ls hs) = (to, from)

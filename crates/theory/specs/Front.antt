@@ -8,7 +8,7 @@ use native.Mathlib.Omega.{arith}
 use lib.Dec.{ltb, eqb}
 use lib.ListN.{length}
 use borrow.Author.Tests.{lt-ltb, le-ltb, ne-eqb, ltb-true, ltb-false, eqb-false}
-use Rattle.scope.specs.Number.{Front, broken, whole, group, front}
+use Rattle.scope.specs.Number.{Front, broken, whole, group, front, most}
 use Rattle.scope.specs.Demands.{Spells, last, more, Bytes}
 use Rattle.theory.specs.Cases.{impossible}
 
@@ -61,3 +61,7 @@ front-exact bs y v n = (front-spelt bs y v n, back)
   where
     back : Spelt bs v n → front bs ≡ whole v n
     back k = rw (k .2, ← k .4) (spelt-front (k .3) (k .1))
+
+-- the largest number, as document 01 writes it
+pub largest : most ≡ 4294967295
+largest = refl

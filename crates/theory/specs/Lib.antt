@@ -8,5 +8,7 @@ pub mod Check
 pub mod Demand3
 pub mod Words
 pub mod Formed
+pub mod Standing
 pub mod Hinted
+pub mod Taken
 pub mod InWords

@@ -63,7 +63,8 @@ bytes-after : (bs p r : List ℕ) → bs ≡ p ++ r → Bytes bs → Bytes r
 bytes-after bs p r e y k = rw (getD-append-add p r k 0) at (subst Bytes e y (length p + k))
 
 -- bytes that spell a number, as a reading
-of-spelt : (bs : List ℕ) → Bytes bs → (v n : ℕ) (ts : Tokens) → ts ≡ tokens (drop n bs) → Spelt bs v n → Reading (Spells v) bs ts
+of-spelt : (bs : List ℕ) → Bytes bs → (v n : ℕ) (ts : Tokens) → ts ≡ tokens (drop n bs) → Spelt bs v n
+    → Reading (Spells v) bs ts
 of-spelt bs y v n ts e k =
     record {
       taken = k .0;
@@ -99,7 +100,8 @@ number-read {v} {ts} c = read-number (c .bytes) (c .small) v ts (c .same)
 spelt-number : {v : ℕ} {p : List ℕ} → v ≤ most → Spells v p → (r : List ℕ) → tokens (p ++ r) ≡ num v (tokens r)
 unfolding within
 spelt-number {v} {p} h s r =
-    tokens-whole (p ++ r) v (length p) (rw (spelt-front s r, le-leb v most h)) ∙ ap (λ q. num v (tokens q)) (drop-append-seam p r)
+    let e : within (front (p ++ r)) ≡ whole v (length p) = rw (spelt-front s r, le-leb v most h) in
+    tokens-whole (p ++ r) v (length p) e ∙ ap (λ q. num v (tokens q)) (drop-append-seam p r)
 
 -- a number below 128 is its byte
 spells-small : {v : ℕ} {p : List ℕ} → Spells v p → v < 128 → p ≡ v ∷ []
@@ -149,7 +151,8 @@ spelt-numbers (item {n} {ns} {bs} {cs} h l s q) r =
 module _ (s : Step) (ts : Tokens) where
   -- numbers up to a 0, and then what g makes of them
   by-numbers : {Q : List ℕ → Type 0} (vs : Tokens) (c : Source vs) (g : Numbers → StepRead) → g cut ≡ misread
-      → ((ns : List ℕ) (ws : Tokens) → Reading (SpellsList ns) (c .bytes) ws → g (upTo0 ns ws) ≡ read s ts → Reading Q (c .bytes) ts)
+      → ((ns : List ℕ) (ws : Tokens) → Reading (SpellsList ns) (c .bytes) ws → g (upTo0 ns ws) ≡ read s ts
+      → Reading Q (c .bytes) ts)
       → g (numbers vs) ≡ read s ts → Reading Q (c .bytes) ts
   by-numbers {Q} vs c g h f = go (numbers vs) refl
     where

@@ -1,4 +1,5 @@
--- Demand 3's words about a step, as relations with none of the plain run's functions in them.
+-- The words of demand 3 and document 01 about a proof check, as relations with none of the plain run's functions in them.
+-- The spelling in bytes is in Demands.
 use mathlib.Core.Path.{_≡_}
 use mathlib.Core.Logic.{_≢_}
 use mathlib.Core.List.{List, [], _∷_, _++_, map, flatMap, List·Memᴰ}
@@ -8,6 +9,10 @@ use lib.ListN.{length, getD}
 use Rattle.scope.specs.Cnf.{opp}
 use Rattle.scope.specs.Steps.{Step, add, delete, Live}
 use Rattle.scope.specs.PlainRun.{State, Limits}
+use Rattle.scope.specs.Instance.{Instance}
+use Rattle.scope.specs.Formula.{boundedVariables, boundedHard}
+use Rattle.scope.specs.Operations.{Lent}
+use Rattle.scope.specs.Demands.{SpellsProof}
 
 -- "no variable twice": a literal whose variable no literal of the list has
 abbrev pub Fresh : ℕ → List ℕ → Type 0
@@ -93,3 +98,19 @@ pub record Starts (f : List (List ℕ)) (st : State) : Type 0 where
   pub words : st .wordsUsed ≡ length (flatMap (λ c. c) f)
   pub rows : st .rowsUsed ≡ length f
   pub steps : st .steps ≡ 0
+
+-- "that answer comes exactly when all of this is so"
+pub record NoTimetable (i : Instance) (B : ℕ) (proof : List ℕ) (l : Lent) (n : ℕ) : Type 0 where
+  -- "The bound asked for and the formula keep document 01's sizes, and the formula fits the stores."
+  pub bound : B ≤ 4095
+  pub size : boundedVariables i B ≤ 8000000
+  pub word-room : length (flatMap (λ c. c) (boundedHard i B)) ≤ l .words
+  pub row-room : length (boundedHard i B) ≤ l .rows
+  pub byte-room : boundedVariables i B ≤ l .bytes
+  -- "The proof is a list of well-formed steps and nothing else. From the formula alone as live clauses, .."
+  pub steps : List Step
+  pub spelt : SpellsProof steps proof
+  pub first : State
+  pub starts : Starts (boundedHard i B) first
+  pub refutes : Refutes (record { lastVariable = boundedVariables i B; wordsLent = l .words; rowsLent = l .rows }) first steps
+  pub counted : length steps ≡ n
