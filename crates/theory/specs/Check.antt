@@ -13,7 +13,9 @@ use Rattle.scope.specs.Cnf.{Assignment, clauses}
 use Rattle.scope.specs.Formula.{boundedVariables, boundedHard, words, mostBound, mostVariables}
 use Rattle.scope.specs.PlainRun.{plainRun}
 use Rattle.scope.specs.Operations.{Lent, limitsOf, formulaFits, checkOf}
-use Rattle.scope.specs.Demands.{Accepted, Refuted, Bytes}
+use Rattle.scope.specs.Demands.{Accepted}
+use Rattle.scope.specs.Spelling.{Bytes}
+use Rattle.theory.specs.Performed.{Refuted}
 use Rattle.theory.specs.Cases.{impossible, and-true}
 use Rattle.theory.specs.Sound.{plain-sound}
 use Rattle.theory.specs.Exact.{plain-exact}

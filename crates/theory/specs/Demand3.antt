@@ -13,7 +13,8 @@ use Rattle.scope.specs.Formula.{boundedHard}
 use Rattle.scope.specs.Operations.{Lent, checkOf}
 use Rattle.scope.specs.Demands.{Accepted, KeepsHard, Demand3}
 use Rattle.scope.specs.declared.Objective.{Objective}
-use Rattle.theory.specs.Check.{check-exact, check-unsat}
+use Rattle.theory.specs.Check.{check-unsat}
+use Rattle.theory.specs.InWords.{check-in-words}
 
 -- a timetable that keeps every hard constraint at cost B or less gives a model of the hard clauses and the tail's
 abbrev pub BoundedModel : Type 0
@@ -37,7 +38,7 @@ module _ (model : BoundedModel) where
   demand3 =
       record {
         never = check-never;
-        exactly = check-exact;
+        exactly = check-in-words;
         best =
             λ file i m t w proof l n a d low high e u cost k.
             let h = check-never file i (w .0 - 1) proof l n a e u cost k in

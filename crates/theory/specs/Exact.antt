@@ -13,7 +13,8 @@ use Rattle.scope.specs.Steps.{Step, add, delete, Tokens, stop, bad, num, tokens
 use Rattle.scope.specs.Steps.{allOpen, allFalse, Live, Shown, follows, notLive, breaks, hintsShow, deleted}
 use Rattle.scope.specs.PlainRun.{State, Limits, Outcome, next, empty, refused, withClause, fits, byShown, byDeleted, perform}
 use Rattle.scope.specs.PlainRun.{atEnd, byOutcome, byForm, byRead, run, start, plainRun}
-use Rattle.scope.specs.Demands.{SpellsProof, Taken, ends, goes-on, Bytes}
+use Rattle.scope.specs.Spelling.{SpellsProof, Bytes}
+use Rattle.theory.specs.Performed.{Taken, ends, goes-on}
 use Rattle.theory.specs.Cases.{impossible}
 use Rattle.theory.specs.Spelt.{ReadAs, done, first, proof-exact, few-steps}
 

@@ -10,7 +10,7 @@ use lib.Dec.{leb, ltb, eqb}
 use borrow.Author.Tests.{le-leb, lt-ltb, eq-eqb, ne-eqb, leb-true, ltb-true, eqb-true, eqb-false}
 use Rattle.scope.specs.Steps.{Step, add, delete, Marks, allOpen, makeFalse, literalsOk, wellFormed}
 use Rattle.theory.specs.Cases.{and-true}
-use Rattle.theory.specs.Words.{Fresh, Literals, no-literal, literal, WellFormed, add-form, delete-form}
+use Rattle.scope.specs.Refutation.{Fresh, Literals, no-literal, literal, WellFormed, add-form, delete-form}
 
 -- the variables of some literals are open
 abbrev pub AllOpen : Marks → List ℕ → Type 0

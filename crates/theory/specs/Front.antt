@@ -9,7 +9,7 @@ use lib.Dec.{ltb, eqb}
 use lib.ListN.{length}
 use borrow.Author.Tests.{lt-ltb, le-ltb, ne-eqb, ltb-true, ltb-false, eqb-false}
 use Rattle.scope.specs.Number.{Front, broken, whole, group, front, most}
-use Rattle.scope.specs.Demands.{Spells, last, more, Bytes}
+use Rattle.scope.specs.Spelling.{Spells, last, more, Bytes}
 use Rattle.theory.specs.Cases.{impossible}
 
 -- the bytes begin with n bytes that spell v

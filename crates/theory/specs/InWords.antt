@@ -15,10 +15,12 @@ use Rattle.scope.specs.Instance.{Instance}
 use Rattle.scope.specs.Formula.{boundedHard, words}
 use Rattle.scope.specs.PlainRun.{State, byId, start}
 use Rattle.scope.specs.Operations.{Lent, limitsOf, checkOf}
-use Rattle.scope.specs.Demands.{Accepted, Refuted, Bytes}
+use Rattle.scope.specs.Demands.{Accepted}
+use Rattle.scope.specs.Spelling.{Bytes}
+use Rattle.theory.specs.Performed.{Refuted}
 use Rattle.theory.specs.Check.{check-exact}
 use Rattle.theory.specs.Taken.{same-state, taken-exact}
-use Rattle.theory.specs.Words.{Starts, NoTimetable}
+use Rattle.scope.specs.Refutation.{Starts, NoTimetable}
 
 -- a word for each literal
 words-counted : (f : List (List ℕ)) → words f ≡ length (flatMap (λ c. c) f)

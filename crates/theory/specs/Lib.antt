@@ -3,12 +3,12 @@ pub mod Tokens
 pub mod Front
 pub mod Spelt
 pub mod Sound
+pub mod Performed
 pub mod Exact
 pub mod Check
-pub mod Demand3
-pub mod Words
 pub mod Formed
 pub mod Standing
 pub mod Hinted
 pub mod Taken
 pub mod InWords
+pub mod Demand3

@@ -13,8 +13,8 @@ use Rattle.scope.specs.Number.{Front, broken, whole, front, most, within}
 use Rattle.scope.specs.Steps.{Step, add, delete, Tokens, stop, bad, num, byFront, tokensAfter, tokens}
 use Rattle.scope.specs.Steps.{Numbers, upTo0, cut, before, numbers}
 use Rattle.scope.specs.Steps.{StepRead, read, misread, readHints, readLiterals, readAdd, readDelete, readStep}
-use Rattle.scope.specs.Demands.{Spells, last, more, SpellsList, closing, item, SpellsStep, adds, deletes}
-use Rattle.scope.specs.Demands.{SpellsProof, nothing, step, Bytes}
+use Rattle.scope.specs.Spelling.{Spells, last, more, SpellsList, closing, item, SpellsStep, adds, deletes}
+use Rattle.scope.specs.Spelling.{SpellsProof, nothing, step, Bytes}
 use Rattle.theory.specs.Cases.{impossible}
 use Rattle.theory.specs.Tokens.{tokens-whole, tokens-broken}
 use Rattle.theory.specs.Front.{Spelt, front-spelt, spelt-front}

@@ -11,12 +11,12 @@ use borrow.Author.Tests.{eq-eqb, ne-eqb, eqb-true, eqb-false, le-leb, leb-true}
 use Rattle.scope.specs.Steps.{Step, add, delete, put, Live, allOpen, allFalse}
 use Rattle.scope.specs.Steps.{Shown, follows, notLive, breaks, hintsShow, ifLive, deleted}
 use Rattle.scope.specs.PlainRun.{State, Limits, next, empty, refused, withClause, withLive, fits, byShown, byDeleted, perform}
-use Rattle.scope.specs.Demands.{Taken, ends, goes-on}
+use Rattle.theory.specs.Performed.{Taken, ends, goes-on}
 use Rattle.theory.specs.Cases.{impossible, and-true}
 use Rattle.theory.specs.Formed.{formed-exact}
 use Rattle.theory.specs.Hinted.{hints-exact}
-use Rattle.theory.specs.Words.{Literals, WellFormed, add-form, delete-form, Follows, Differs, Deletes, no-id, one-id}
-use Rattle.theory.specs.Words.{Adds, Leaves, added, dropped, Refutes, last, then}
+use Rattle.scope.specs.Refutation.{Literals, WellFormed, add-form, delete-form, Follows, Differs, Deletes, no-id, one-id}
+use Rattle.scope.specs.Refutation.{Adds, Leaves, added, dropped, Refutes, final, onward}
 
 -- the live clauses with another value at one id
 put-at : (L : Live) (d : ℕ) (o : Option (List ℕ)) → put L d o d ≡ o
@@ -138,7 +138,7 @@ module _ (lim : Limits) (st : State) where
           → byShown w lim st id c ≡ empty → Refutes lim st (add id c hs ∷ [])
       go notLive c k f e = impossible (cc)
       go breaks c k f e = impossible (cc)
-      go follows [] k f e = last (add-form h k) (f refl)
+      go follows [] k f e = final (add-form h k) (f refl)
       go follows (l ∷ ls) k f e = no (withClause st id (l ∷ ls)) (fits lim st (l ∷ ls)) e
   empty-in-words (delete ids) k e = go (deleted (st .live) ids) e
     where
@@ -156,11 +156,11 @@ taken-in-words : {lim : Limits} {st : State} {ss : List Step} → Taken lim st s
 taken-in-words {lim} {st} (ends {s = s} w e) = empty-in-words lim st s (formed-exact _ _ s .0 w) e
 taken-in-words {lim} {st} (goes-on {st′ = st′} {s = s} w e k) =
     let f = formed-exact (lim .lastVariable) (st .highest) s .0 w in
-    then f (next-in-words lim st s st′ f e) (taken-in-words k)
+    onward f (next-in-words lim st s st′ f e) (taken-in-words k)
 
 words-taken : {lim : Limits} {st : State} {ss : List Step} → Refutes lim st ss → Taken lim st ss
-words-taken {lim} {st} (last {id = id} {hs = hs} f g) = ends (formed-exact _ _ (add id [] hs) .1 f) (words-empty lim st f g)
-words-taken {lim} {st} (then {s = s} f g k) = goes-on (formed-exact _ _ s .1 f) (words-next lim st f g) (words-taken k)
+words-taken {lim} {st} (final {id = id} {hs = hs} f g) = ends (formed-exact _ _ (add id [] hs) .1 f) (words-empty lim st f g)
+words-taken {lim} {st} (onward {s = s} f g k) = goes-on (formed-exact _ _ s .1 f) (words-next lim st f g) (words-taken k)
 
 -- a list of steps is taken by the plain run exactly where it refutes in demand 3's words
 pub taken-exact : (lim : Limits) (st : State) (ss : List Step) → Taken lim st ss ↔ Refutes lim st ss

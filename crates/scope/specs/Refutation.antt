@@ -1,18 +1,18 @@
--- The words of demand 3 and document 01 about a proof check, as relations with none of the plain run's functions in them.
--- The spelling in bytes is in Demands.
+-- When a proof refutes a formula: the words of demand 3 and document 01 as relations, with none of the plain run's functions in
+-- them.
 use mathlib.Core.Path.{_≡_}
 use mathlib.Core.Logic.{_≢_}
 use mathlib.Core.List.{List, [], _∷_, _++_, map, flatMap, List·Memᴰ}
 use mathlib.Core.Option.{none, some}
 use Prim.Native.Nat.{ℕ, _+_, _/_, _≤_, _<_}
 use lib.ListN.{length, getD}
 use Rattle.scope.specs.Cnf.{opp}
 use Rattle.scope.specs.Steps.{Step, add, delete, Live}
 use Rattle.scope.specs.PlainRun.{State, Limits}
 use Rattle.scope.specs.Instance.{Instance}
 use Rattle.scope.specs.Formula.{boundedVariables, boundedHard}
 use Rattle.scope.specs.Operations.{Lent}
-use Rattle.scope.specs.Demands.{SpellsProof}
+use Rattle.scope.specs.Spelling.{SpellsProof}
 
 -- "no variable twice": a literal whose variable no literal of the list has
 abbrev pub Fresh : ℕ → List ℕ → Type 0
@@ -84,9 +84,9 @@ pub data Leaves (lim : Limits) (st : State) : Step → State → Type 0 where
 
 -- "each step taken on what the one before it left .. The last step, and no earlier one, adds the empty clause."
 pub data Refutes (lim : Limits) : State → List Step → Type 0 where
-  last : {st : State} {id : ℕ} {hs : List ℕ} → WellFormed (lim .lastVariable) (st .highest) (add id [] hs)
+  final : {st : State} {id : ℕ} {hs : List ℕ} → WellFormed (lim .lastVariable) (st .highest) (add id [] hs)
       → Follows (st .live) [] hs → Refutes lim st (add id [] hs ∷ [])
-  then : {st st′ : State} {s : Step} {ss : List Step} → WellFormed (lim .lastVariable) (st .highest) s → Leaves lim st s st′
+  onward : {st st′ : State} {s : Step} {ss : List Step} → WellFormed (lim .lastVariable) (st .highest) s → Leaves lim st s st′
       → Refutes lim st′ ss → Refutes lim st (s ∷ ss)
 
 -- "It starts with the formula alone live, its words and rows used, its last id the highest, no step counted."
