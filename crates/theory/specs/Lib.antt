@@ -1,2 +1,7 @@
 pub mod Readings
 pub mod Accepted
+pub mod Gates
+pub mod Circuit
+pub mod Order
+pub mod Extension
+pub mod Counter
