@@ -5,3 +5,6 @@ pub mod Circuit
 pub mod Order
 pub mod Extension
 pub mod Counter
+pub mod Costs
+pub mod Ranges
+pub mod Bounds
