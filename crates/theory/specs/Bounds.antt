@@ -19,11 +19,6 @@ use Rattle.theory.specs.Counter.{total, Counts, counter-counts, length-c
 use Rattle.theory.specs.Costs.{Costs, Scores-gates, Costs-none, Costs-append, Costs-hard, Costs-unit, Costs-units}
 use Rattle.theory.specs.Ranges.{from-all, count-above, count-upto, count-short}
 
--- the bounds are within the list's length
-pub record Fits (r : Rule) : Type 0 where
-  pub order : r .lo ≤ r .hi
-  pub reach : r .hi ≤ length (r .list)
-
 -- a deviation is the sum of a low and a high part
 deviation-parts : (lo hi c : ℕ) → lo ≤ hi → deviation lo hi c ≡ (lo - c) + (c - hi)
 unfolding deviation

@@ -8,3 +8,4 @@ pub mod Counter
 pub mod Costs
 pub mod Ranges
 pub mod Bounds
+pub mod Rules
