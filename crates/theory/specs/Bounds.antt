@@ -45,7 +45,7 @@ zero-free-parts lo hi c h = rw (count-short c 2 (lo - 1)) (go (eqb c 0) refl (le
     go false e false f = let x : ⊥ = eqb-false c 0 e (omega (arith, leb-false 1 c f)) in absurd x
 
 -- the columns reach up to hi
-columns-reach : (w hi n : ℕ) → hi ≤ n → hi ≤ columns w hi n
+pub columns-reach : (w hi n : ℕ) → hi ≤ n → hi ≤ columns w hi n
 columns-reach zero hi n b = omega arith
 columns-reach (suc w) hi n b = b
 

@@ -35,7 +35,7 @@ length-counter p (x ∷ xs) J v =
     simp (length-append, length-row, length-counter (rowAt v) xs J (v + J), suc-mul) (omega arith)
 
 -- row i of a counter under the row p
-abbrev rowOf : (ℕ → ℕ) → ℕ → ℕ → ℕ → ℕ → ℕ
+abbrev pub rowOf : (ℕ → ℕ) → ℕ → ℕ → ℕ → ℕ → ℕ
 rowOf p J v zero = p
 rowOf p J v (suc i) = rowAt (v + i * J)
 
@@ -43,7 +43,7 @@ rowOf-step : (p : ℕ → ℕ) (J v i : ℕ) → rowOf (rowAt v) J (v + J) i ≡
 rowOf-step p J v zero = rw (zero-mul, add-zero)
 rowOf-step p J v (suc i) = let e : v + J + i * J ≡ v + suc i * J = omega arith in rw e
 
-lastRow-row : (p : ℕ → ℕ) (xs : List (ℕ × ℕ)) (J v : ℕ) → lastRow p xs J v ≡ rowOf p J v (length xs)
+pub lastRow-row : (p : ℕ → ℕ) (xs : List (ℕ × ℕ)) (J v : ℕ) → lastRow p xs J v ≡ rowOf p J v (length xs)
 unfolding lastRow
 lastRow-row p [] J v = refl
 lastRow-row p (x ∷ xs) J v = lastRow-row (rowAt v) xs J (v + J) ∙ rowOf-step p J v (length xs)

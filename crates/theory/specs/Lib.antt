@@ -9,3 +9,4 @@ pub mod Costs
 pub mod Ranges
 pub mod Bounds
 pub mod Rules
+pub mod RuleOrder

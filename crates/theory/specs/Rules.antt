@@ -39,7 +39,7 @@ ValidRule-weaken P Q f r v =
     record { order = v .order; reach = v .reach; atoms = All-weaken (Atoms P) (Atoms Q) (Atoms-weaken P Q f) (r .list) (v .atoms) }
 
 module _ (num : Atom → ℕ) where
-  length-entryGates : (x : Entry) (v : ℕ) → length (entryGates num x v) ≡ added x
+  pub length-entryGates : (x : Entry) (v : ℕ) → length (entryGates num x v) ≡ added x
   length-entryGates (atom a) v = refl
   length-entryGates (anyOf xs) v = refl
   length-entryGates (gap earlier here later) v = refl
