@@ -10,3 +10,4 @@ pub mod Ranges
 pub mod Bounds
 pub mod Rules
 pub mod RuleOrder
+pub mod KindRules
