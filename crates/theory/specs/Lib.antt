@@ -11,3 +11,4 @@ pub mod Bounds
 pub mod Rules
 pub mod RuleOrder
 pub mod KindRules
+pub mod Answered
