@@ -1,8 +1,10 @@
 -- Booleans as tests of facts.
 use mathlib.Core.Path.{_≡_, refl, sym}
-use mathlib.Core.Bool.{Bool, true, false, not, cond, Bool·beq}
+use mathlib.Core.Bool.{Bool, true, false, cond, Bool·beq, true≢false}
 use mathlib.Core.Logic.{_↔_}
+use mathlib.Core.Option.{Option, none, some}
 use Prim.Native.Nat.{ℕ, _≤_}
+use native.Mathlib.Omega.{arith}
 use lib.Dec.{leb}
 use borrow.Author.Tests.{leb-true, le-leb}
 
@@ -22,3 +24,12 @@ beq-iff false false = (λ _. refl, λ _. refl)
 pub leb-same : (a b c d : ℕ) → (a ≤ b ↔ c ≤ d) → leb a b ≡ leb c d
 leb-same a b c d h =
     bool-ext (leb a b) (leb c d) (λ e. le-leb c d (h .0 (leb-true a b e)), λ e. le-leb a b (h .1 (leb-true c d e)))
+
+pub some≢none : {A : Type 0} {a : A} → some a ≡ none → ⊥
+some≢none e = let z : _≡_ {A = ℕ} 0 1 = cc in omega arith
+
+-- a search that goes on while the tests hold finds nothing exactly where they all hold
+pub cond-none : {A : Type 0} (test : Bool) (a : A) (found : Option A)
+    → (cond test found (some a) ≡ none) ↔ ((test ≡ true) × (found ≡ none))
+cond-none true a found = (λ n. (refl, n), λ h. h .1)
+cond-none false a found = (λ n. absurd (some≢none n), λ h. absurd (true≢false (sym (h .0))))

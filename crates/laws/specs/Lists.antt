@@ -17,6 +17,10 @@ module _ {A : Type 0} (P : A → Type 0) where
   All-append [] ys a b = b
   All-append (x ∷ xs) ys a b = (a .0, All-append xs ys (a .1) b)
 
+  pub All-split : (xs ys : List A) → All P (xs ++ ys) → All P xs × All P ys
+  All-split [] ys h = (tt, h)
+  All-split (x ∷ xs) ys h = let p = All-split xs ys (h .1) in ((h .0, p .0), p .1)
+
   pub All-take : (n : ℕ) (xs : List A) → All P xs → All P (take n xs)
   All-take zero xs h = tt
   All-take (suc n) [] h = tt

@@ -1,7 +1,7 @@
 -- When an operation answers: exactly where no check on the way refuses.
 use mathlib.Core.Path.{_≡_, refl, sym, ap, _∙_}
-use mathlib.Core.Bool.{Bool, true, false, cond, _&&_, true≢false}
-use mathlib.Core.Logic.{_↔_, Iff·trans}
+use mathlib.Core.Bool.{Bool, true, false, and-eq-true-iff}
+use mathlib.Core.Logic.{_↔_, Iff·rfl, Iff·symm, Iff·trans, Iff·and}
 use mathlib.Core.List.{List, [], _∷_}
 use mathlib.Core.Option.{Option, none, some}
 use Prim.Native.Nat.{ℕ, zero, suc, _≤_}
@@ -9,14 +9,12 @@ use native.Mathlib.Omega.{arith}
 use lib.Dec.{leb, eqb}
 use lib.ListN.{length}
 use borrow.Author.Tests.{leb-true, leb-false, le-leb, eqb-true, eq-eqb}
+use Rattle.laws.specs.Booleans.{some≢none, cond-none}
 use Rattle.laws.specs.Lists.{All}
 use Rattle.scope.specs.Parsed.{Answer, answered, refusal, provided}
 use Rattle.scope.specs.Cnf.{Assignment, clause, clauses}
 use Rattle.scope.specs.Score.{firstAbove, unlessFound, ofBytes}
 use Rattle.scope.specs.Operations.{lowestFalse}
-
-none≢some : (n : ℕ) → some n ≡ none → ⊥
-none≢some n e = let z : _≡_ {A = ℕ} 0 1 = cc in omega arith
 
 module _ {A : Type 0} {x : A} where
   refusal≢answered : {k v : ℕ} → refusal k v ≡ answered x → ⊥
@@ -30,29 +28,24 @@ module _ {A : Type 0} {x : A} where
   pub unlessFound-answers : (k : ℕ) (found : Option ℕ) (a : Answer A)
       → (unlessFound k found a ≡ answered x) ↔ ((found ≡ none) × (a ≡ answered x))
   unlessFound-answers k none a = (λ e. (refl, e), λ h. h .1)
-  unlessFound-answers k (some v) a = (λ e. absurd (refusal≢answered e), λ h. absurd (none≢some v (h .0)))
+  unlessFound-answers k (some v) a = (λ e. absurd (refusal≢answered e), λ h. absurd (some≢none (h .0)))
 
 -- no byte is above 1
 pub firstAbove-none : (k : ℕ) (bs : List ℕ) → (firstAbove k bs ≡ none) ↔ All (λ b. b ≤ 1) bs
 unfolding firstAbove
 firstAbove-none k [] = (λ _. tt, λ _. refl)
-firstAbove-none k (b ∷ bs) = go (leb b 1) refl (firstAbove-none (suc k) bs)
-  where
-    go : (t : Bool) → leb b 1 ≡ t → ((firstAbove (suc k) bs ≡ none) ↔ All (λ b. b ≤ 1) bs)
-        → (cond t (firstAbove (suc k) bs) (some k) ≡ none) ↔ ((b ≤ 1) × All (λ b. b ≤ 1) bs)
-    go true e ih = (λ n. (leb-true b 1 e, ih .0 n), λ h. ih .1 (h .1))
-    go false e ih = (λ n. absurd (none≢some k n), λ h. let f : ⊥ = omega (arith, leb-false b 1 e, h .0) in absurd f)
+firstAbove-none k (b ∷ bs) =
+    let c = cond-none (leb b 1) k (firstAbove (suc k) bs) in
+    let ih = firstAbove-none (suc k) bs in
+    (λ n. (leb-true b 1 (c .0 n .0), ih .0 (c .0 n .1)), λ h. c .1 (le-leb b 1 (h .0), ih .1 (h .1)))
 
 -- no clause is false
 pub lowestFalse-none : (ν : Assignment) (n : ℕ) (cs : List (List ℕ)) → (lowestFalse ν n cs ≡ none) ↔ (clauses ν cs ≡ true)
 unfolding lowestFalse clauses
 lowestFalse-none ν n [] = (λ _. refl, λ _. refl)
-lowestFalse-none ν n (c ∷ cs) = go (clause ν c) (lowestFalse-none ν (suc n) cs)
-  where
-    go : (b : Bool) → ((lowestFalse ν (suc n) cs ≡ none) ↔ (clauses ν cs ≡ true))
-        → (cond b (lowestFalse ν (suc n) cs) (some n) ≡ none) ↔ (b && clauses ν cs ≡ true)
-    go true ih = ih
-    go false ih = (λ e. absurd (none≢some n e), λ e. absurd (true≢false (sym e)))
+lowestFalse-none ν n (c ∷ cs) =
+    Iff·trans (cond-none (clause ν c) n (lowestFalse ν (suc n) cs))
+    (Iff·trans (Iff·and Iff·rfl (lowestFalse-none ν (suc n) cs)) (Iff·symm (and-eq-true-iff (clause ν c) (clauses ν cs))))
 
 -- so many bytes, each 0 or 1
 pub ofBytes-answers : {A : Type 0} {x : A} (n : ℕ) (bs : List ℕ) (a : Answer A)

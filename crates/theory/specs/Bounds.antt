@@ -20,7 +20,7 @@ use Rattle.theory.specs.Costs.{Costs, Scores-gates, Costs-none, Costs-ap
 use Rattle.theory.specs.Ranges.{from-all, count-above, count-upto, count-short}
 
 -- a deviation is the sum of a low and a high part
-deviation-parts : (lo hi c : ℕ) → lo ≤ hi → deviation lo hi c ≡ (lo - c) + (c - hi)
+pub deviation-parts : (lo hi c : ℕ) → lo ≤ hi → deviation lo hi c ≡ (lo - c) + (c - hi)
 unfolding deviation
 deviation-parts lo hi c h = go (ltb c lo) refl (ltb hi c) refl
   where

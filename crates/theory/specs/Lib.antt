@@ -12,3 +12,4 @@ pub mod Rules
 pub mod RuleOrder
 pub mod KindRules
 pub mod Answered
+pub mod Charges
