@@ -2,7 +2,7 @@
 use mathlib.Core.Path.{_≡_, refl, sym, ap, _∙_}
 use mathlib.Core.Bool.{Bool, true, false, _&&_, and-eq-true-iff}
 use mathlib.Core.Logic.{_↔_}
-use mathlib.Core.List.{List, [], _∷_, _++_, map, append-assoc}
+use mathlib.Core.List.{List, [], _∷_, _++_, map, flatMap, append-assoc}
 use Prim.Native.Nat.{ℕ, zero, suc, _+_, _<_}
 use native.Mathlib.Nat.{add-zero, zero-add, suc-add, add-suc}
 use native.Mathlib.Omega.{arith}
@@ -52,6 +52,12 @@ gates-append (soft w l ∷ is) js = gates-append is js
 pub gates-map : (gs : List Gate) → gates (map gate gs) ≡ length gs
 gates-map [] = refl
 gates-map (g ∷ gs) = ap suc (gates-map gs)
+
+-- items without gates, for each of some things
+pub gates-none : {A : Type 0} (f : A → List Item) → ((x : A) → gates (f x) ≡ 0) → (xs : List A) → gates (flatMap f xs) ≡ 0
+unfolding flatMap
+gates-none f h [] = refl
+gates-none f h (x ∷ xs) = rw (gates-append, h x, gates-none f h xs)
 
 pub hardClauses-append : (n : ℕ) (is js : List Item) → hardClauses n (is ++ js) ≡ hardClauses n is ++ hardClauses (n + gates is) js
 unfolding hardClauses

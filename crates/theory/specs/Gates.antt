@@ -1,14 +1,16 @@
 -- A gate's clauses hold exactly where its output has the gate's value. The assignment makes variable 0 false.
-use mathlib.Core.Path.{_≡_, refl, sym, ap}
+use mathlib.Core.Path.{_≡_, refl, sym, ap, ap₂}
 use mathlib.Core.Bool.{Bool, true, false, not, _&&_, _||_, cond, Bool·beq, Bool·not-not, or-true, and-true}
 use mathlib.Core.Logic.{_↔_}
-use mathlib.Core.List.{List, [], _∷_, _++_}
+use mathlib.Core.List.{List, [], _∷_, _++_, map}
 use Prim.Native.Nat.{ℕ, zero, suc, _+_, _-_, _*_, _/_, _%_}
 use native.Mathlib.Omega.{arith}
 use lib.Dec.{eqb}
 use borrow.Author.Tests.{eqb-true}
 use Rattle.laws.specs.Taut.{taut}
 use Rattle.laws.specs.Booleans.{beq-iff}
+use Rattle.laws.specs.Lists.{All}
+use Rattle.scope.specs.Score.{any}
 use Rattle.scope.specs.Cnf.{Assignment, opp, signed, lit, clause, clauses, hasTrue, withoutFalse, tidy, implied, Gate, or, cell, idling, short, gateClauses, value}
 
 module _ (ν : Assignment) where
@@ -53,6 +55,13 @@ module _ (ν : Assignment) where
   clauses-append [] d = refl
   clauses-append (l ∷ c) d =
       rw (clauses-append c d) (taut 3 (λ a b c. a && (b && c)) (λ a b c. a && b && c) tt (clause ν l) (clauses ν c) (clauses ν d))
+
+  -- an OR over literals that say what some things are
+  pub clause-any : {A : Type 0} (f : A → ℕ) (g : A → Bool) (xs : List A) → All (λ x. lit ν (f x) ≡ g x) xs
+      → clause ν (map f xs) ≡ any (map g xs)
+  unfolding clause any
+  clause-any f g [] h = refl
+  clause-any f g (x ∷ xs) h = ap₂ (λ a b. a || b) (h .0) (clause-any f g xs (h .1))
 
   implied-holds : (ls : List ℕ) (o : ℕ) → clauses ν (implied ls o) ≡ not (clause ν ls) || ν o
   unfolding clauses implied clause

@@ -13,3 +13,4 @@ pub mod RuleOrder
 pub mod KindRules
 pub mod Answered
 pub mod Charges
+pub mod Variables

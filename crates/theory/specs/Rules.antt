@@ -12,7 +12,7 @@ use Rattle.scope.specs.Kinds.{Atom, Entry, atom, anyOf, gap, Rule}
 use Rattle.scope.specs.Cnf.{Assignment, lit, clause, Gate, or, idling, value, gate, gates}
 use Rattle.scope.specs.Score.{trues, any, charged, entryTrue, count}
 use Rattle.scope.specs.Formula.{countItems, added, allAdded, entryGates, entryLiteral, listGates, listLiterals, ruleItems, rulesItems}
-use Rattle.theory.specs.Gates.{lit-pos}
+use Rattle.theory.specs.Gates.{lit-pos, clause-any}
 use Rattle.theory.specs.Circuit.{Holds, Holds-append, Holds-gates}
 use Rattle.theory.specs.Costs.{Scores, Costs, Scores-none, Scores-append, Scores-gates}
 use Rattle.theory.specs.Bounds.{count-costs}
@@ -72,21 +72,16 @@ module _ (num : Atom → ℕ) (ν : Assignment) (z : ν 0 ≡ false) (τ : Atom 
   abbrev pub Agrees : Atom → Type 0
   Agrees a = lit ν (num a) ≡ τ a
 
-  any-agrees : (xs : List Atom) → All Agrees xs → clause ν (map num xs) ≡ any (map τ xs)
-  unfolding clause any
-  any-agrees [] h = refl
-  any-agrees (x ∷ xs) h = ap₂ (λ a b. a || b) (h .0) (any-agrees xs (h .1))
-
   entry-agrees : (x : Entry) (v : ℕ) → Atoms Agrees x → Holds ν v (map gate (entryGates num x v))
       → lit ν (entryLiteral num x v) ≡ entryTrue τ x
   unfolding entryTrue value
   entry-agrees (atom a) v g h = g
-  entry-agrees (anyOf xs) v g h = lit-pos ν v ∙ h .0 ∙ any-agrees xs g
+  entry-agrees (anyOf xs) v g h = lit-pos ν v ∙ h .0 ∙ clause-any ν num τ xs g
   entry-agrees (gap earlier here later) v g h =
       let one : v + 1 ≡ suc v = omega arith in
       let two : v + 2 ≡ suc (suc v) = omega arith in
-      let e = lit-pos ν v ∙ h .0 ∙ any-agrees earlier (g .0) in
-      let l = lit-pos ν (v + 1) ∙ ap ν one ∙ h .1 .0 ∙ any-agrees later (g .2) in
+      let e = lit-pos ν v ∙ h .0 ∙ clause-any ν num τ earlier (g .0) in
+      let l = lit-pos ν (v + 1) ∙ ap ν one ∙ h .1 .0 ∙ clause-any ν num τ later (g .2) in
       lit-pos ν (v + 2) ∙ ap ν two ∙ h .1 .1 .0 ∙ rw (e, l, g .1)
 
   list-agrees : (xs : List Entry) (v : ℕ) → All (Atoms Agrees) xs → Holds ν v (map gate (listGates num xs v))
