@@ -14,3 +14,4 @@ pub mod KindRules
 pub mod Answered
 pub mod Charges
 pub mod Variables
+pub mod FormulaOrder

@@ -1,0 +1,88 @@
+-- The formula of an accepted instance reads earlier variables only.
+use mathlib.Core.Path.{_≡_, refl, sym, ap, _∙_}
+use mathlib.Core.List.{List, [], _∷_, _++_, map, flatMap, append-assoc}
+use Prim.Native.Nat.{ℕ, zero, suc, _+_, _-_, _*_, _≤_, _<_}
+use native.Mathlib.Nat.{add-zero, le-refl}
+use native.Mathlib.Omega.{arith}
+use lib.ListN.{length}
+use Rattle.laws.specs.Lists.{All, All-append, All-weaken, All-map, All-flatMap}
+use Rattle.scope.specs.Kinds.{Atom, Y, S, X, upTo, users}
+use Rattle.scope.specs.Instance.{Instance}
+use Rattle.scope.specs.Cnf.{neg, Item, gate, gates}
+use Rattle.scope.specs.Score.{var, eventCount}
+use Rattle.scope.specs.Formula.{num, yBefore, startItems, starts, uses, rulesItems, allRules, primary, formula}
+use Rattle.theory.specs.Accepted.{Within, ValidInstance}
+use Rattle.theory.specs.Circuit.{gates-none}
+use Rattle.theory.specs.Order.{Proper, ItemReads, Ordered, Ordered-append, Ordered-gates, Ordered-all}
+use Rattle.theory.specs.KindRules.{InRange, users-within, times-within, allRules-valid}
+use Rattle.theory.specs.Ranges.{from-all}
+use Rattle.theory.specs.RuleOrder.{Below, rules-order}
+use Rattle.theory.specs.Rules.{ValidRule, ValidRule-weaken}
+use Rattle.theory.specs.Variables.{place-within, useGate, length-uses}
+
+pub gates-starts : (i : Instance) → gates (starts i) ≡ 0
+unfolding starts
+gates-starts i = gates-none _ (λ e. gates-none (startItems i e) (λ t. refl) (upTo (i .times))) (upTo (eventCount i))
+
+module _ (i : Instance) (v : ValidInstance i) where
+  pub events-within : All (Within 1 (length (i .events))) (upTo (eventCount i))
+  events-within = from-all _ 1 (eventCount i) (λ e a b. record { low = a; high = omega arith })
+
+  -- the variables of Y and S, and with X those of all atoms
+  abbrev pub atomsEnd : ℕ
+  atomsEnd = primary i + i .resources * i .times + 1
+
+  atom-below : (a : Atom) → InRange i a → Proper atomsEnd (num i a)
+  atom-below (Y e t) h = let w = place-within e t (eventCount i) (i .times) (h .0) (h .1) in omega (arith, w .low, w .high)
+  atom-below (S e t) h = let w = place-within e t (eventCount i) (i .times) (h .0) (h .1) in omega (arith, w .low, w .high)
+  atom-below (X r t) h = let w = place-within r t (i .resources) (i .times) (h .0) (h .1) in omega (arith, w .low, w .high)
+
+  taken-below : (e t : ℕ) → Within 1 (length (i .events)) e → Within 1 (i .times) t → Proper (primary i + 1) (num i (Y e t))
+  taken-below e t a b = let w = place-within e t (eventCount i) (i .times) a b in omega (arith, w .low, w .high)
+
+  before-below : (e t : ℕ) → Within 1 (length (i .events)) e → Within 1 (i .times) t → All (Proper (primary i + 1)) (yBefore i e t)
+  before-below e zero a b = tt
+  before-below e (suc zero) a b = tt
+  before-below e (suc (suc t)) a b = (taken-below e (suc t) a (record { low = omega arith; high = omega (arith, b .high) }), tt)
+
+  start-reads : (e t : ℕ) → Within 1 (length (i .events)) e → Within 1 (i .times) t → All (ItemReads (primary i + 1)) (startItems i e t)
+  start-reads e t a b =
+      let w = place-within e t (eventCount i) (i .times) a b in
+      let y = taken-below e t a b in (
+        (y, (omega (arith, w .low, w .high), tt)),
+        (All-append _ (yBefore i e t) _ (before-below e t a b) (omega (arith, w .low, w .high), (omega (arith, w .low, w .high), tt)), tt),
+      )
+
+  starts-reads : All (ItemReads (primary i + 1)) (starts i)
+  unfolding starts
+  starts-reads =
+      All-flatMap _ (λ e. flatMap (startItems i e) (upTo (i .times))) (upTo (eventCount i))
+      (All-weaken _ _
+      (λ e a. All-flatMap _ (startItems i e) (upTo (i .times)) (All-weaken _ _ (λ t b. start-reads e t a b) (upTo (i .times)) (times-within i v)))
+      (upTo (eventCount i)) events-within)
+
+  use-reads : (r t : ℕ) → Within 1 (i .times) t → ItemReads (primary i + 1) (gate (useGate i r t))
+  use-reads r t b =
+      All-map (Proper (primary i + 1)) (λ e. num i (Y e t)) (users r (i .events))
+      (All-weaken _ _ (λ e a. taken-below e t a b) (users r (i .events)) (users-within i r))
+
+  uses-read : All (ItemReads (primary i + 1)) (map gate (uses i))
+  unfolding uses
+  uses-read =
+      All-map (ItemReads (primary i + 1)) gate (uses i)
+      (All-flatMap _ (λ r. map (useGate i r) (upTo (i .times))) (upTo (i .resources))
+      (from-all _ 1 (i .resources)
+      (λ r _ _. All-map _ (useGate i r) (upTo (i .times)) (All-weaken _ _ (λ t b. use-reads r t b) (upTo (i .times)) (times-within i v)))))
+
+  pub formula-order : Ordered (primary i + 1) (formula i)
+  unfolding formula
+  formula-order =
+      let n = primary i + 1 in
+      let rs = rulesItems (num i) (allRules i) atomsEnd in
+      let e : n + length (uses i) ≡ atomsEnd = omega (arith, length-uses i) in
+      let valid = All-weaken _ _ (λ r. ValidRule-weaken (InRange i) (Below (num i) atomsEnd) atom-below (r .1)) (allRules i) (allRules-valid i v) in
+      rw append-assoc
+      (Ordered-append n (starts i) (map gate (uses i) ++ rs) (Ordered-all n n (starts i) (le-refl n) starts-reads)
+      (rw (gates-starts, add-zero)
+      (Ordered-gates n (uses i) rs (Ordered-all n n (map gate (uses i)) (le-refl n) uses-read)
+      (rw e (rules-order (num i) atomsEnd (allRules i) atomsEnd (omega arith) (le-refl atomsEnd) valid)))))
