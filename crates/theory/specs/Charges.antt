@@ -15,8 +15,8 @@ use Rattle.laws.specs.Booleans.{cond-none}
 use Rattle.laws.specs.Lists.{All, All-append, All-split}
 use Rattle.scope.specs.Kinds.{Event, Constraint, Atom, Y, S, atom, Rule, between, from, upTo, takesAt}
 use Rattle.scope.specs.Instance.{Instance}
-use Rattle.scope.specs.Score.{trues, all, deviation, charged, entryTrue, count, deviations, rules, startRight, eventRight, firstWrong, infeasibilityOf, objectiveOf}
-use Rattle.scope.specs.Formula.{durationRules, constraintRules}
+use Rattle.scope.specs.Score.{trues, all, deviation, charged, entryTrue, count, deviations, eventCount, rules, startRight, eventRight, firstWrong, infeasibilityOf, objectiveOf}
+use Rattle.scope.specs.Formula.{durationRules, constraintRules, allRules}
 use Rattle.theory.specs.Accepted.{Within, ValidEvent}
 use Rattle.theory.specs.Bounds.{deviation-parts}
 use Rattle.theory.specs.Ranges.{length-from}
@@ -31,7 +31,7 @@ all-true f (x ∷ xs) =
     (λ e. (b .0 e .0, ih .0 (b .0 e .1)), λ h. b .1 (h .0, ih .1 (h .1)))
 
 module _ (i : Instance) (τ : Atom → Bool) where
-  pub weighed-append : (rs qs : List (ℕ × Rule)) → weighed τ (rs ++ qs) ≡ weighed τ rs + weighed τ qs
+  weighed-append : (rs qs : List (ℕ × Rule)) → weighed τ (rs ++ qs) ≡ weighed τ rs + weighed τ qs
   unfolding weighed
   weighed-append [] qs = sym (zero-add (weighed τ qs))
   weighed-append (r ∷ rs) qs = rw (weighed-append rs qs, add-assoc)
@@ -58,7 +58,7 @@ module _ (i : Instance) (τ : Atom → Bool) where
   weight-weighed w (r ∷ rs) = rw (weight-weighed w rs, mul-add)
 
   -- the constraints
-  pub constraints-kept : (cs : List Constraint) → All (Kept τ) (constraintRules i cs) ↔ (infeasibilityOf i τ cs ≡ 0)
+  constraints-kept : (cs : List Constraint) → All (Kept τ) (constraintRules i cs) ↔ (infeasibilityOf i τ cs ≡ 0)
   unfolding constraintRules infeasibilityOf flatMap
   constraints-kept [] = (λ _. refl, λ _. tt)
   constraints-kept (c ∷ cs) =
@@ -69,7 +69,7 @@ module _ (i : Instance) (τ : Atom → Bool) where
         λ e. All-append (Kept τ) rs (constraintRules i cs) (w .1 (omega arith)) (ih .1 (omega arith)),
       )
 
-  pub constraints-weighed : (cs : List Constraint) → weighed τ (constraintRules i cs) ≡ objectiveOf i τ cs
+  constraints-weighed : (cs : List Constraint) → weighed τ (constraintRules i cs) ≡ objectiveOf i τ cs
   unfolding constraintRules objectiveOf flatMap weighed
   constraints-weighed [] = refl
   constraints-weighed (c ∷ cs) =
@@ -77,7 +77,7 @@ module _ (i : Instance) (τ : Atom → Bool) where
       ∙ ap₂ (λ a b. a + b) (weight-weighed (c .weight) (rules i c)) (constraints-weighed cs)
 
   -- the durations
-  pub durations-weighed : (e : ℕ) (vs : List Event) → weighed τ (durationRules i e vs) ≡ 0
+  durations-weighed : (e : ℕ) (vs : List Event) → weighed τ (durationRules i e vs) ≡ 0
   unfolding durationRules weighed
   durations-weighed e [] = refl
   durations-weighed e (v ∷ vs) = rw (durations-weighed (suc e) vs, zero-mul)
@@ -115,7 +115,7 @@ module _ (i : Instance) (τ : Atom → Bool) where
       (λ x. (s .0 (b .0 x .1), k .1 (eqb-true c d (b .0 x .0))), λ p. b .1 (eq-eqb c d (k .0 (p .1)), s .1 (p .0)))
 
   -- each event is right exactly where its starts are and its rule charges nothing
-  pub events-right : (e : ℕ) (vs : List Event) → All (ValidEvent (i .times) (i .resources)) vs
+  events-right : (e : ℕ) (vs : List Event) → All (ValidEvent (i .times) (i .resources)) vs
       → (All StartsRight (from e (length vs)) × All (Kept τ) (durationRules i e vs)) ↔ (firstWrong i τ e vs ≡ none)
   unfolding durationRules firstWrong from
   events-right e [] a = (λ _. refl, λ _. (tt, tt))
@@ -126,3 +126,21 @@ module _ (i : Instance) (τ : Atom → Bool) where
         λ p. c .1 (r .1 (p .0 .0, p .1 .0 refl), ih .0 (p .0 .1, p .1 .1)),
         λ n. let s = r .0 (c .0 n .0) in let t = ih .1 (c .0 n .1) in ((s .0, t .0), (λ _. s .1, t .1)),
       )
+
+  -- all of it: the hard part and the cost
+  pub score-hard : All (ValidEvent (i .times) (i .resources)) (i .events)
+      → (All StartsRight (upTo (eventCount i)) × All (Kept τ) (allRules i))
+      ↔ ((firstWrong i τ 1 (i .events) ≡ none) × (infeasibilityOf i τ (i .constraints) ≡ 0))
+  score-hard a =
+      let ds = durationRules i 1 (i .events) in
+      let cs = constraintRules i (i .constraints) in
+      let e = events-right 1 (i .events) a in
+      let c = constraints-kept (i .constraints) in (
+        λ h. let p = All-split (Kept τ) ds cs (h .1) in (e .0 (h .0, p .0), c .0 (p .1)),
+        λ h. let p = e .1 (h .0) in (p .0, All-append (Kept τ) ds cs (p .1) (c .1 (h .1))),
+      )
+
+  pub score-cost : weighed τ (allRules i) ≡ objectiveOf i τ (i .constraints)
+  score-cost =
+      weighed-append (durationRules i 1 (i .events)) (constraintRules i (i .constraints))
+      ∙ rw (durations-weighed 1 (i .events), constraints-weighed (i .constraints), zero-add)

@@ -1,6 +1,6 @@
 -- The formula of an accepted instance reads earlier variables only.
 use mathlib.Core.Path.{_≡_, refl, sym, ap, _∙_}
-use mathlib.Core.List.{List, [], _∷_, _++_, map, flatMap, append-assoc}
+use mathlib.Core.List.{List, [], _∷_, _++_, map, flatMap}
 use Prim.Native.Nat.{ℕ, zero, suc, _+_, _-_, _*_, _≤_, _<_}
 use native.Mathlib.Nat.{add-zero, le-refl}
 use native.Mathlib.Omega.{arith}
@@ -12,27 +12,19 @@ use Rattle.scope.specs.Cnf.{neg, Item, gate, gates}
 use Rattle.scope.specs.Score.{var, eventCount}
 use Rattle.scope.specs.Formula.{num, yBefore, startItems, starts, uses, rulesItems, allRules, primary, formula}
 use Rattle.theory.specs.Accepted.{Within, ValidInstance}
-use Rattle.theory.specs.Circuit.{gates-none}
 use Rattle.theory.specs.Order.{Proper, ItemReads, Ordered, Ordered-append, Ordered-gates, Ordered-all}
 use Rattle.theory.specs.KindRules.{InRange, users-within, times-within, allRules-valid}
 use Rattle.theory.specs.Ranges.{from-all}
 use Rattle.theory.specs.RuleOrder.{Below, rules-order}
 use Rattle.theory.specs.Rules.{ValidRule, ValidRule-weaken}
-use Rattle.theory.specs.Variables.{place-within, useGate, length-uses}
-
-pub gates-starts : (i : Instance) → gates (starts i) ≡ 0
-unfolding starts
-gates-starts i = gates-none _ (λ e. gates-none (startItems i e) (λ t. refl) (upTo (i .times))) (upTo (eventCount i))
+use Rattle.theory.specs.Variables.{place-within, useGate, atomsEnd, uses-end, gates-starts, formula-parts}
 
 module _ (i : Instance) (v : ValidInstance i) where
   pub events-within : All (Within 1 (length (i .events))) (upTo (eventCount i))
   events-within = from-all _ 1 (eventCount i) (λ e a b. record { low = a; high = omega arith })
 
-  -- the variables of Y and S, and with X those of all atoms
-  abbrev pub atomsEnd : ℕ
-  atomsEnd = primary i + i .resources * i .times + 1
-
-  atom-below : (a : Atom) → InRange i a → Proper atomsEnd (num i a)
+  -- the literals of atoms
+  atom-below : (a : Atom) → InRange i a → Proper (atomsEnd i) (num i a)
   atom-below (Y e t) h = let w = place-within e t (eventCount i) (i .times) (h .0) (h .1) in omega (arith, w .low, w .high)
   atom-below (S e t) h = let w = place-within e t (eventCount i) (i .times) (h .0) (h .1) in omega (arith, w .low, w .high)
   atom-below (X r t) h = let w = place-within r t (i .resources) (i .times) (h .0) (h .1) in omega (arith, w .low, w .high)
@@ -75,14 +67,13 @@ module _ (i : Instance) (v : ValidInstance i) where
       (λ r _ _. All-map _ (useGate i r) (upTo (i .times)) (All-weaken _ _ (λ t b. use-reads r t b) (upTo (i .times)) (times-within i v)))))
 
   pub formula-order : Ordered (primary i + 1) (formula i)
-  unfolding formula
   formula-order =
       let n = primary i + 1 in
-      let rs = rulesItems (num i) (allRules i) atomsEnd in
-      let e : n + length (uses i) ≡ atomsEnd = omega (arith, length-uses i) in
-      let valid = All-weaken _ _ (λ r. ValidRule-weaken (InRange i) (Below (num i) atomsEnd) atom-below (r .1)) (allRules i) (allRules-valid i v) in
-      rw append-assoc
+      let end = atomsEnd i in
+      let rs = rulesItems (num i) (allRules i) end in
+      let valid = All-weaken _ _ (λ r. ValidRule-weaken (InRange i) (Below (num i) end) atom-below (r .1)) (allRules i) (allRules-valid i v) in
+      rw formula-parts
       (Ordered-append n (starts i) (map gate (uses i) ++ rs) (Ordered-all n n (starts i) (le-refl n) starts-reads)
       (rw (gates-starts, add-zero)
       (Ordered-gates n (uses i) rs (Ordered-all n n (map gate (uses i)) (le-refl n) uses-read)
-      (rw e (rules-order (num i) atomsEnd (allRules i) atomsEnd (omega arith) (le-refl atomsEnd) valid)))))
+      (rw uses-end (rules-order (num i) end (allRules i) end (omega arith) (le-refl end) valid)))))

@@ -15,3 +15,4 @@ pub mod Answered
 pub mod Charges
 pub mod Variables
 pub mod FormulaOrder
+pub mod FormulaScore

@@ -1,18 +1,18 @@
--- The variables of atoms: where they stand, and that X is the OR of its events' Y.
+-- The variables of atoms: where they stand, and that X is the OR of its events' Y. The parts of the formula.
 use mathlib.Core.Path.{_≡_, refl, sym, ap, _∙_}
-use mathlib.Core.List.{List, [], _∷_, _++_, map, flatMap}
+use mathlib.Core.List.{List, [], _∷_, _++_, map, append-assoc}
 use Prim.Native.Nat.{ℕ, zero, suc, _+_, _-_, _*_, _≤_, _<_}
-use native.Mathlib.Nat.{mul-le-mul-right}
+use native.Mathlib.Nat.{add-zero, mul-le-mul-right}
 use native.Mathlib.Omega.{arith}
 use lib.ListN.{length, getD, length-map, List·getD-map}
 use Rattle.laws.specs.Lists.{length-rows, getD-rows}
 use Rattle.scope.specs.Kinds.{Atom, Y, S, X, upTo, from, users}
 use Rattle.scope.specs.Instance.{Instance}
-use Rattle.scope.specs.Cnf.{Assignment, clause, Gate, or, value, gate}
-use Rattle.scope.specs.Score.{var}
-use Rattle.scope.specs.Formula.{num, uses, primary}
+use Rattle.scope.specs.Cnf.{Assignment, clause, Gate, or, value, gate, gates}
+use Rattle.scope.specs.Score.{var, eventCount}
+use Rattle.scope.specs.Formula.{num, startItems, starts, uses, rulesItems, allRules, primary, formula}
 use Rattle.theory.specs.Accepted.{Within}
-use Rattle.theory.specs.Circuit.{Holds, Holds-at}
+use Rattle.theory.specs.Circuit.{Holds, Holds-append, Holds-gates, Holds-at, gates-none}
 use Rattle.theory.specs.Ranges.{length-from, getD-from}
 
 -- (e − 1)×T + t is one of 1 .. n×T
@@ -59,3 +59,27 @@ module _ (i : Instance) where
       let e : primary i + 1 + k ≡ var i (X r t) = omega (arith, b .low) in
       let v = Holds-at ν (useGate r 0) (primary i + 1) (uses i) h k (omega (arith, w .high, b .low, length-uses)) in
       ap ν (sym e) ∙ v ∙ ap (value ν) (use-at r t a b)
+
+  -- the variables after those of Y, S and X
+  abbrev pub atomsEnd : ℕ
+  atomsEnd = primary i + i .resources * i .times + 1
+
+  pub uses-end : primary i + 1 + length (uses i) ≡ atomsEnd
+  uses-end = omega (arith, length-uses)
+
+  pub gates-starts : gates (starts i) ≡ 0
+  unfolding starts
+  gates-starts = gates-none _ (λ e. gates-none (startItems i e) (λ t. refl) (upTo (i .times))) (upTo (eventCount i))
+
+  -- the parts of the formula
+  pub formula-parts : formula i ≡ starts i ++ (map gate (uses i) ++ rulesItems (num i) (allRules i) atomsEnd)
+  unfolding formula
+  formula-parts = append-assoc (starts i) (map gate (uses i)) (rulesItems (num i) (allRules i) atomsEnd)
+
+  pub formula-holds : (ν : Assignment) → Holds ν (primary i + 1) (formula i)
+      → Holds ν (primary i + 1) (map gate (uses i)) × Holds ν atomsEnd (rulesItems (num i) (allRules i) atomsEnd)
+  formula-holds ν h =
+      let n = primary i + 1 in
+      let rs = rulesItems (num i) (allRules i) atomsEnd in
+      let p = Holds-append ν n (starts i) (map gate (uses i) ++ rs) (rw formula-parts at h) .1 in
+      rw uses-end at (Holds-gates ν n (uses i) rs (rw (gates-starts, add-zero) at p))
