@@ -37,6 +37,11 @@ module _ {A : Type 0} (P : A → Type 0) where
   All-at d (x ∷ xs) zero l h = h .0
   All-at d (x ∷ xs) (suc k) l h = All-at d xs k (omega arith) (h .1)
 
+  pub All-everywhere : (d : A) → P d → (xs : List A) → All P xs → (k : ℕ) → P (getD xs k d)
+  All-everywhere d p [] h k = p
+  All-everywhere d p (x ∷ xs) h zero = h .0
+  All-everywhere d p (x ∷ xs) h (suc k) = All-everywhere d p xs (h .1) k
+
   pub All-places : (d : A) (xs : List A) → ((k : ℕ) → k < length xs → P (getD xs k d)) → All P xs
   All-places d [] h = tt
   All-places d (x ∷ xs) h = (h 0 (omega arith), All-places d xs (λ k l. h (suc k) (omega arith)))

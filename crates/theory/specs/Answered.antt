@@ -16,6 +16,9 @@ use Rattle.scope.specs.Cnf.{Assignment, clause, clauses}
 use Rattle.scope.specs.Score.{firstAbove, unlessFound, ofBytes}
 use Rattle.scope.specs.Operations.{lowestFalse}
 
+pub answered-value : {A : Type 0} {x y : A} → answered x ≡ answered y → x ≡ y
+answered-value e = cc
+
 module _ {A : Type 0} {x : A} where
   refusal≢answered : {k v : ℕ} → refusal k v ≡ answered x → ⊥
   refusal≢answered e = let z : _≡_ {A = ℕ} 0 1 = cc in omega arith

@@ -16,3 +16,4 @@ pub mod Charges
 pub mod Variables
 pub mod FormulaOrder
 pub mod FormulaScore
+pub mod Feasible
