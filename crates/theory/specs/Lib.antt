@@ -17,3 +17,4 @@ pub mod Variables
 pub mod FormulaOrder
 pub mod FormulaScore
 pub mod Feasible
+pub mod Match
