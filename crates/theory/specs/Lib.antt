@@ -18,3 +18,5 @@ pub mod FormulaOrder
 pub mod FormulaScore
 pub mod Feasible
 pub mod Match
+pub mod Tail
+pub mod Bounded
