@@ -54,8 +54,8 @@ Holds-unit ν n zero l is h = h
 Holds-unit ν n (suc w) l is h = h
 
 -- on a row q that counts c
-module _ (ν : Assignment) (z : ν 0 ≡ false) (q : ℕ → ℕ) (c : ℕ) where
-  low-costs : (w lo J : ℕ) → lo ≤ J → Counts ν z J q c → Costs ν w (lowUnits w q lo) (lo - c)
+module _ (ν : Assignment) (q : ℕ → ℕ) (c : ℕ) where
+  low-costs : (w lo J : ℕ) → lo ≤ J → Counts ν J q c → Costs ν w (lowUnits w q lo) (lo - c)
   unfolding lowUnits
   low-costs zero lo J l m = go (leb 1 lo) refl
     where
@@ -70,7 +70,7 @@ module _ (ν : Assignment) (z : ν 0 ≡ false) (q : ℕ → ℕ) (c : ℕ) wher
       (Costs-units ν (suc w) q (λ j. not (leb j c)) (from 1 lo)
       (from-all _ 1 lo (λ j a b. m j (omega arith) ∙ sym (Bool·not-not (leb j c)))))
 
-  high-costs : (w hi n : ℕ) → hi ≤ n → c ≤ n → Counts ν z (columns w hi n) q c → Costs ν w (highUnits w q hi n) (c - hi)
+  high-costs : (w hi n : ℕ) → hi ≤ n → c ≤ n → Counts ν (columns w hi n) q c → Costs ν w (highUnits w q hi n) (c - hi)
   unfolding highUnits
   high-costs zero hi n a b m = go (ltb hi n) refl
     where
@@ -86,7 +86,7 @@ module _ (ν : Assignment) (z : ν 0 ≡ false) (q : ℕ → ℕ) (c : ℕ) wher
       (Costs-units ν (suc w) (λ j. opp (q j)) (λ j. leb j c) (from (hi + 1) (n - hi))
       (from-all _ (hi + 1) (n - hi) (λ j l h. lit-opp ν (q j) ∙ ap not (m j (omega arith)))))
 
-  short-costs : (w j k v : ℕ) → 1 ≤ j → (0 < k → Counts ν z (j + k - 1) q c) → Holds ν v (shortUnits w q j k v)
+  short-costs : (w j k v : ℕ) → 1 ≤ j → (0 < k → Counts ν (j + k - 1) q c) → Holds ν v (shortUnits w q j k v)
       → Costs ν w (shortUnits w q j k v) (trues (map (λ i. leb 1 c && not (leb i c)) (from j k)))
   unfolding shortUnits value from trues
   short-costs w j zero v p m h = Costs-none ν w
@@ -100,7 +100,7 @@ module _ (ν : Assignment) (z : ν 0 ≡ false) (q : ℕ → ℕ) (c : ℕ) wher
       (short-costs w (suc j) k (suc v) (omega arith) (λ _ i l. m (omega arith) i (omega arith)) (Holds-unit ν (suc v) w (neg v) is (h .1))))
 
   -- the bounds of a rule over n literals
-  bounds-cost : (w : ℕ) (r : Rule) (n v : ℕ) → r .lo ≤ r .hi → r .hi ≤ n → c ≤ n → Counts ν z (columns w (r .hi) n) q c
+  bounds-cost : (w : ℕ) (r : Rule) (n v : ℕ) → r .lo ≤ r .hi → r .hi ≤ n → c ≤ n → Counts ν (columns w (r .hi) n) q c
       → Holds ν v (boundItems w r q n v) → Costs ν w (boundItems w r q n v) (charged r c)
   unfolding boundItems charged shortfall
   bounds-cost w r n v a b d m = go (r .zeroFree)
@@ -147,4 +147,4 @@ count-costs ν z w r xs v a b h =
     let m = rw total-ones at (counter-counts ν z (ones xs) J v (p .0)) in
     let l = rw length-map at (trues-length (map (lit ν) xs)) in
     let e = rw (length-counter, length-map) at (p .1) in
-    Scores-gates ν k _ (bounds-cost ν z (lastRow noRow (ones xs) J v) (trues (map (lit ν) xs)) w r n (v + n * J) a b l m e)
+    Scores-gates ν k _ (bounds-cost ν (lastRow noRow (ones xs) J v) (trues (map (lit ν) xs)) w r n (v + n * J) a b l m e)

@@ -57,12 +57,12 @@ cell-step j s w true = go (leb j s) refl
     go true e = sym (le-leb j (s + w) (omega (arith, leb-true j s e)))
     go false e = leb-same (j - w) s j (s + w) (omega (arith, leb-false j s e))
 
-module _ (ν : Assignment) (z : ν 0 ≡ false) where
-  -- the row p counts the sum s: its column j is true exactly where j ≤ s
-  abbrev pub Counts : ℕ → (ℕ → ℕ) → ℕ → Type 0
-  Counts J p s = (j : ℕ) → j ≤ J → lit ν (p j) ≡ leb j s
+-- the row p counts the sum s: its column j, up to J, is true exactly where j ≤ s
+abbrev pub Counts : Assignment → ℕ → (ℕ → ℕ) → ℕ → Type 0
+Counts ν J p s = (j : ℕ) → j ≤ J → lit ν (p j) ≡ leb j s
 
-  noRow-counts : (J : ℕ) → Counts J noRow 0
+module _ (ν : Assignment) (z : ν 0 ≡ false) where
+  noRow-counts : (J : ℕ) → Counts ν J noRow 0
   unfolding lit
   noRow-counts J zero h = rw z
   noRow-counts J (suc j) h = rw (z, leb·suc-zero)
@@ -77,8 +77,8 @@ module _ (ν : Assignment) (z : ν 0 ≡ false) where
       let f : j + suc i ≡ suc j + i = omega arith in
       rw (e, f) (row-at p w x (suc j) k (suc v) (h .1) i (omega arith))
 
-  row-counts : (p : ℕ → ℕ) (w x J v s : ℕ) → Counts J p s → Holds ν v (map gate (row p w x 1 J))
-      → Counts J (rowAt v) (s + cond (lit ν x) w 0)
+  row-counts : (p : ℕ → ℕ) (w x J v s : ℕ) → Counts ν J p s → Holds ν v (map gate (row p w x 1 J))
+      → Counts ν J (rowAt v) (s + cond (lit ν x) w 0)
   unfolding lit value
   row-counts p w x J v s m h zero l = rw (z, leb·zero)
   row-counts p w x J v s m h (suc i) l =
@@ -94,8 +94,8 @@ module _ (ν : Assignment) (z : ν 0 ≡ false) where
       rw length-row at (Holds-gates ν v (row p (x .0) (x .1) 1 J) _ (rw map-append at h))
 
   -- row i counts the first i
-  counter-rows : (i : ℕ) (xs : List (ℕ × ℕ)) (p : ℕ → ℕ) (J v s : ℕ) → i ≤ length xs → Counts J p s
-      → Holds ν v (map gate (counter p xs J v)) → Counts J (rowOf p J v i) (s + total ν (take i xs))
+  counter-rows : (i : ℕ) (xs : List (ℕ × ℕ)) (p : ℕ → ℕ) (J v s : ℕ) → i ≤ length xs → Counts ν J p s
+      → Holds ν v (map gate (counter p xs J v)) → Counts ν J (rowOf p J v i) (s + total ν (take i xs))
   unfolding total
   counter-rows zero xs p J v s l m h = rw add-zero m
   counter-rows (suc i) [] p J v s l m h = let f : ⊥ = omega arith in absurd f
@@ -106,7 +106,7 @@ module _ (ν : Assignment) (z : ν 0 ≡ false) where
 
   -- the last row counts the whole sum
   pub counter-counts : (xs : List (ℕ × ℕ)) (J v : ℕ) → Holds ν v (map gate (counter noRow xs J v))
-      → Counts J (lastRow noRow xs J v) (total ν xs)
+      → Counts ν J (lastRow noRow xs J v) (total ν xs)
   counter-counts xs J v h =
       rw (lastRow-row noRow xs J v)
       (rw (take-length, zero-add) at (counter-rows (length xs) xs noRow J v 0 (le-refl (length xs)) (noRow-counts J) h))

@@ -13,16 +13,13 @@ use Rattle.scope.specs.Score.{var, eventCount}
 use Rattle.scope.specs.Formula.{num, yBefore, startItems, starts, uses, rulesItems, allRules, primary, formula}
 use Rattle.theory.specs.Accepted.{Within, ValidInstance}
 use Rattle.theory.specs.Order.{Proper, ItemReads, Ordered, Ordered-append, Ordered-gates, Ordered-all}
-use Rattle.theory.specs.KindRules.{InRange, users-within, times-within, allRules-valid}
+use Rattle.theory.specs.KindRules.{InRange, users-within, times-within, events-within, allRules-valid}
 use Rattle.theory.specs.Ranges.{from-all}
 use Rattle.theory.specs.RuleOrder.{Below, rules-order}
 use Rattle.theory.specs.Rules.{ValidRule, ValidRule-weaken}
 use Rattle.theory.specs.Variables.{place-within, useGate, atomsEnd, uses-end, gates-starts, formula-parts}
 
-module _ (i : Instance) (v : ValidInstance i) where
-  pub events-within : All (Within 1 (length (i .events))) (upTo (eventCount i))
-  events-within = from-all _ 1 (eventCount i) (λ e a b. record { low = a; high = omega arith })
-
+module _ (i : Instance) where
   -- the literals of atoms
   atom-below : (a : Atom) → InRange i a → Proper (atomsEnd i) (num i a)
   atom-below (Y e t) h = let w = place-within e t (eventCount i) (i .times) (h .0) (h .1) in omega (arith, w .low, w .high)
@@ -50,8 +47,8 @@ module _ (i : Instance) (v : ValidInstance i) where
   starts-reads =
       All-flatMap _ (λ e. flatMap (startItems i e) (upTo (i .times))) (upTo (eventCount i))
       (All-weaken _ _
-      (λ e a. All-flatMap _ (startItems i e) (upTo (i .times)) (All-weaken _ _ (λ t b. start-reads e t a b) (upTo (i .times)) (times-within i v)))
-      (upTo (eventCount i)) events-within)
+      (λ e a. All-flatMap _ (startItems i e) (upTo (i .times)) (All-weaken _ _ (λ t b. start-reads e t a b) (upTo (i .times)) (times-within i)))
+      (upTo (eventCount i)) (events-within i))
 
   use-reads : (r t : ℕ) → Within 1 (i .times) t → ItemReads (primary i + 1) (gate (useGate i r t))
   use-reads r t b =
@@ -64,10 +61,10 @@ module _ (i : Instance) (v : ValidInstance i) where
       All-map (ItemReads (primary i + 1)) gate (uses i)
       (All-flatMap _ (λ r. map (useGate i r) (upTo (i .times))) (upTo (i .resources))
       (from-all _ 1 (i .resources)
-      (λ r _ _. All-map _ (useGate i r) (upTo (i .times)) (All-weaken _ _ (λ t b. use-reads r t b) (upTo (i .times)) (times-within i v)))))
+      (λ r _ _. All-map _ (useGate i r) (upTo (i .times)) (All-weaken _ _ (λ t b. use-reads r t b) (upTo (i .times)) (times-within i)))))
 
-  pub formula-order : Ordered (primary i + 1) (formula i)
-  formula-order =
+  pub formula-order : ValidInstance i → Ordered (primary i + 1) (formula i)
+  formula-order v =
       let n = primary i + 1 in
       let end = atomsEnd i in
       let rs = rulesItems (num i) (allRules i) end in

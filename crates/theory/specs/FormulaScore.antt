@@ -21,14 +21,13 @@ use Rattle.theory.specs.Circuit.{Holds}
 use Rattle.theory.specs.Extension.{bit-append}
 use Rattle.theory.specs.Costs.{Scores, Scores-same, Scores-append, Scores-gates, Scores-flatMap}
 use Rattle.theory.specs.Rules.{Kept, weighed, Agrees, ValidRule, ValidRule-weaken, rules-score}
-use Rattle.theory.specs.KindRules.{InRange, users-within, times-within, allRules-valid}
+use Rattle.theory.specs.KindRules.{InRange, users-within, times-within, events-within, allRules-valid}
 use Rattle.theory.specs.Charges.{StartsRight, score-hard, score-cost}
 use Rattle.theory.specs.Variables.{place-within, use-holds, atomsEnd, formula-parts, formula-holds}
-use Rattle.theory.specs.FormulaOrder.{events-within}
 
 -- the items of starts, where the variables of Y and S say whether they are true
-module _ (i : Instance) (v : ValidInstance i) (ν : Assignment) (τ : Atom → Bool)
-    (agrees : (a : Atom) → InRange i a → lit ν (num i a) ≡ τ a) where
+module _ (i : Instance) (ν : Assignment) (τ : Atom → Bool)
+    (agrees : (a : Atom) → InRange i a → Agrees (num i) ν τ a) where
   pair-clause : (a b : ℕ) → clause ν (a ∷ b ∷ []) ≡ lit ν a || lit ν b
   unfolding clause
   pair-clause a b = taut 2 (λ a b. a || (b || false)) (λ a b. a || b) tt (lit ν a) (lit ν b)
@@ -72,8 +71,8 @@ module _ (i : Instance) (v : ValidInstance i) (ν : Assignment) (τ : Atom → B
       Scores-flatMap ν (StartsRight i τ) (λ e. flatMap (startItems i e) (upTo (i .times))) (upTo (eventCount i))
       (All-weaken _ _
       (λ e a.
-      Scores-flatMap ν _ (startItems i e) (upTo (i .times)) (All-weaken _ _ (λ t b. start-score e t a b) (upTo (i .times)) (times-within i v)))
-      (upTo (eventCount i)) (events-within i v))
+      Scores-flatMap ν _ (startItems i e) (upTo (i .times)) (All-weaken _ _ (λ t b. start-score e t a b) (upTo (i .times)) (times-within i)))
+      (upTo (eventCount i)) (events-within i))
 
 -- the bytes of a timetable, with more bytes after them
 module _ (i : Instance) (v : ValidInstance i) (t rest : List ℕ) (size : length t ≡ primary i) where
@@ -93,7 +92,7 @@ module _ (i : Instance) (v : ValidInstance i) (t rest : List ℕ) (size : length
       inner (var i (Y e s)) (omega (arith, w .high))
 
   -- the variables of atoms in range say whether they are true
-  atoms-agree : Holds ν (primary i + 1) (map gate (uses i)) → (a : Atom) → InRange i a → lit ν (num i a) ≡ τ a
+  atoms-agree : Holds ν (primary i + 1) (map gate (uses i)) → (a : Atom) → InRange i a → Agrees (num i) ν τ a
   unfolding truth
   atoms-agree h (Y e s) r = taken-agrees e s (r .0) (r .1)
   atoms-agree h (S e s) r =
@@ -114,7 +113,7 @@ module _ (i : Instance) (v : ValidInstance i) (t rest : List ℕ) (size : length
       let rs = rulesItems (num i) (allRules i) (atomsEnd i) in
       let p = formula-holds i ν h in
       let agree = atoms-agree (p .0) in
-      let valid = All-weaken _ _ (λ r. ValidRule-weaken (InRange i) (Agrees (num i) ν refl τ) agree (r .1)) (allRules i) (allRules-valid i v) in
+      let valid = All-weaken _ _ (λ r. ValidRule-weaken (InRange i) (Agrees (num i) ν τ) agree (r .1)) (allRules i) (allRules-valid i v) in
       let s = Scores-gates ν (uses i) rs (rules-score (num i) ν refl τ (allRules i) (atomsEnd i) valid (p .1)) in
       rw (formula-parts, ← score-cost i τ, ← zero-add (weighed τ (allRules i)))
-      (Scores-same ν (score-hard i τ (v .events)) (Scores-append ν (starts i) (map gate (uses i) ++ rs) (starts-score i v ν τ agree) s))
+      (Scores-same ν (score-hard i τ (v .events)) (Scores-append ν (starts i) (map gate (uses i) ++ rs) (starts-score i ν τ agree) s))

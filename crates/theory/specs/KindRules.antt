@@ -9,7 +9,7 @@ use lib.ListN.{length, length-map}
 use Rattle.laws.specs.Lists.{All, All-append, All-weaken, All-map, All-flatMap}
 use Rattle.scope.specs.Kinds.{Event, Kind, clash, unavailable, preferred, split, spread, busy, cluster, idle, Constraint, Atom, Y, S, X, Entry, atom, anyOf, gap, Rule, between, from, upTo, member, usersFrom, users, outside, groupAt, usesAt, takesAt, startsAt, gapsAfter, gaps, rulesOf, lowOf, highOf, longest}
 use Rattle.scope.specs.Instance.{Instance, countsOf}
-use Rattle.scope.specs.Score.{rules}
+use Rattle.scope.specs.Score.{eventCount, rules}
 use Rattle.scope.specs.Formula.{durationRules, constraintRules, allRules}
 use Rattle.theory.specs.Accepted.{Within, Ascending, ascending-within, ValidEvent, ValidFields, ValidConstraint, ValidInstance, group-within}
 use Rattle.theory.specs.Ranges.{length-from, from-all}
@@ -20,6 +20,13 @@ abbrev pub InRange : Instance → Atom → Type 0
 InRange i (Y e t) = Within 1 (length (i .events)) e × Within 1 (i .times) t
 InRange i (S e t) = Within 1 (length (i .events)) e × Within 1 (i .times) t
 InRange i (X r t) = Within 1 (i .resources) r × Within 1 (i .times) t
+
+-- all times, and all events
+pub times-within : (i : Instance) → All (Within 1 (i .times)) (upTo (i .times))
+times-within i = from-all (Within 1 (i .times)) 1 (i .times) (λ t a b. record { low = a; high = omega arith })
+
+pub events-within : (i : Instance) → All (Within 1 (length (i .events))) (upTo (eventCount i))
+events-within i = from-all _ 1 (eventCount i) (λ e a b. record { low = a; high = omega arith })
 
 -- the numbers of the events that use a resource
 users-from : (r b e n : ℕ) (vs : List Event) → b ≤ e → e + length vs ≤ suc n → All (Within b n) (usersFrom r e vs)
@@ -60,11 +67,7 @@ bounds-valid : (P : Atom → Type 0) (lo hi : ℕ) (zeroFree : Bool) (l : List E
     → ValidRule P (record { lo = lo; hi = min hi (length l); zeroFree = zeroFree; list = l })
 bounds-valid P lo hi zeroFree l a b h = record { order = omega arith; reach = omega arith; atoms = h }
 
-module _ (i : Instance) (v : ValidInstance i) where
-  -- all times
-  pub times-within : All (Within 1 (i .times)) (upTo (i .times))
-  times-within = from-all (Within 1 (i .times)) 1 (i .times) (λ t a b. record { low = a; high = omega arith })
-
+module _ (i : Instance) where
   -- X, Y and S at some times
   uses-range : (r : ℕ) (ts : List ℕ) → Within 1 (i .resources) r → All (Within 1 (i .times)) ts → All (InRange i) (usesAt r ts)
   uses-range r ts w h = All-map (InRange i) (λ t. X r t) ts (All-weaken _ (λ t. InRange i (X r t)) (λ t a. (w, a)) ts h)
@@ -74,18 +77,6 @@ module _ (i : Instance) (v : ValidInstance i) where
 
   starts-range : (e : ℕ) (ts : List ℕ) → Within 1 (length (i .events)) e → All (Within 1 (i .times)) ts → All (Atoms (InRange i)) (startsAt e ts)
   starts-range e ts w h = All-map (Atoms (InRange i)) (λ t. atom (S e t)) ts (All-weaken _ (λ t. InRange i (S e t)) (λ t a. (w, a)) ts h)
-
-  -- X at the members of a group, and of each of some groups
-  group-range : (r g : ℕ) → Within 1 (i .resources) r → Within 1 (length (i .groups)) g → All (InRange i) (usesAt r (groupAt (i .groups) g))
-  group-range r g a b = uses-range r (groupAt (i .groups) g) a (group-within i v g b)
-
-  group-atoms : (r g : ℕ) → Within 1 (i .resources) r → Within 1 (length (i .groups)) g
-      → All (Atoms (InRange i)) (map atom (usesAt r (groupAt (i .groups) g)))
-  group-atoms r g a b = All-map (Atoms (InRange i)) atom (usesAt r (groupAt (i .groups) g)) (group-range r g a b)
-
-  groups-range : (r : ℕ) (hs : List ℕ) → Within 1 (i .resources) r → Ascending 0 (length (i .groups)) hs
-      → All (λ g. All (InRange i) (usesAt r (groupAt (i .groups) g))) hs
-  groups-range r hs a b = All-weaken _ _ (λ g w. group-range r g a w) hs (ascending-within 0 (length (i .groups)) hs b)
 
   -- a kind with one rule
   one-valid : (lo hi : ℕ) (zeroFree : Bool) (l : List Entry) → lo ≤ hi → lo ≤ max (length l) 0 → All (Atoms (InRange i)) l
@@ -99,29 +90,42 @@ module _ (i : Instance) (v : ValidInstance i) where
       (All-weaken _ _
       (λ t w.
       bounds-valid (InRange i) 0 1 false (map (λ e. atom (Y e t)) us) (omega arith) (omega arith)
-      (All-map (Atoms (InRange i)) (λ e. atom (Y e t)) us (All-weaken _ _ (λ e x. (x, w)) us h))) (upTo (i .times)) times-within)
+      (All-map (Atoms (InRange i)) (λ e. atom (Y e t)) us (All-weaken _ _ (λ e x. (x, w)) us h))) (upTo (i .times)) (times-within i))
+
+module _ (i : Instance) (v : ValidInstance i) where
+  -- X at the members of a group, and of each of some groups
+  group-range : (r g : ℕ) → Within 1 (i .resources) r → Within 1 (length (i .groups)) g → All (InRange i) (usesAt r (groupAt (i .groups) g))
+  group-range r g a b = uses-range i r (groupAt (i .groups) g) a (group-within i v g b)
+
+  group-atoms : (r g : ℕ) → Within 1 (i .resources) r → Within 1 (length (i .groups)) g
+      → All (Atoms (InRange i)) (map atom (usesAt r (groupAt (i .groups) g)))
+  group-atoms r g a b = All-map (Atoms (InRange i)) atom (usesAt r (groupAt (i .groups) g)) (group-range r g a b)
+
+  groups-range : (r : ℕ) (hs : List ℕ) → Within 1 (i .resources) r → Ascending 0 (length (i .groups)) hs
+      → All (λ g. All (InRange i) (usesAt r (groupAt (i .groups) g))) hs
+  groups-range r hs a b = All-weaken _ _ (λ g w. group-range r g a w) hs (ascending-within 0 (length (i .groups)) hs b)
 
   kind-valid : (k : Kind) → ValidFields (countsOf (i .times) (i .resources) (i .events) (i .groups)) k → lowOf k ≤ highOf k
       → lowOf k ≤ longest (rulesOf (i .times) (i .events) (i .groups) k)
       → All (ValidRule (InRange i)) (rulesOf (i .times) (i .events) (i .groups) k)
   unfolding rulesOf longest
-  kind-valid (clash r) f a b = clash-valid (users r (i .events)) (users-within i r)
-  kind-valid (unavailable r g) f a b = one-valid 0 0 false _ a b (group-atoms r g (f .0) (f .1))
+  kind-valid (clash r) f a b = clash-valid i (users r (i .events)) (users-within i r)
+  kind-valid (unavailable r g) f a b = one-valid i 0 0 false _ a b (group-atoms r g (f .0) (f .1))
   kind-valid (preferred e g) f a b =
       let ts = outside (groupAt (i .groups) g) (upTo (i .times)) in
-      one-valid 0 0 false _ a b (takes-range e ts (f .0) (outside-all _ (groupAt (i .groups) g) (upTo (i .times)) times-within))
-  kind-valid (split e lo hi) f a b = one-valid lo hi false _ a b (starts-range e (upTo (i .times)) (f .0) times-within)
+      one-valid i 0 0 false _ a b (takes-range i e ts (f .0) (outside-all _ (groupAt (i .groups) g) (upTo (i .times)) (times-within i)))
+  kind-valid (split e lo hi) f a b = one-valid i lo hi false _ a b (starts-range i e (upTo (i .times)) (f .0) (times-within i))
   kind-valid (spread vs g lo hi) f a b =
       let ts = groupAt (i .groups) g in
-      one-valid lo hi false _ a b
+      one-valid i lo hi false _ a b
       (All-flatMap (Atoms (InRange i)) (λ e. startsAt e ts) vs
-      (All-weaken _ _ (λ e w. starts-range e ts w (group-within i v g (f .1))) vs (ascending-within 0 (length (i .events)) vs (f .0))))
-  kind-valid (busy r g lo hi) f a b = one-valid lo hi true _ a b (group-atoms r g (f .0) (f .1))
+      (All-weaken _ _ (λ e w. starts-range i e ts w (group-within i v g (f .1))) vs (ascending-within 0 (length (i .events)) vs (f .0))))
+  kind-valid (busy r g lo hi) f a b = one-valid i lo hi true _ a b (group-atoms r g (f .0) (f .1))
   kind-valid (cluster r hs lo hi) f a b =
-      one-valid lo hi false _ a b
+      one-valid i lo hi false _ a b
       (All-map (Atoms (InRange i)) (λ g. anyOf (usesAt r (groupAt (i .groups) g))) hs (groups-range r hs (f .0) (f .1)))
   kind-valid (idle r hs lo hi) f a b =
-      one-valid lo hi false _ a b
+      one-valid i lo hi false _ a b
       (All-flatMap (Atoms (InRange i)) (λ g. gaps (usesAt r (groupAt (i .groups) g))) hs
       (All-weaken _ _ (λ g. gaps-atoms (InRange i) (usesAt r (groupAt (i .groups) g))) hs (groups-range r hs (f .0) (f .1))))
 
@@ -133,7 +137,7 @@ module _ (i : Instance) (v : ValidInstance i) where
       let ts = upTo (i .times) in
       let n : length (takesAt e ts) ≡ i .times = rw (length-map, length-from) in (
         bounds-valid (InRange i) (x .duration) (x .duration) false (takesAt e ts) (omega arith) (omega (arith, n, a .0 .duration .high))
-            (takes-range e ts (record { low = l; high = omega arith }) times-within),
+            (takes-range i e ts (record { low = l; high = omega arith }) (times-within i)),
         durations-valid (suc e) xs (omega arith) (omega arith) (a .1),
       )
 

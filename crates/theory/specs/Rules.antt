@@ -67,12 +67,12 @@ module _ (τ : Atom → Bool) where
   weighed [] = 0
   weighed (r ∷ rs) = r .0 * charge (r .1) + weighed rs
 
-module _ (num : Atom → ℕ) (ν : Assignment) (z : ν 0 ≡ false) (τ : Atom → Bool) where
-  -- the literal of an atom says whether it is true
-  abbrev pub Agrees : Atom → Type 0
-  Agrees a = lit ν (num a) ≡ τ a
+-- the literal of an atom says whether it is true
+abbrev pub Agrees : (Atom → ℕ) → Assignment → (Atom → Bool) → Atom → Type 0
+Agrees num ν τ a = lit ν (num a) ≡ τ a
 
-  entry-agrees : (x : Entry) (v : ℕ) → Atoms Agrees x → Holds ν v (map gate (entryGates num x v))
+module _ (num : Atom → ℕ) (ν : Assignment) (z : ν 0 ≡ false) (τ : Atom → Bool) where
+  entry-agrees : (x : Entry) (v : ℕ) → Atoms (Agrees num ν τ) x → Holds ν v (map gate (entryGates num x v))
       → lit ν (entryLiteral num x v) ≡ entryTrue τ x
   unfolding entryTrue value
   entry-agrees (atom a) v g h = g
@@ -84,7 +84,7 @@ module _ (num : Atom → ℕ) (ν : Assignment) (z : ν 0 ≡ false) (τ : Atom 
       let l = lit-pos ν (v + 1) ∙ ap ν one ∙ h .1 .0 ∙ clause-any ν num τ later (g .2) in
       lit-pos ν (v + 2) ∙ ap ν two ∙ h .1 .1 .0 ∙ rw (e, l, g .1)
 
-  list-agrees : (xs : List Entry) (v : ℕ) → All (Atoms Agrees) xs → Holds ν v (map gate (listGates num xs v))
+  list-agrees : (xs : List Entry) (v : ℕ) → All (Atoms (Agrees num ν τ)) xs → Holds ν v (map gate (listGates num xs v))
       → map (lit ν) (listLiterals num xs v) ≡ map (entryTrue τ) xs
   unfolding listGates listLiterals
   list-agrees [] v g h = refl
@@ -92,7 +92,7 @@ module _ (num : Atom → ℕ) (ν : Assignment) (z : ν 0 ≡ false) (τ : Atom 
       let p = Holds-gates ν v (entryGates num x v) _ (rw map-append at h) in
       ap₂ (λ b bs. b ∷ bs) (entry-agrees x v (g .0) (p .0)) (list-agrees xs (v + added x) (g .1) (rw length-entryGates at (p .1)))
 
-  pub rule-costs : (w : ℕ) (r : Rule) (v : ℕ) → ValidRule Agrees r → Holds ν v (ruleItems num w r v)
+  pub rule-costs : (w : ℕ) (r : Rule) (v : ℕ) → ValidRule (Agrees num ν τ) r → Holds ν v (ruleItems num w r v)
       → Costs ν w (ruleItems num w r v) (charge τ r)
   unfolding ruleItems
   rule-costs w r v g h =
@@ -105,7 +105,7 @@ module _ (num : Atom → ℕ) (ν : Assignment) (z : ν 0 ≡ false) (τ : Atom 
       (count-costs ν z w r xs (v + allAdded (r .list)) (g .order) (rw length-listLiterals (g .reach)) (rw length-listGates at (p .1))))
 
   -- rules with weights, one after the other
-  pub rules-score : (rs : List (ℕ × Rule)) (v : ℕ) → All (λ r. ValidRule Agrees (r .1)) rs → Holds ν v (rulesItems num rs v)
+  pub rules-score : (rs : List (ℕ × Rule)) (v : ℕ) → All (λ r. ValidRule (Agrees num ν τ) (r .1)) rs → Holds ν v (rulesItems num rs v)
       → Scores ν (rulesItems num rs v) (All (Kept τ) rs) (weighed τ rs)
   unfolding rulesItems weighed
   rules-score [] v g h = Scores-none ν
