@@ -1,11 +1,9 @@
 -- What an accepted instance satisfies: every limit, reference and list that the reader checks.
-use mathlib.Core.Path.{_≡_, refl}
-use mathlib.Core.Bool.{Bool, true, false, cond}
 use mathlib.Core.List.{List, [], _∷_}
-use Prim.Native.Nat.{ℕ, zero, suc, _+_, _-_, _≤_, _<_}
+use Prim.Native.Nat.{ℕ, zero, suc, _+_, _-_, _≤_}
 use native.Mathlib.Omega.{arith}
 use lib.Dec.{leb, ltb, eqb}
-use lib.ListN.{length, getD}
+use lib.ListN.{length}
 use borrow.Author.Tests.{leb-true, ltb-true}
 use Rattle.laws.specs.Lists.{All, All-at, All-weaken}
 use Rattle.scope.specs.Parsed.{Parsed, andThen, repeat}
@@ -13,7 +11,7 @@ use Rattle.scope.specs.Number.{number, limited, reference, references, listed}
 use Rattle.scope.specs.Kinds.{Event, Kind, clash, unavailable, preferred, split, spread, busy, cluster, idle, Constraint, groupAt, rulesOf, lowOf, highOf, longest}
 use Rattle.scope.specs.Instance.{Instance, Counts, countsOf, eventAt, pairAt, boundsAt, clashAt, unavailableAt, preferredAt, splitAt, spreadAt, busyAt, overGroupsAt, fieldsAt, ended, constraintAt, sizesAt, groupsAt, constraintsAt, parse}
 use Rattle.scope.specs.Demands.{Accepted}
-use Rattle.theory.specs.Readings.{Gives, gives-value, gives-andThen, gives-unless, gives-cons, gives-either, Many, gives-repeat}
+use Rattle.theory.specs.Readings.{Gives, gives-value, gives-andThen, gives-unless, gives-cons, gives-either, gives-repeat}
 
 -- a number within its limits
 pub record Within (lo hi v : ℕ) : Type 0 where

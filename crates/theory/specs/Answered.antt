@@ -1,14 +1,14 @@
 -- When an operation answers: exactly where no check on the way refuses.
-use mathlib.Core.Path.{_≡_, refl, sym, ap, _∙_}
+use mathlib.Core.Path.{_≡_, refl}
 use mathlib.Core.Bool.{Bool, true, false, and-eq-true-iff}
 use mathlib.Core.Logic.{_↔_, Iff·rfl, Iff·symm, Iff·trans, Iff·and}
 use mathlib.Core.List.{List, [], _∷_}
 use mathlib.Core.Option.{Option, none, some}
-use Prim.Native.Nat.{ℕ, zero, suc, _≤_}
+use Prim.Native.Nat.{ℕ, suc, _≤_}
 use native.Mathlib.Omega.{arith}
 use lib.Dec.{leb, eqb}
 use lib.ListN.{length}
-use borrow.Author.Tests.{leb-true, leb-false, le-leb, eqb-true, eq-eqb}
+use borrow.Author.Tests.{leb-true, le-leb, eqb-true, eq-eqb}
 use Rattle.laws.specs.Booleans.{some≢none, cond-none}
 use Rattle.laws.specs.Lists.{All}
 use Rattle.scope.specs.Parsed.{Answer, answered, refusal, provided}

@@ -1,13 +1,11 @@
 -- A timetable that keeps every hard constraint at a cost within the bound gives a model of the hard clauses with the tail.
 -- So where these have no model, every such timetable costs more.
-use mathlib.Core.Path.{_≡_, refl, sym, ap, _∙_}
+use mathlib.Core.Path.{_≡_, refl, ap, _∙_}
 use mathlib.Core.Bool.{true}
-use mathlib.Core.Logic.{_↔_}
-use mathlib.Core.List.{List, [], _∷_, _++_}
-use Prim.Native.Nat.{ℕ, _+_, _*_, _≤_, _<_}
+use mathlib.Core.List.{List, _++_}
+use Prim.Native.Nat.{ℕ, _+_, _≤_, _<_}
 use native.Mathlib.Nat.{lt-of-not-le}
 use native.Mathlib.Omega.{arith}
-use lib.ListN.{length}
 use Rattle.scope.specs.Instance.{Instance}
 use Rattle.scope.specs.Cnf.{bit, clauses, gates, outputs}
 use Rattle.scope.specs.Score.{truth, objectiveOf}

@@ -1,16 +1,14 @@
 -- A counted list with its bounds, hard or soft: its clauses and soft units are worth what the rule charges for the count.
 use mathlib.Core.Path.{_≡_, refl, sym, ap, ap₂, _∙_}
 use mathlib.Core.Bool.{Bool, true, false, not, _&&_, cond, Bool·not-not}
-use mathlib.Core.Logic.{_↔_}
 use mathlib.Core.List.{List, [], _∷_, _++_, map}
 use Prim.Native.Nat.{ℕ, zero, suc, _+_, _-_, _*_, _<_, _≤_, min, max}
 use native.Mathlib.Omega.{arith}
 use lib.Dec.{eqb, leb, ltb}
 use lib.ListN.{length, length-map}
 use borrow.Author.Tests.{leb-true, leb-false, ltb-true, ltb-false, eqb-true, eqb-false, not-true, not-false}
-use Rattle.laws.specs.Lists.{All}
-use Rattle.scope.specs.Kinds.{Entry, Rule, from}
-use Rattle.scope.specs.Cnf.{Assignment, neg, opp, lit, Gate, short, value, Item, gate, hard}
+use Rattle.scope.specs.Kinds.{Rule, from}
+use Rattle.scope.specs.Cnf.{Assignment, neg, opp, lit, short, value, Item, hard}
 use Rattle.scope.specs.Score.{trues, deviation, charged}
 use Rattle.scope.specs.Formula.{noRow, counter, lastRow, ones, columns, unit, lowUnits, highUnits, shortUnits, boundItems, countItems, countInto}
 use Rattle.theory.specs.Gates.{lit-neg, lit-opp}

@@ -1,23 +1,23 @@
 -- What the rules charge is the score: the rules of constraints give infeasibility and objective, and those of durations, with
 -- the starts, whether each event is right.
 use mathlib.Core.Path.{_≡_, refl, sym, ap, ap₂, _∙_}
-use mathlib.Core.Bool.{Bool, true, false, not, _&&_, cond, and-eq-true-iff}
-use mathlib.Core.Logic.{_↔_, Iff·trans}
+use mathlib.Core.Bool.{Bool, true, cond, and-eq-true-iff}
+use mathlib.Core.Logic.{_↔_}
 use mathlib.Core.List.{List, [], _∷_, _++_, map, flatMap}
-use mathlib.Core.Option.{Option, none, some}
-use Prim.Native.Nat.{ℕ, zero, suc, _+_, _-_, _*_, _≤_, min}
-use native.Mathlib.Nat.{zero-add, add-zero, add-assoc, mul-add, mul-zero, zero-mul}
+use mathlib.Core.Option.{none}
+use Prim.Native.Nat.{ℕ, zero, suc, _+_, _*_, _≤_, min}
+use native.Mathlib.Nat.{zero-add, add-assoc, mul-add, mul-zero, zero-mul}
 use native.Mathlib.Omega.{arith}
-use lib.Dec.{eqb, ltb, eqb·suc-zero}
+use lib.Dec.{eqb, eqb·suc-zero}
 use lib.ListN.{length, length-map}
 use borrow.Author.Tests.{eqb-true, eq-eqb}
 use Rattle.laws.specs.Booleans.{cond-none}
 use Rattle.laws.specs.Lists.{All, All-append, All-split}
-use Rattle.scope.specs.Kinds.{Event, Constraint, Atom, Y, S, atom, Rule, between, from, upTo, takesAt}
+use Rattle.scope.specs.Kinds.{Event, Constraint, Atom, Y, Rule, between, from, upTo, takesAt}
 use Rattle.scope.specs.Instance.{Instance}
-use Rattle.scope.specs.Score.{trues, all, deviation, charged, entryTrue, count, deviations, eventCount, rules, startRight, eventRight, firstWrong, infeasibilityOf, objectiveOf}
+use Rattle.scope.specs.Score.{trues, all, charged, entryTrue, deviations, eventCount, rules, startRight, eventRight, firstWrong, infeasibilityOf, objectiveOf}
 use Rattle.scope.specs.Formula.{durationRules, constraintRules, allRules}
-use Rattle.theory.specs.Accepted.{Within, ValidEvent}
+use Rattle.theory.specs.Accepted.{ValidEvent}
 use Rattle.theory.specs.Bounds.{deviation-parts}
 use Rattle.theory.specs.Ranges.{length-from}
 use Rattle.theory.specs.Rules.{charge, Kept, weighed}

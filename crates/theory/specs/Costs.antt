@@ -1,7 +1,7 @@
 -- What a part of a formula is worth: where its gates hold, its other hard clauses hold exactly where a fact holds, and the
 -- soft units that are false weigh a cost.
 use mathlib.Core.Path.{_≡_, refl, sym, ap, _∙_}
-use mathlib.Core.Bool.{Bool, true, false, not, _||_, cond, or-false, true≢false}
+use mathlib.Core.Bool.{Bool, true, false, not, cond, or-false, true≢false}
 use mathlib.Core.Logic.{_↔_, Iff·trans}
 use mathlib.Core.List.{List, [], _∷_, _++_, map, flatMap}
 use Prim.Native.Nat.{ℕ, zero, suc, _+_, _*_, _≤_}

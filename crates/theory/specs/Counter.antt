@@ -3,7 +3,7 @@
 use mathlib.Core.Path.{_≡_, refl, sym, ap, _∙_}
 use mathlib.Core.Bool.{Bool, true, false, _&&_, _||_, cond, or-false}
 use mathlib.Core.Logic.{_↔_}
-use mathlib.Core.List.{List, [], _∷_, _++_, map}
+use mathlib.Core.List.{List, [], _∷_, map}
 use Prim.Native.Nat.{ℕ, zero, suc, _+_, _-_, _*_, _<_, _≤_}
 use native.Mathlib.Nat.{add-zero, zero-add, add-assoc, zero-mul, suc-mul, le-refl}
 use native.Mathlib.Omega.{arith}
@@ -13,7 +13,7 @@ use lib.Seq.{take-length}
 use borrow.Author.Tests.{leb-true, leb-false, le-leb}
 use Rattle.laws.specs.Booleans.{leb-same}
 use Rattle.laws.specs.Lists.{map-append}
-use Rattle.scope.specs.Cnf.{Assignment, lit, Gate, cell, value, gate}
+use Rattle.scope.specs.Cnf.{Assignment, lit, cell, value, gate}
 use Rattle.scope.specs.Formula.{noRow, rowAt, row, counter, lastRow}
 use Rattle.theory.specs.Gates.{lit-pos}
 use Rattle.theory.specs.Circuit.{Holds, Holds-gates}

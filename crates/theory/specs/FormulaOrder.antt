@@ -1,22 +1,21 @@
 -- The formula of an accepted instance reads earlier variables only.
-use mathlib.Core.Path.{_≡_, refl, sym, ap, _∙_}
-use mathlib.Core.List.{List, [], _∷_, _++_, map, flatMap}
-use Prim.Native.Nat.{ℕ, zero, suc, _+_, _-_, _*_, _≤_, _<_}
+use mathlib.Core.List.{_++_, map, flatMap}
+use Prim.Native.Nat.{ℕ, zero, suc, _+_}
 use native.Mathlib.Nat.{add-zero, le-refl}
 use native.Mathlib.Omega.{arith}
 use lib.ListN.{length}
 use Rattle.laws.specs.Lists.{All, All-append, All-weaken, All-map, All-flatMap}
 use Rattle.scope.specs.Kinds.{Atom, Y, S, X, upTo, users}
 use Rattle.scope.specs.Instance.{Instance}
-use Rattle.scope.specs.Cnf.{neg, Item, gate, gates}
-use Rattle.scope.specs.Score.{var, eventCount}
+use Rattle.scope.specs.Cnf.{gate}
+use Rattle.scope.specs.Score.{eventCount}
 use Rattle.scope.specs.Formula.{num, yBefore, startItems, starts, uses, rulesItems, allRules, primary, formula}
 use Rattle.theory.specs.Accepted.{Within, ValidInstance}
 use Rattle.theory.specs.Order.{Proper, ItemReads, Ordered, Ordered-append, Ordered-gates, Ordered-all}
 use Rattle.theory.specs.KindRules.{InRange, users-within, times-within, events-within, allRules-valid}
 use Rattle.theory.specs.Ranges.{from-all}
 use Rattle.theory.specs.RuleOrder.{Below, rules-order}
-use Rattle.theory.specs.Rules.{ValidRule, ValidRule-weaken}
+use Rattle.theory.specs.Rules.{ValidRule-weaken}
 use Rattle.theory.specs.Variables.{place-within, useGate, atomsEnd, uses-end, gates-starts, formula-parts}
 
 module _ (i : Instance) where

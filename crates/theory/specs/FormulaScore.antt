@@ -1,26 +1,25 @@
 -- At the extension of a timetable's bytes the formula is worth the timetable's score.
 use mathlib.Core.Path.{_≡_, refl, sym, ap, ap₂, _∙_}
-use mathlib.Core.Bool.{Bool, true, false, not, _&&_, _||_, and-eq-true-iff}
-use mathlib.Core.Logic.{_↔_}
+use mathlib.Core.Bool.{Bool, true, false, not, _||_, and-eq-true-iff}
 use mathlib.Core.List.{List, [], _∷_, _++_, map, flatMap}
 use mathlib.Core.Option.{none}
-use Prim.Native.Nat.{ℕ, zero, suc, _+_, _-_, _*_, _≤_, _<_}
-use native.Mathlib.Nat.{add-zero, zero-add}
+use Prim.Native.Nat.{ℕ, zero, suc, _+_, _*_, _≤_}
+use native.Mathlib.Nat.{zero-add}
 use native.Mathlib.Omega.{arith}
 use lib.ListN.{length}
 use Rattle.laws.specs.Taut.{taut}
-use Rattle.laws.specs.Lists.{All, All-append, All-split, All-weaken}
+use Rattle.laws.specs.Lists.{All, All-weaken}
 use Rattle.scope.specs.Kinds.{Atom, Y, S, X, upTo, users}
 use Rattle.scope.specs.Instance.{Instance}
-use Rattle.scope.specs.Cnf.{Assignment, bit, neg, lit, clause, Item, gate, gates, softUnits, falsified}
+use Rattle.scope.specs.Cnf.{Assignment, bit, neg, lit, clause, gate, softUnits, falsified}
 use Rattle.scope.specs.Score.{var, truth, eventCount, takenBefore, startRight, firstWrong, infeasibilityOf, objectiveOf}
-use Rattle.scope.specs.Formula.{num, yBefore, startItems, starts, uses, rulesItems, durationRules, constraintRules, allRules, primary, formula}
+use Rattle.scope.specs.Formula.{num, yBefore, startItems, starts, uses, rulesItems, allRules, primary, formula}
 use Rattle.theory.specs.Accepted.{Within, ValidInstance}
 use Rattle.theory.specs.Gates.{lit-pos, lit-neg, clause-append, clause-any}
 use Rattle.theory.specs.Circuit.{Holds}
 use Rattle.theory.specs.Extension.{bit-append}
 use Rattle.theory.specs.Costs.{Scores, Scores-same, Scores-append, Scores-gates, Scores-flatMap}
-use Rattle.theory.specs.Rules.{Kept, weighed, Agrees, ValidRule, ValidRule-weaken, rules-score}
+use Rattle.theory.specs.Rules.{weighed, Agrees, ValidRule-weaken, rules-score}
 use Rattle.theory.specs.KindRules.{InRange, users-within, times-within, events-within, allRules-valid}
 use Rattle.theory.specs.Charges.{StartsRight, score-hard, score-cost}
 use Rattle.theory.specs.Variables.{place-within, use-holds, atomsEnd, formula-parts, formula-holds}

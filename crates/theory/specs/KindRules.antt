@@ -1,13 +1,13 @@
 -- The rules of an accepted instance: their bounds are within their lists, and their atoms speak of events, resources and
 -- times that there are.
-use mathlib.Core.Path.{_≡_, refl, sym}
+use mathlib.Core.Path.{_≡_}
 use mathlib.Core.Bool.{Bool, true, false, cond}
-use mathlib.Core.List.{List, [], _∷_, _++_, map, flatMap}
-use Prim.Native.Nat.{ℕ, zero, suc, _+_, _≤_, min, max}
+use mathlib.Core.List.{List, [], _∷_, _++_, map}
+use Prim.Native.Nat.{ℕ, suc, _+_, _≤_, min, max}
 use native.Mathlib.Omega.{arith}
 use lib.ListN.{length, length-map}
 use Rattle.laws.specs.Lists.{All, All-append, All-weaken, All-map, All-flatMap}
-use Rattle.scope.specs.Kinds.{Event, Kind, clash, unavailable, preferred, split, spread, busy, cluster, idle, Constraint, Atom, Y, S, X, Entry, atom, anyOf, gap, Rule, between, from, upTo, member, usersFrom, users, outside, groupAt, usesAt, takesAt, startsAt, gapsAfter, gaps, rulesOf, lowOf, highOf, longest}
+use Rattle.scope.specs.Kinds.{Event, Kind, clash, unavailable, preferred, split, spread, busy, cluster, idle, Constraint, Atom, Y, S, X, Entry, atom, anyOf, between, upTo, member, usersFrom, users, outside, groupAt, usesAt, takesAt, startsAt, gapsAfter, gaps, rulesOf, lowOf, highOf, longest}
 use Rattle.scope.specs.Instance.{Instance, countsOf}
 use Rattle.scope.specs.Score.{eventCount, rules}
 use Rattle.scope.specs.Formula.{durationRules, constraintRules, allRules}

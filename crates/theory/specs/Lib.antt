@@ -20,3 +20,4 @@ pub mod Feasible
 pub mod Match
 pub mod Tail
 pub mod Bounded
+pub mod Literals

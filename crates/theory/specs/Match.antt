@@ -1,22 +1,21 @@
 -- Demand 2: the models of the hard clauses and the timetables that keep every hard constraint match one to one.
 use mathlib.Core.Path.{_≡_, refl, sym, ap, _∙_}
-use mathlib.Core.Bool.{true}
 use mathlib.Core.Logic.{_↔_}
-use mathlib.Core.List.{List, _++_}
+use mathlib.Core.List.{List}
 use Prim.Native.Nat.{ℕ, _+_, _≤_}
 use native.Mathlib.Omega.{arith}
 use lib.Dec.{leb}
-use lib.ListN.{length, getD, take}
+use lib.ListN.{length}
 use lib.Seq.{take-at, length-take-le}
 use borrow.Author.Tests.{le-leb}
 use Rattle.laws.specs.Lists.{All, All-take, All-everywhere, All-places}
 use Rattle.scope.specs.Parsed.{Answer, answered}
 use Rattle.scope.specs.Instance.{Instance}
-use Rattle.scope.specs.Cnf.{bit, clauses, gates, outputs, falsified}
+use Rattle.scope.specs.Cnf.{bit, outputs, falsified}
 use Rattle.scope.specs.Score.{truth, objectiveOf, objective, unlessFound, ofBytes}
 use Rattle.scope.specs.Formula.{primary, formula, variables, hardOf, softOf, mostVariables}
 use Rattle.scope.specs.Operations.{lowestFalse, decodeOf, part, falsifiedSoft}
-use Rattle.scope.specs.Demands.{Accepted, KeepsHard, Model, OneToOne, Demand2}
+use Rattle.scope.specs.Demands.{Accepted, Model, Demand2}
 use Rattle.scope.specs.declared.Objective.{Objective}
 use Rattle.theory.specs.Accepted.{ValidInstance, accepted-valid}
 use Rattle.theory.specs.Circuit.{hard-clauses}

@@ -1,19 +1,18 @@
 -- Counters, bounds and rules read earlier variables only.
-use mathlib.Core.Path.{_≡_, refl, sym}
+use mathlib.Core.Path.{_≡_, refl}
 use mathlib.Core.Bool.{Bool, true, false, cond}
 use mathlib.Core.List.{List, [], _∷_, _++_, map}
-use Prim.Native.Nat.{ℕ, zero, suc, _+_, _-_, _*_, _%_, _<_, _≤_, min}
-use native.Mathlib.Nat.{le-refl, add-assoc}
+use Prim.Native.Nat.{ℕ, zero, suc, _+_, _-_, _*_, _<_, _≤_}
+use native.Mathlib.Nat.{le-refl}
 use native.Mathlib.Omega.{arith}
 use lib.Dec.{leb, ltb}
 use lib.ListN.{length, length-map}
 use borrow.Author.Tests.{leb-true, ltb-true}
 use Rattle.laws.specs.Lists.{All, All-map, All-weaken, map-append}
 use Rattle.scope.specs.Kinds.{Atom, Entry, atom, anyOf, gap, Rule, from}
-use Rattle.scope.specs.Cnf.{neg, opp, Gate, Item, gate, hard, gates}
+use Rattle.scope.specs.Cnf.{neg, opp, Item, gate, hard, gates}
 use Rattle.scope.specs.Formula.{noRow, rowAt, row, counter, lastRow, ones, columns, unit, lowUnits, highUnits, shortUnits, boundItems, countInto, countItems, added, allAdded, entryGates, entryLiteral, listGates, listLiterals, ruleItems, rulesItems}
-use Rattle.theory.specs.Circuit.{gates-map}
-use Rattle.theory.specs.Order.{Proper, ItemReads, Ordered, Ordered-append, Ordered-gates, Ordered-all, proper-up, all-proper-up}
+use Rattle.theory.specs.Order.{Proper, ItemReads, Ordered, Ordered-append, Ordered-gates, Ordered-all, proper-up}
 use Rattle.theory.specs.Counter.{length-row, length-counter, rowOf, lastRow-row}
 use Rattle.theory.specs.Bounds.{columns-reach}
 use Rattle.theory.specs.Ranges.{from-all}

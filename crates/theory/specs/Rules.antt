@@ -1,17 +1,16 @@
 -- Rules: where the variables of the atoms say whether they are true, a rule's clauses and soft units are worth what the rule
 -- charges for its count.
-use mathlib.Core.Path.{_≡_, refl, sym, ap, ap₂, _∙_}
-use mathlib.Core.Bool.{Bool, true, false, not, _&&_, _||_, cond}
-use mathlib.Core.List.{List, [], _∷_, _++_, map}
-use Prim.Native.Nat.{ℕ, zero, suc, _+_, _*_, _≤_}
-use native.Mathlib.Nat.{add-zero, add-assoc}
+use mathlib.Core.Path.{_≡_, refl, ap, ap₂, _∙_}
+use mathlib.Core.Bool.{Bool, false}
+use mathlib.Core.List.{List, [], _∷_, map}
+use Prim.Native.Nat.{ℕ, suc, _+_, _*_, _≤_}
 use native.Mathlib.Omega.{arith}
 use lib.ListN.{length, length-append}
 use Rattle.laws.specs.Lists.{All, All-weaken, map-append}
 use Rattle.scope.specs.Kinds.{Atom, Entry, atom, anyOf, gap, Rule}
-use Rattle.scope.specs.Cnf.{Assignment, lit, clause, Gate, or, idling, value, gate, gates}
-use Rattle.scope.specs.Score.{trues, any, charged, entryTrue, count}
-use Rattle.scope.specs.Formula.{countItems, added, allAdded, entryGates, entryLiteral, listGates, listLiterals, ruleItems, rulesItems}
+use Rattle.scope.specs.Cnf.{Assignment, lit, value, gate, gates}
+use Rattle.scope.specs.Score.{charged, entryTrue, count}
+use Rattle.scope.specs.Formula.{added, allAdded, entryGates, entryLiteral, listGates, listLiterals, ruleItems, rulesItems}
 use Rattle.theory.specs.Gates.{lit-pos, clause-any}
 use Rattle.theory.specs.Circuit.{Holds, Holds-append, Holds-gates}
 use Rattle.theory.specs.Costs.{Scores, Costs, Scores-none, Scores-append, Scores-gates}

@@ -1,19 +1,18 @@
 -- The tail for a bound B: its clauses hold exactly where the soft units that are false weigh at most B.
-use mathlib.Core.Path.{_≡_, refl, sym, ap, _∙_}
+use mathlib.Core.Path.{_≡_, refl, ap, _∙_}
 use mathlib.Core.Bool.{Bool, true, false, not, cond}
-use mathlib.Core.Logic.{_↔_, Iff·trans}
-use mathlib.Core.List.{List, [], _∷_, _++_, map}
-use Prim.Native.Nat.{ℕ, zero, suc, _+_, _-_, _*_, _≤_}
+use mathlib.Core.Logic.{_↔_}
+use mathlib.Core.List.{List, [], _∷_}
+use Prim.Native.Nat.{ℕ, suc, _+_, _-_, _≤_}
 use native.Mathlib.Nat.{suc-add, add-suc}
 use native.Mathlib.Omega.{arith}
 use lib.Dec.{leb}
-use lib.ListN.{length}
 use borrow.Author.Tests.{leb-true, leb-false}
 use Rattle.scope.specs.Cnf.{Assignment, opp, lit, Item, gate, hard, soft, gates, softUnits, falsified}
 use Rattle.scope.specs.Formula.{noRow, counter, lastRow, negated, tail}
 use Rattle.theory.specs.Gates.{lit-opp}
 use Rattle.theory.specs.Circuit.{Holds, Holds-gates, Keeps}
-use Rattle.theory.specs.Order.{Proper, Ordered, Ordered-gates, proper-up}
+use Rattle.theory.specs.Order.{Ordered, Ordered-gates, proper-up}
 use Rattle.theory.specs.Counter.{total, counter-counts, length-counter}
 use Rattle.theory.specs.Costs.{Scores-gates, Costs-hard}
 use Rattle.theory.specs.RuleOrder.{opp-proper, Literals, counter-order, lastRow-proper}

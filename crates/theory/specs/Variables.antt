@@ -1,12 +1,12 @@
 -- The variables of atoms: where they stand, and that X is the OR of its events' Y. The parts of the formula.
 use mathlib.Core.Path.{_≡_, refl, sym, ap, _∙_}
-use mathlib.Core.List.{List, [], _∷_, _++_, map, append-assoc}
-use Prim.Native.Nat.{ℕ, zero, suc, _+_, _-_, _*_, _≤_, _<_}
+use mathlib.Core.List.{_++_, map, append-assoc}
+use Prim.Native.Nat.{ℕ, zero, suc, _+_, _-_, _*_}
 use native.Mathlib.Nat.{add-zero, mul-le-mul-right}
 use native.Mathlib.Omega.{arith}
 use lib.ListN.{length, getD, length-map, List·getD-map}
 use Rattle.laws.specs.Lists.{length-rows, getD-rows}
-use Rattle.scope.specs.Kinds.{Atom, Y, S, X, upTo, from, users}
+use Rattle.scope.specs.Kinds.{Y, X, upTo, users}
 use Rattle.scope.specs.Instance.{Instance}
 use Rattle.scope.specs.Cnf.{Assignment, clause, Gate, or, value, gate, gates}
 use Rattle.scope.specs.Score.{var, eventCount}
