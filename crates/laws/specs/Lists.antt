@@ -51,14 +51,17 @@ All-weaken P Q f [] h = tt
 All-weaken P Q f (x ∷ xs) h = (f x (h .0), All-weaken P Q f xs (h .1))
 
 module _ {A B : Type 0} where
-  pub All-map : (P : B → Type 0) (f : A → B) (xs : List A) → All (λ x. P (f x)) xs → All P (map f xs)
-  All-map P f [] h = tt
-  All-map P f (x ∷ xs) h = (h .0, All-map P f xs (h .1))
+  -- a step from P at x to Q at f x, or at each element of f x
+  pub All-map : (P : A → Type 0) (Q : B → Type 0) (f : A → B) → ((x : A) → P x → Q (f x)) → (xs : List A) → All P xs
+      → All Q (map f xs)
+  All-map P Q f step [] h = tt
+  All-map P Q f step (x ∷ xs) h = (step x (h .0), All-map P Q f step xs (h .1))
 
-  pub All-flatMap : (P : B → Type 0) (f : A → List B) (xs : List A) → All (λ x. All P (f x)) xs → All P (flatMap f xs)
+  pub All-flatMap : (P : A → Type 0) (Q : B → Type 0) (f : A → List B) → ((x : A) → P x → All Q (f x)) → (xs : List A) → All P xs
+      → All Q (flatMap f xs)
   unfolding flatMap
-  All-flatMap P f [] h = tt
-  All-flatMap P f (x ∷ xs) h = All-append P (f x) (flatMap f xs) (h .0) (All-flatMap P f xs (h .1))
+  All-flatMap P Q f step [] h = tt
+  All-flatMap P Q f step (x ∷ xs) h = All-append Q (f x) (flatMap f xs) (step x (h .0)) (All-flatMap P Q f step xs (h .1))
 
   pub map-append : (f : A → B) (xs ys : List A) → map f (xs ++ ys) ≡ map f xs ++ map f ys
   map-append f [] ys = refl

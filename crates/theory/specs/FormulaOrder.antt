@@ -4,18 +4,17 @@ use Prim.Native.Nat.{ℕ, zero, suc, _+_}
 use native.Mathlib.Nat.{add-zero, le-refl}
 use native.Mathlib.Omega.{arith}
 use lib.ListN.{length}
-use Rattle.laws.specs.Lists.{All, All-append, All-weaken, All-map, All-flatMap}
+use Rattle.laws.specs.Lists.{All, All-append, All-map, All-flatMap}
 use Rattle.scope.specs.Kinds.{Atom, Y, S, X, upTo, users}
 use Rattle.scope.specs.Instance.{Instance}
 use Rattle.scope.specs.Cnf.{gate}
 use Rattle.scope.specs.Score.{eventCount}
 use Rattle.scope.specs.Formula.{num, yBefore, startItems, starts, uses, rulesItems, allRules, primary, formula}
 use Rattle.theory.specs.Accepted.{Within, ValidInstance}
-use Rattle.theory.specs.Order.{Proper, ItemReads, Ordered, Ordered-append, Ordered-gates, Ordered-all}
+use Rattle.theory.specs.Order.{Proper, Reads, ItemReads, Ordered, Ordered-append, Ordered-gates, Ordered-all}
 use Rattle.theory.specs.KindRules.{InRange, users-within, times-within, events-within, allRules-valid}
 use Rattle.theory.specs.Ranges.{from-all}
 use Rattle.theory.specs.RuleOrder.{Below, rules-order}
-use Rattle.theory.specs.Rules.{ValidRule-weaken}
 use Rattle.theory.specs.Variables.{place-within, useGate, atomsEnd, uses-end, gates-starts, formula-parts}
 
 module _ (i : Instance) where
@@ -44,30 +43,30 @@ module _ (i : Instance) where
   starts-reads : All (ItemReads (primary i + 1)) (starts i)
   unfolding starts
   starts-reads =
-      All-flatMap _ (λ e. flatMap (startItems i e) (upTo (i .times))) (upTo (eventCount i))
-      (All-weaken _ _
-      (λ e a. All-flatMap _ (startItems i e) (upTo (i .times)) (All-weaken _ _ (λ t b. start-reads e t a b) (upTo (i .times)) (times-within i)))
-      (upTo (eventCount i)) (events-within i))
+      let P = ItemReads (primary i + 1) in
+      All-flatMap _ P (λ e. flatMap (startItems i e) (upTo (i .times)))
+      (λ e a. All-flatMap _ P (startItems i e) (λ t b. start-reads e t a b) (upTo (i .times)) (times-within i))
+      (upTo (eventCount i)) (events-within i)
 
-  use-reads : (r t : ℕ) → Within 1 (i .times) t → ItemReads (primary i + 1) (gate (useGate i r t))
+  use-reads : (r t : ℕ) → Within 1 (i .times) t → Reads (primary i + 1) (useGate i r t)
   use-reads r t b =
-      All-map (Proper (primary i + 1)) (λ e. num i (Y e t)) (users r (i .events))
-      (All-weaken _ _ (λ e a. taken-below e t a b) (users r (i .events)) (users-within i r))
+      All-map _ (Proper (primary i + 1)) (λ e. num i (Y e t)) (λ e a. taken-below e t a b) (users r (i .events)) (users-within i r)
 
   uses-read : All (ItemReads (primary i + 1)) (map gate (uses i))
   unfolding uses
   uses-read =
-      All-map (ItemReads (primary i + 1)) gate (uses i)
-      (All-flatMap _ (λ r. map (useGate i r) (upTo (i .times))) (upTo (i .resources))
-      (from-all _ 1 (i .resources)
-      (λ r _ _. All-map _ (useGate i r) (upTo (i .times)) (All-weaken _ _ (λ t b. use-reads r t b) (upTo (i .times)) (times-within i)))))
+      let P = Reads (primary i + 1) in
+      All-map P (ItemReads (primary i + 1)) gate (λ g h. h) (uses i)
+      (All-flatMap (λ _. Unit {0}) P (λ r. map (useGate i r) (upTo (i .times)))
+      (λ r _. All-map _ P (useGate i r) (use-reads r) (upTo (i .times)) (times-within i)) (upTo (i .resources))
+      (from-all _ 1 (i .resources) (λ r a b. tt)))
 
   pub formula-order : ValidInstance i → Ordered (primary i + 1) (formula i)
   formula-order v =
       let n = primary i + 1 in
       let end = atomsEnd i in
       let rs = rulesItems (num i) (allRules i) end in
-      let valid = All-weaken _ _ (λ r. ValidRule-weaken (InRange i) (Below (num i) end) atom-below (r .1)) (allRules i) (allRules-valid i v) in
+      let valid = allRules-valid i v (Below (num i) end) atom-below in
       rw formula-parts
       (Ordered-append n (starts i) (map gate (uses i) ++ rs) (Ordered-all n n (starts i) (le-refl n) starts-reads)
       (rw (gates-starts, add-zero)

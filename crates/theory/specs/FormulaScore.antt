@@ -19,7 +19,7 @@ use Rattle.theory.specs.Gates.{lit-pos, lit-neg, clause-append, clause-a
 use Rattle.theory.specs.Circuit.{Holds}
 use Rattle.theory.specs.Extension.{bit-append}
 use Rattle.theory.specs.Costs.{Scores, Scores-same, Scores-append, Scores-gates, Scores-flatMap}
-use Rattle.theory.specs.Rules.{weighed, Agrees, ValidRule-weaken, rules-score}
+use Rattle.theory.specs.Rules.{weighed, Agrees, rules-score}
 use Rattle.theory.specs.KindRules.{InRange, users-within, times-within, events-within, allRules-valid}
 use Rattle.theory.specs.Charges.{StartsRight, score-hard, score-cost}
 use Rattle.theory.specs.Variables.{place-within, use-holds, atomsEnd, formula-parts, formula-holds}
@@ -112,7 +112,7 @@ module _ (i : Instance) (v : ValidInstance i) (t rest : List ℕ) (size : length
       let rs = rulesItems (num i) (allRules i) (atomsEnd i) in
       let p = formula-holds i ν h in
       let agree = atoms-agree (p .0) in
-      let valid = All-weaken _ _ (λ r. ValidRule-weaken (InRange i) (Agrees (num i) ν τ) agree (r .1)) (allRules i) (allRules-valid i v) in
+      let valid = allRules-valid i v (Agrees (num i) ν τ) agree in
       let s = Scores-gates ν (uses i) rs (rules-score (num i) ν refl τ (allRules i) (atomsEnd i) valid (p .1)) in
       rw (formula-parts, ← score-cost i τ, ← zero-add (weighed τ (allRules i)))
       (Scores-same ν (score-hard i τ (v .events)) (Scores-append ν (starts i) (map gate (uses i) ++ rs) (starts-score i ν τ agree) s))

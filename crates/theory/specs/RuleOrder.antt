@@ -85,7 +85,8 @@ low-reads zero q lo J v a c = go (leb 1 lo) refl
     go true e = ((c lo (leb-true 1 lo e) a, tt), tt)
     go false e = tt
 low-reads (suc w) q lo J v a c =
-    All-map (ItemReads v) (λ j. unit (suc w) (q j)) (from 1 lo) (from-all _ 1 lo (λ j l h. c j l (omega arith)))
+    All-map (λ j. Proper v (q j)) (ItemReads v) (λ j. unit (suc w) (q j)) (λ j h. h) (from 1 lo)
+    (from-all _ 1 lo (λ j l h. c j l (omega arith)))
 
 high-reads : (w : ℕ) (q : ℕ → ℕ) (hi n v : ℕ) → hi ≤ n → RowProper (columns w hi n) q v → All (ItemReads v) (highUnits w q hi n)
 unfolding highUnits
@@ -95,8 +96,8 @@ high-reads zero q hi n v a c = go (ltb hi n) refl
     go true e = ((opp-proper v (q (hi + 1)) (c (hi + 1) (omega arith) (omega (arith, ltb-true hi n e))), tt), tt)
     go false e = tt
 high-reads (suc w) q hi n v a c =
-    All-map (ItemReads v) (λ j. unit (suc w) (opp (q j))) (from (hi + 1) (n - hi))
-    (from-all _ (hi + 1) (n - hi) (λ j l h. opp-proper v (q j) (c j (omega arith) (omega arith))))
+    All-map (λ j. Proper v (q j)) (ItemReads v) (λ j. unit (suc w) (opp (q j))) (λ j. opp-proper v (q j)) (from (hi + 1) (n - hi))
+    (from-all _ (hi + 1) (n - hi) (λ j l h. c j (omega arith) (omega arith)))
 
 short-order : (w : ℕ) (q : ℕ → ℕ) (j k v : ℕ) → 1 ≤ v → 1 ≤ j → (0 < k → RowProper (j + k - 1) q v) → Ordered v (shortUnits w q j k v)
 unfolding shortUnits
@@ -135,7 +136,7 @@ count-order w r xs v p a b h =
     let J = columns w (r .hi) n in
     let e = columns-rows w (r .hi) n in
     let c = rw length-map at (lastRow-proper (ones xs) J v p (rw length-map e)) in
-    Ordered-gates v (counter noRow (ones xs) J v) _ (counter-order (ones xs) J v p (All-map _ (λ x. (1, x)) xs h))
+    Ordered-gates v (counter noRow (ones xs) J v) _ (counter-order (ones xs) J v p (All-map _ _ (λ x. (1, x)) (λ x p. p) xs h))
     (rw (length-counter, length-map) (bounds-order w r (lastRow noRow (ones xs) J v) n (v + n * J) (omega arith) a b c))
 
 -- where the literals of atoms are of variables before m
@@ -144,7 +145,7 @@ module _ (num : Atom → ℕ) (m : ℕ) where
   Below a = Proper m (num a)
 
   below-map : (xs : List Atom) (v : ℕ) → m ≤ v → All Below xs → All (Proper v) (map num xs)
-  below-map xs v h a = All-map (Proper v) num xs (All-weaken Below (λ x. Proper v (num x)) (λ x. proper-up m v (num x) h) xs a)
+  below-map xs v h a = All-map Below (Proper v) num (λ x. proper-up m v (num x) h) xs a
 
   entry-order : (x : Entry) (v : ℕ) → 1 ≤ m → m ≤ v → Atoms Below x → Ordered v (map gate (entryGates num x v))
   entry-order (atom a) v p h g = tt
