@@ -14,6 +14,7 @@ bool-ext true b h = sym (h .0 refl)
 bool-ext false true h = h .1 refl
 bool-ext false false h = refl
 
+-- the test of equality says whether they are equal
 pub beq-iff : (a b : Bool) → Bool·beq a b ≡ true ↔ a ≡ b
 beq-iff true true = (λ _. refl, λ _. refl)
 beq-iff true false = (sym, sym)
@@ -25,6 +26,7 @@ pub leb-same : (a b c d : ℕ) → (a ≤ b ↔ c ≤ d) → leb a b ≡ leb c d
 leb-same a b c d h =
     bool-ext (leb a b) (leb c d) (λ e. le-leb c d (h .0 (leb-true a b e)), λ e. le-leb a b (h .1 (leb-true c d e)))
 
+-- something found is not nothing
 pub some≢none : {A : Type 0} {a : A} → some a ≡ none → ⊥
 some≢none e = let z : _≡_ {A = ℕ} 0 1 = cc in omega arith
 

@@ -1,5 +1,5 @@
 -- Lists: a predicate at every element, maps, and elements by their place.
-use mathlib.Core.Path.{_≡_, refl, sym, ap, ap₂, _∙_}
+use mathlib.Core.Path.{_≡_, refl, sym, ap, _∙_}
 use mathlib.Core.List.{List, [], _∷_, _++_, map, flatMap}
 use Prim.Native.Nat.{ℕ, zero, suc, _+_, _*_, _<_}
 use native.Mathlib.Nat.{zero-mul, zero-add, suc-mul}
@@ -13,6 +13,7 @@ All P [] = Unit {0}
 All P (x ∷ xs) = P x × All P xs
 
 module _ {A : Type 0} (P : A → Type 0) where
+  -- one list after another: together, and taken apart
   pub All-append : (xs ys : List A) → All P xs → All P ys → All P (xs ++ ys)
   All-append [] ys a b = b
   All-append (x ∷ xs) ys a b = (a .0, All-append xs ys (a .1) b)
@@ -21,6 +22,7 @@ module _ {A : Type 0} (P : A → Type 0) where
   All-split [] ys h = (tt, h)
   All-split (x ∷ xs) ys h = let p = All-split xs ys (h .1) in ((h .0, p .0), p .1)
 
+  -- a first and a last part
   pub All-take : (n : ℕ) (xs : List A) → All P xs → All P (take n xs)
   All-take zero xs h = tt
   All-take (suc n) [] h = tt
@@ -37,15 +39,18 @@ module _ {A : Type 0} (P : A → Type 0) where
   All-at d (x ∷ xs) zero l h = h .0
   All-at d (x ∷ xs) (suc k) l h = All-at d xs k (omega arith) (h .1)
 
+  -- and past the end, where the default has it
   pub All-everywhere : (d : A) → P d → (xs : List A) → All P xs → (k : ℕ) → P (getD xs k d)
   All-everywhere d p [] h k = p
   All-everywhere d p (x ∷ xs) h zero = h .0
   All-everywhere d p (x ∷ xs) h (suc k) = All-everywhere d p xs (h .1) k
 
+  -- what holds at each place holds of each element
   pub All-places : (d : A) (xs : List A) → ((k : ℕ) → k < length xs → P (getD xs k d)) → All P xs
   All-places d [] h = tt
   All-places d (x ∷ xs) h = (h 0 (omega arith), All-places d xs (λ k l. h (suc k) (omega arith)))
 
+-- a weaker predicate
 pub All-weaken : {A : Type 0} (P Q : A → Type 0) → ((x : A) → P x → Q x) → (xs : List A) → All P xs → All Q xs
 All-weaken P Q f [] h = tt
 All-weaken P Q f (x ∷ xs) h = (f x (h .0), All-weaken P Q f xs (h .1))
@@ -63,13 +68,10 @@ module _ {A B : Type 0} where
   All-flatMap P Q f step [] h = tt
   All-flatMap P Q f step (x ∷ xs) h = All-append Q (f x) (flatMap f xs) (step x (h .0)) (All-flatMap P Q f step xs (h .1))
 
+  -- a map of one list after another
   pub map-append : (f : A → B) (xs ys : List A) → map f (xs ++ ys) ≡ map f xs ++ map f ys
   map-append f [] ys = refl
   map-append f (x ∷ xs) ys = ap (λ zs. f x ∷ zs) (map-append f xs ys)
-
-  pub map-equal : (f g : A → B) (xs : List A) → All (λ x. f x ≡ g x) xs → map f xs ≡ map g xs
-  map-equal f g [] h = refl
-  map-equal f g (x ∷ xs) h = ap₂ (λ y ys. y ∷ ys) (h .0) (map-equal f g xs (h .1))
 
   -- rows of the length n, one after the other: their length together, and element t of row r
   module _ (f : A → List B) (n : ℕ) (rows : (x : A) → length (f x) ≡ n) where

@@ -65,6 +65,7 @@ pub record ValidInstance (i : Instance) : Type 0 where
 any-number : (s : List ℕ) (at : ℕ) → Gives (λ v. Unit {0}) (number s at)
 any-number s at = record { known = λ v next e. tt }
 
+-- a number within its limits
 pub gives-limited : (lo hi : ℕ) (s : List ℕ) (at : ℕ) → Gives (Within lo hi) (limited lo hi s at)
 unfolding limited
 gives-limited lo hi s at =
@@ -73,6 +74,7 @@ gives-limited lo hi s at =
     gives-unless (leb lo v) 2 at
     (λ a. gives-unless (leb v hi) 2 at (λ b. gives-value (record { low = leb-true lo v a; high = leb-true v hi b }))))
 
+-- a reference to one of n things, above the one before it
 pub gives-reference : (before n : ℕ) (s : List ℕ) (at : ℕ) → Gives (Within (suc before) n) (reference before n s at)
 unfolding reference
 gives-reference before n s at =
@@ -81,6 +83,7 @@ gives-reference before n s at =
     gives-unless (ltb before v) 3 at
     (λ a. gives-unless (leb v n) 3 at (λ b. gives-value (record { low = ltb-true before v a; high = leb-true v n b }))))
 
+-- so many references, ascending
 gives-references : (k before n : ℕ) (s : List ℕ) (at : ℕ) → Gives (Ascending before n) (references k before n s at)
 unfolding references
 gives-references zero before n s at = gives-value tt
@@ -88,10 +91,12 @@ gives-references (suc k) before n s at =
     gives-andThen (gives-reference before n s at)
     (λ v next a. gives-cons v (gives-references k v n s next) (λ vs b. (a, b)))
 
+-- a list of references
 pub gives-listed : (n : ℕ) (s : List ℕ) (at : ℕ) → Gives (Ascending 0 n) (listed n s at)
 unfolding listed
 gives-listed n s at = gives-andThen (gives-limited 0 n s at) (λ count next _. gives-references count 0 n s next)
 
+-- an event
 pub gives-event : (T R : ℕ) (s : List ℕ) (at : ℕ) → Gives (ValidEvent T R) (eventAt T R s at)
 unfolding eventAt
 gives-event T R s at =
@@ -165,6 +170,7 @@ module _ (n : Counts) (s : List ℕ) (at : ℕ) where
       (gives-either (eqb k 7) (gives-overGroups cluster (λ r hs lo hi a b c. (a, b, c)))
       (gives-overGroups idle (λ r hs lo hi a b c. (a, b, c)))))))))
 
+-- a constraint, with the checks at its end
 pub gives-constraint : (T R : ℕ) (es : List Event) (gs : List (List ℕ)) (s : List ℕ) (at : ℕ)
     → Gives (ValidConstraint T R es gs) (constraintAt T R es gs s at)
 unfolding constraintAt ended
@@ -215,7 +221,9 @@ gives-counted : {A : Type 0} {P : A → Type 0} {f : ℕ → Parsed A} → ((at 
 gives-counted h most s at =
     gives-andThen (gives-limited 0 most s at)
     (λ count next w.
-    record { known = λ xs end e. let m = gives-repeat h count next .known xs end e in record { count = rw (m .count) w; each = m .each } })
+    record {
+      known = λ xs end e. let m = gives-repeat h count next .known xs end e in record { count = rw (m .count) w; each = m .each };
+    })
 
 gives-groups : (T : ℕ) (s : List ℕ) (at : ℕ) → Gives (Counted (Ascending 0 T) 1024) (groupsAt T s at)
 unfolding groupsAt
@@ -226,6 +234,7 @@ gives-constraints : (T R : ℕ) (es : List Event) (gs : List (List ℕ)) (s : Li
 unfolding constraintsAt
 gives-constraints T R es gs s at = gives-counted (gives-constraint T R es gs s) 4096 s at
 
+-- the whole file
 pub gives-instance : (s : List ℕ) → Gives ValidInstance (parse s)
 unfolding parse
 gives-instance s =
@@ -259,8 +268,11 @@ accepted-valid file i a = gives-instance file .known i (a .end) (a .parsed)
 pub ascending-within : (before n : ℕ) (xs : List ℕ) → Ascending before n xs → All (Within (suc before) n) xs
 ascending-within before n [] h = tt
 ascending-within before n (x ∷ xs) h =
-    (h .0, All-weaken (Within (suc x) n) (Within (suc before) n) (λ y w. record { low = omega (arith, h .0 .low, w .low); high = w .high }) xs (ascending-within x n xs (h .1)))
+    let above : (y : ℕ) → Within (suc x) n y → Within (suc before) n y =
+    λ y w. record { low = omega (arith, h .0 .low, w .low); high = w .high } in
+    (h .0, All-weaken (Within (suc x) n) (Within (suc before) n) above xs (ascending-within x n xs (h .1)))
 
+-- and there are at most as many as things above the number before
 pub ascending-length : (before n : ℕ) (xs : List ℕ) → before ≤ n → Ascending before n xs → before + length xs ≤ n
 ascending-length before n [] l h = omega arith
 ascending-length before n (x ∷ xs) l h = omega (arith, h .0 .low, ascending-length x n xs (h .0 .high) (h .1))
@@ -269,4 +281,5 @@ ascending-length before n (x ∷ xs) l h = omega (arith, h .0 .low, ascending-le
 pub group-within : (i : Instance) → ValidInstance i → (g : ℕ) → Within 1 (length (i .groups)) g
     → All (Within 1 (i .times)) (groupAt (i .groups) g)
 group-within i v g w =
-    ascending-within 0 (i .times) (groupAt (i .groups) g) (All-at (Ascending 0 (i .times)) [] (i .groups) (g - 1) (omega (arith, w .low, w .high)) (v .groups))
+    ascending-within 0 (i .times) (groupAt (i .groups) g)
+    (All-at (Ascending 0 (i .times)) [] (i .groups) (g - 1) (omega (arith, w .low, w .high)) (v .groups))

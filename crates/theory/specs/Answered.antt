@@ -16,6 +16,7 @@ use Rattle.scope.specs.Cnf.{Assignment, clause, clauses}
 use Rattle.scope.specs.Score.{firstAbove, unlessFound, ofBytes}
 use Rattle.scope.specs.Operations.{lowestFalse}
 
+-- equal answers have equal values
 pub answered-value : {A : Type 0} {x y : A} → answered x ≡ answered y → x ≡ y
 answered-value e = cc
 
@@ -23,7 +24,9 @@ module _ {A : Type 0} {x : A} where
   refusal≢answered : {k v : ℕ} → refusal k v ≡ answered x → ⊥
   refusal≢answered e = let z : _≡_ {A = ℕ} 0 1 = cc in omega arith
 
-  pub provided-answers : (test : Bool) (k v : ℕ) (a : Answer A) → (provided test k v a ≡ answered x) ↔ ((test ≡ true) × (a ≡ answered x))
+  -- a check that refuses unless a test holds; one that refuses what it finds
+  pub provided-answers : (test : Bool) (k v : ℕ) (a : Answer A)
+      → (provided test k v a ≡ answered x) ↔ ((test ≡ true) × (a ≡ answered x))
   provided-answers true k v a = (λ e. (refl, e), λ h. h .1)
   provided-answers false k v a =
       (λ e. absurd (refusal≢answered e), λ h. let z : _≡_ {A = ℕ} 0 1 = cc (h .0) in let f : ⊥ = omega arith in absurd f)

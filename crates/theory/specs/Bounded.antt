@@ -26,13 +26,15 @@ module _ (i : Instance) (v : ValidInstance i) (B : ℕ) where
   unfolding variables
   tail-start = omega arith
 
+  -- the formula with its tail reads earlier variables only
   pub bounded-order : Ordered (primary i + 1) (bounded i B)
   unfolding bounded softOf
   bounded-order =
       let o = formula-order i v in
       let us = negated (softOf i) in
+      let l = rw tail-start at (soft-literals (primary i + 1) (formula i) o) in
       Ordered-append (primary i + 1) (formula i) (tail B us (variables i + 1)) o
-      (rw tail-start (tail-order B us (variables i + 1) (omega arith) (rw tail-start at (soft-literals (primary i + 1) (formula i) o))))
+      (rw tail-start (tail-order B us (variables i + 1) (omega arith) l))
 
   feasible-model : (t : List ℕ) → Feasible i t → objectiveOf i (truth i t) (i .constraints) ≤ B
       → clauses (bit (extended (bounded i B) t)) (boundedHard i B) ≡ true
@@ -51,6 +53,7 @@ module _ (i : Instance) (v : ValidInstance i) (B : ℕ) where
       hard-clauses (bit m) refl n (F ++ L) .1
       (h, Keeps-append (bit m) F L .1 (s .keeps .1 (k .right, k .feasible), b .1 (omega (arith, e))))
 
+-- the model of a timetable whose cost is within the bound
 pub bounded-model : (file : List ℕ) (i : Instance) → Accepted file i → (B : ℕ) (t : List ℕ) (cost : Objective)
     → KeepsHard file t cost → cost .0 ≤ B → (m : List ℕ) × (clauses (bit m) (boundedHard i B) ≡ true)
 bounded-model file i a B t cost k l =

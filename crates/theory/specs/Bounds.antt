@@ -60,7 +60,8 @@ module _ (ν : Assignment) (q : ℕ → ℕ) (c : ℕ) where
       go : (b : Bool) → leb 1 lo ≡ b → Costs ν 0 (cond b (hard (q lo ∷ []) ∷ []) []) (lo - c)
       go true e =
           Costs-hard ν (q lo) (not (leb lo c)) (lo - c) (m lo l ∙ sym (Bool·not-not (leb lo c)))
-          (λ f. omega (arith, leb-false lo c (not-true (leb lo c) f))) (λ f. omega (arith, leb-true lo c (not-false (leb lo c) f)))
+          (λ f. omega (arith, leb-false lo c (not-true (leb lo c) f)))
+          (λ f. omega (arith, leb-true lo c (not-false (leb lo c) f)))
       go false e = let d : lo - c ≡ 0 = omega (arith, leb-false 1 lo e) in rw d (Costs-none ν 0)
   low-costs (suc w) lo J l m =
       let d : 1 + lo - max 1 (suc c) ≡ lo - c = omega arith in
@@ -92,10 +93,12 @@ module _ (ν : Assignment) (q : ℕ → ℕ) (c : ℕ) where
       let is = shortUnits w q (suc j) k (suc v) in
       let b = leb 1 c && not (leb j c) in
       let t = trues (map (λ i. leb 1 c && not (leb i c)) (from (suc j) k)) in
-      let u = lit-neg ν v ∙ ap not (h .0 ∙ ap₂ (λ a b. a && not b) (m (omega arith) 1 (omega arith)) (m (omega arith) j (omega arith))) in
+      let d = m (omega arith) in
+      let u = lit-neg ν v ∙ ap not (h .0 ∙ ap₂ (λ a b. a && not b) (d 1 (omega arith)) (d j (omega arith))) in
+      let more = Holds-unit ν (suc v) w (neg v) is (h .1) in
       Scores-gates ν (short (q 1) (q j) ∷ []) (unit w (neg v) ∷ is)
       (Costs-append ν w (cond b 1 0) t (unit w (neg v) ∷ []) is (Costs-unit ν w (neg v) b u)
-      (short-costs w (suc j) k (suc v) (omega arith) (λ _ i l. m (omega arith) i (omega arith)) (Holds-unit ν (suc v) w (neg v) is (h .1))))
+      (short-costs w (suc j) k (suc v) (omega arith) (λ _ i l. d i (omega arith)) more))
 
   -- the bounds of a rule over n literals
   bounds-cost : (w : ℕ) (r : Rule) (n v : ℕ) → r .lo ≤ r .hi → r .hi ≤ n → c ≤ n → Counts ν (columns w (r .hi) n) q c
@@ -112,11 +115,12 @@ module _ (ν : Assignment) (q : ℕ → ℕ) (c : ℕ) where
       go true h =
           rw (zero-free-parts (r .lo) (r .hi) c a)
           (Costs-append ν w (shortfall (r .lo) c) (c - r .hi) _ _
-          (short-costs w 2 (r .lo - 1) v (omega arith) (λ p j l. m j (omega (arith, reach))) (Holds-append ν v (shortUnits w q 2 (r .lo - 1) v) (highUnits w q (r .hi) n) h .0))
-          (high-costs w (r .hi) n b d m))
+          (short-costs w 2 (r .lo - 1) v (omega arith) (λ p j l. m j (omega (arith, reach)))
+          (Holds-append ν v (shortUnits w q 2 (r .lo - 1) v) (highUnits w q (r .hi) n) h .0)) (high-costs w (r .hi) n b d m))
       go false h =
           rw (deviation-parts (r .lo) (r .hi) c a)
-          (Costs-append ν w (r .lo - c) (c - r .hi) _ _ (low-costs w (r .lo) (columns w (r .hi) n) (omega (arith, reach)) m) (high-costs w (r .hi) n b d m))
+          (Costs-append ν w (r .lo - c) (c - r .hi) _ _ (low-costs w (r .lo) (columns w (r .hi) n) (omega (arith, reach)) m)
+          (high-costs w (r .hi) n b d m))
 
 -- the sum that a counter with the weights 1 counts
 total-ones : (ν : Assignment) (xs : List ℕ) → total ν (ones xs) ≡ trues (map (lit ν) xs)

@@ -140,6 +140,7 @@ module _ (i : Instance) (τ : Atom → Bool) where
         λ h. let p = e .1 (h .0) in (p .0, All-append (Kept τ) ds cs (p .1) (c .1 (h .1))),
       )
 
+  -- and the cost
   pub score-cost : weighed τ (allRules i) ≡ objectiveOf i τ (i .constraints)
   score-cost =
       weighed-append (durationRules i 1 (i .events)) (constraintRules i (i .constraints))

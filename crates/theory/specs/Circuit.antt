@@ -24,6 +24,7 @@ Keeps ν (gate g ∷ is) = Keeps ν is
 Keeps ν (hard c ∷ is) = (clause ν c ≡ true) × Keeps ν is
 Keeps ν (soft w l ∷ is) = Keeps ν is
 
+-- the hard clauses, taken apart
 pub hard-clauses : (ν : Assignment) → ν 0 ≡ false → (n : ℕ) (is : List Item)
     → (clauses ν (hardClauses n is) ≡ true) ↔ (Holds ν n is × Keeps ν is)
 unfolding hardClauses clauses
@@ -43,6 +44,7 @@ hard-clauses ν z n (soft w l ∷ is) = hard-clauses ν z n is
 
 -- items one after the other
 
+-- the number of gates of items one after the other; of gates alone
 pub gates-append : (is js : List Item) → gates (is ++ js) ≡ gates is + gates js
 gates-append [] js = sym (zero-add (gates js))
 gates-append (gate g ∷ is) js = ap suc (gates-append is js) ∙ sym (suc-add (gates is) (gates js))
@@ -59,7 +61,9 @@ unfolding flatMap
 gates-none f h [] = refl
 gates-none f h (x ∷ xs) = rw (gates-append, h x, gates-none f h xs)
 
-pub hardClauses-append : (n : ℕ) (is js : List Item) → hardClauses n (is ++ js) ≡ hardClauses n is ++ hardClauses (n + gates is) js
+-- the clauses of items one after the other
+pub hardClauses-append : (n : ℕ) (is js : List Item)
+    → hardClauses n (is ++ js) ≡ hardClauses n is ++ hardClauses (n + gates is) js
 unfolding hardClauses
 hardClauses-append n [] js = rw add-zero
 hardClauses-append n (gate g ∷ is) js = rw (hardClauses-append (suc n) is js, add-suc, suc-add, append-assoc)
@@ -67,6 +71,7 @@ hardClauses-append n (hard c ∷ is) js = ap (λ cs. c ∷ cs) (hardClauses-appe
 hardClauses-append n (soft w l ∷ is) js = hardClauses-append n is js
 
 module _ (ν : Assignment) where
+  -- gates that hold, and clauses that are true, of items one after the other
   pub Holds-append : (n : ℕ) (is js : List Item) → Holds ν n (is ++ js) → Holds ν n is × Holds ν (n + gates is) js
   Holds-append n [] js h = (tt, rw add-zero h)
   Holds-append n (gate g ∷ is) js h =

@@ -21,6 +21,7 @@ pub record Scores (ν : Assignment) (is : List Item) (fact : Type 0) (cost : ℕ
 abbrev pub Costs : Assignment → ℕ → List Item → ℕ → Type 0
 Costs ν w is d = Scores ν is (w ≡ 0 → d ≡ 0) (w * d)
 
+-- the soft units of items one after the other
 pub softUnits-append : (is js : List Item) → softUnits (is ++ js) ≡ softUnits is ++ softUnits js
 unfolding softUnits
 softUnits-append [] js = refl
@@ -34,6 +35,7 @@ module _ (ν : Assignment) where
   falsified-append [] vs = sym (zero-add (falsified ν vs))
   falsified-append (u ∷ us) vs = rw (falsified-append us vs, add-assoc)
 
+  -- the same part by an equivalent fact; no items; parts one after the other
   pub Scores-same : {is : List Item} {P Q : Type 0} {a : ℕ} → (P ↔ Q) → Scores ν is P a → Scores ν is Q a
   Scores-same h s = record { keeps = Iff·trans (s .keeps) h; costs = s .costs }
 
@@ -63,15 +65,18 @@ module _ (ν : Assignment) where
   Scores-flatMap P f [] h = Scores-none
   Scores-flatMap P f (x ∷ xs) h = Scores-append (f x) (flatMap f xs) (h .0) (Scores-flatMap P f xs (h .1))
 
+  -- no items; parts of one weight one after the other
   pub Costs-none : (w : ℕ) → Costs ν w [] 0
   unfolding softUnits falsified
   Costs-none w = record { keeps = (λ _ _. refl, λ _. tt); costs = sym (mul-zero w) }
 
   pub Costs-append : (w a b : ℕ) (is js : List Item) → Costs ν w is a → Costs ν w js b → Costs ν w (is ++ js) (a + b)
   Costs-append w a b is js s t =
-      rw mul-add
-      (Scores-same (λ p e. omega (arith, p .0 e, p .1 e), λ p. (λ e. omega (arith, p e), λ e. omega (arith, p e))) (Scores-append is js s t))
+      let both : ((w ≡ 0 → a ≡ 0) × (w ≡ 0 → b ≡ 0)) ↔ (w ≡ 0 → a + b ≡ 0) =
+      (λ p e. omega (arith, p .0 e, p .1 e), λ p. (λ e. omega (arith, p e), λ e. omega (arith, p e))) in
+      rw mul-add (Scores-same both (Scores-append is js s t))
 
+  -- a unit clause is its literal
   pub clause-unit : (l : ℕ) → clause ν (l ∷ []) ≡ lit ν l
   unfolding clause
   clause-unit l = or-false (lit ν l)
@@ -95,13 +100,15 @@ module _ (ν : Assignment) where
   unfolding softUnits falsified
   Costs-unit zero l true e = Costs-hard l true 1 e (λ _. omega arith) (λ x. absurd (true≢false x))
   Costs-unit zero l false e = Costs-hard l false 0 e (λ x. absurd (true≢false (sym x))) (λ _. refl)
-  Costs-unit (suc w) l true e = record { keeps = (λ k d. let x : ⊥ = omega arith in absurd x, λ p. tt); costs = rw e (omega arith) }
+  Costs-unit (suc w) l true e =
+      record { keeps = (λ k d. let x : ⊥ = omega arith in absurd x, λ p. tt); costs = rw e (omega arith) }
   Costs-unit (suc w) l false e = record { keeps = (λ k d. refl, λ p. tt); costs = rw e (omega arith) }
 
+  -- units, one for each of some columns
   pub Costs-units : (w : ℕ) (f : ℕ → ℕ) (b : ℕ → Bool) (xs : List ℕ) → All (λ i. lit ν (f i) ≡ not (b i)) xs
       → Costs ν w (map (λ i. unit w (f i)) xs) (trues (map b xs))
   unfolding trues
   Costs-units w f b [] h = Costs-none w
   Costs-units w f b (x ∷ xs) h =
-      Costs-append w (cond (b x) 1 0) (trues (map b xs)) (unit w (f x) ∷ []) (map (λ i. unit w (f i)) xs) (Costs-unit w (f x) (b x) (h .0))
-      (Costs-units w f b xs (h .1))
+      Costs-append w (cond (b x) 1 0) (trues (map b xs)) (unit w (f x) ∷ []) (map (λ i. unit w (f i)) xs)
+      (Costs-unit w (f x) (b x) (h .0)) (Costs-units w f b xs (h .1))

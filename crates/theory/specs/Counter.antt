@@ -23,6 +23,7 @@ unfoldable pub total : Assignment → List (ℕ × ℕ) → ℕ
 total ν [] = 0
 total ν (x ∷ xs) = cond (lit ν (x .1)) (x .0) 0 + total ν xs
 
+-- how many gates a row and a counter have
 pub length-row : (p : ℕ → ℕ) (w x j k : ℕ) → length (row p w x j k) ≡ k
 unfolding row
 length-row p w x j zero = refl
@@ -43,6 +44,7 @@ rowOf-step : (p : ℕ → ℕ) (J v i : ℕ) → rowOf (rowAt v) J (v + J) i ≡
 rowOf-step p J v zero = rw (zero-mul, add-zero)
 rowOf-step p J v (suc i) = let e : v + J + i * J ≡ v + suc i * J = omega arith in rw e
 
+-- the last row is the row of the last literal
 pub lastRow-row : (p : ℕ → ℕ) (xs : List (ℕ × ℕ)) (J v : ℕ) → lastRow p xs J v ≡ rowOf p J v (length xs)
 unfolding lastRow
 lastRow-row p [] J v = refl
@@ -102,7 +104,8 @@ module _ (ν : Assignment) (z : ν 0 ≡ false) where
   counter-rows (suc i) (x ∷ xs) p J v s l m h =
       let q = split-rows p x xs J v h in
       let a = row-counts p (x .0) (x .1) J v s m (q .0) in
-      rw (← rowOf-step p J v i, ← add-assoc) (counter-rows i xs (rowAt v) J (v + J) (s + cond (lit ν (x .1)) (x .0) 0) (omega arith) a (q .1))
+      rw (← rowOf-step p J v i, ← add-assoc)
+      (counter-rows i xs (rowAt v) J (v + J) (s + cond (lit ν (x .1)) (x .0) 0) (omega arith) a (q .1))
 
   -- the last row counts the whole sum
   pub counter-counts : (xs : List (ℕ × ℕ)) (J v : ℕ) → Holds ν v (map gate (counter noRow xs J v))

@@ -61,6 +61,7 @@ length-snoc m b = simp length-append (omega arith)
 abbrev pub extended : List Item → List ℕ → List ℕ
 extended is m = m ++ outputs is m
 
+-- at the extension each gate holds
 pub extended-holds : (is : List Item) (m : List ℕ) (v : ℕ) → suc (length m) ≡ v → Ordered v is → Holds (bit (extended is m)) v is
 unfolding outputs
 extended-holds [] m v e w = tt
@@ -74,8 +75,8 @@ extended-holds (gate g ∷ is) m v e w =
 extended-holds (hard c ∷ is) m v e w = extended-holds is m v e (w .1)
 extended-holds (soft x l ∷ is) m v e w = extended-holds is m v e (w .1)
 
-outputs-only : (is : List Item) (m r : List ℕ) (v : ℕ) → suc (length m) ≡ v → Ordered v is → length r ≡ gates is → All (λ b. b ≤ 1) r
-    → Holds (bit (m ++ r)) v is → r ≡ outputs is m
+outputs-only : (is : List Item) (m r : List ℕ) (v : ℕ) → suc (length m) ≡ v → Ordered v is → length r ≡ gates is
+    → All (λ b. b ≤ 1) r → Holds (bit (m ++ r)) v is → r ≡ outputs is m
 unfolding outputs
 outputs-only [] m [] v e w n a h = refl
 outputs-only [] m (b ∷ r) v e w n a h = let f : ⊥ = omega arith in absurd f
@@ -83,7 +84,8 @@ outputs-only (gate g ∷ is) m [] v e w n a h = let f : ⊥ = omega arith in abs
 outputs-only (gate g ∷ is) m (b ∷ r) v e w n a h =
     let s = value-agrees (bit m) (bit (m ++ b ∷ r)) v (λ u l. bit-append m (b ∷ r) u (omega arith)) g (w .0) in
     let c : b ≡ byte (value (bit m) g) = byte-eqb b (a .0) ∙ ap byte (sym (bit-next m b r v e) ∙ h .0 ∙ sym s) in
-    let ih = outputs-only is (m ++ b ∷ []) r (suc v) (omega (arith, length-snoc m b)) (w .1) (omega arith) (a .1) (rw append-snoc (h .1)) in
+    let l : suc (length (m ++ b ∷ [])) ≡ suc v = omega (arith, length-snoc m b) in
+    let ih = outputs-only is (m ++ b ∷ []) r (suc v) l (w .1) (omega arith) (a .1) (rw append-snoc (h .1)) in
     cc (c, ih)
 outputs-only (hard c ∷ is) m r v e w n a h = outputs-only is m r v e (w .1) n a h
 outputs-only (soft x l ∷ is) m r v e w n a h = outputs-only is m r v e (w .1) n a h
@@ -94,8 +96,8 @@ pub extended-only : (is : List Item) (m : List ℕ) (n : ℕ) → Ordered (n + 1
 extended-only is m n w l a h =
     let s = take-append-drop n m in
     let t = length-take-le n m (omega arith) in
-    let o =
-    outputs-only is (take n m) (drop n m) (n + 1) (omega (arith, t)) w (simp length-drop (omega arith)) (All-drop (λ b. b ≤ 1) n m a) (rw s h) in
+    let d : length (drop n m) ≡ gates is = simp length-drop (omega arith) in
+    let o = outputs-only is (take n m) (drop n m) (n + 1) (omega (arith, t)) w d (All-drop (λ b. b ≤ 1) n m a) (rw s h) in
     cc (s, o)
 
 length-outputs : (is : List Item) (m : List ℕ) → length (outputs is m) ≡ gates is
@@ -105,6 +107,7 @@ length-outputs (gate g ∷ is) m = ap suc (length-outputs is (m ++ byte (value (
 length-outputs (hard c ∷ is) m = length-outputs is m
 length-outputs (soft v l ∷ is) m = length-outputs is m
 
+-- its length, and its bytes
 pub length-extended : (is : List Item) (m : List ℕ) → length (extended is m) ≡ length m + gates is
 length-extended is m = length-append m (outputs is m) ∙ ap (λ n. length m + n) (length-outputs is m)
 

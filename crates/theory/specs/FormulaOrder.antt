@@ -7,8 +7,8 @@ use lib.ListN.{length}
 use Rattle.laws.specs.Lists.{All, All-append, All-map, All-flatMap}
 use Rattle.scope.specs.Kinds.{Atom, Y, S, X, upTo, users}
 use Rattle.scope.specs.Instance.{Instance}
-use Rattle.scope.specs.Cnf.{gate}
-use Rattle.scope.specs.Score.{eventCount}
+use Rattle.scope.specs.Cnf.{neg, gate}
+use Rattle.scope.specs.Score.{eventCount, var}
 use Rattle.scope.specs.Formula.{num, yBefore, startItems, starts, uses, rulesItems, allRules, primary, formula}
 use Rattle.theory.specs.Accepted.{Within, ValidInstance}
 use Rattle.theory.specs.Order.{Proper, Reads, ItemReads, Ordered, Ordered-append, Ordered-gates, Ordered-all}
@@ -27,18 +27,21 @@ module _ (i : Instance) where
   taken-below : (e t : ℕ) → Within 1 (length (i .events)) e → Within 1 (i .times) t → Proper (primary i + 1) (num i (Y e t))
   taken-below e t a b = let w = place-within e t (eventCount i) (i .times) a b in omega (arith, w .low, w .high)
 
-  before-below : (e t : ℕ) → Within 1 (length (i .events)) e → Within 1 (i .times) t → All (Proper (primary i + 1)) (yBefore i e t)
+  before-below : (e t : ℕ) → Within 1 (length (i .events)) e → Within 1 (i .times) t
+      → All (Proper (primary i + 1)) (yBefore i e t)
   before-below e zero a b = tt
   before-below e (suc zero) a b = tt
   before-below e (suc (suc t)) a b = (taken-below e (suc t) a (record { low = omega arith; high = omega (arith, b .high) }), tt)
 
-  start-reads : (e t : ℕ) → Within 1 (length (i .events)) e → Within 1 (i .times) t → All (ItemReads (primary i + 1)) (startItems i e t)
+  start-reads : (e t : ℕ) → Within 1 (length (i .events)) e → Within 1 (i .times) t
+      → All (ItemReads (primary i + 1)) (startItems i e t)
   start-reads e t a b =
       let w = place-within e t (eventCount i) (i .times) a b in
-      let y = taken-below e t a b in (
-        (y, (omega (arith, w .low, w .high), tt)),
-        (All-append _ (yBefore i e t) _ (before-below e t a b) (omega (arith, w .low, w .high), (omega (arith, w .low, w .high), tt)), tt),
-      )
+      let y = taken-below e t a b in
+      let not-y : Proper (primary i + 1) (neg (var i (Y e t))) = omega (arith, w .low, w .high) in
+      let s : Proper (primary i + 1) (num i (S e t)) = omega (arith, w .low, w .high) in
+      let not-s : Proper (primary i + 1) (neg (var i (S e t))) = omega (arith, w .low, w .high) in
+      ((y, (not-s, tt)), (All-append _ (yBefore i e t) _ (before-below e t a b) (not-y, (s, tt)), tt))
 
   starts-reads : All (ItemReads (primary i + 1)) (starts i)
   unfolding starts
@@ -50,7 +53,8 @@ module _ (i : Instance) where
 
   use-reads : (r t : ℕ) → Within 1 (i .times) t → Reads (primary i + 1) (useGate i r t)
   use-reads r t b =
-      All-map _ (Proper (primary i + 1)) (λ e. num i (Y e t)) (λ e a. taken-below e t a b) (users r (i .events)) (users-within i r)
+      All-map _ (Proper (primary i + 1)) (λ e. num i (Y e t)) (λ e a. taken-below e t a b) (users r (i .events))
+      (users-within i r)
 
   uses-read : All (ItemReads (primary i + 1)) (map gate (uses i))
   unfolding uses
@@ -61,6 +65,7 @@ module _ (i : Instance) where
       (λ r _. All-map _ P (useGate i r) (use-reads r) (upTo (i .times)) (times-within i)) (upTo (i .resources))
       (from-all _ 1 (i .resources) (λ r a b. tt)))
 
+  -- the whole formula
   pub formula-order : ValidInstance i → Ordered (primary i + 1) (formula i)
   formula-order v =
       let n = primary i + 1 in

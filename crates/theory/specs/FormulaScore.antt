@@ -51,9 +51,10 @@ module _ (i : Instance) (ν : Assignment) (τ : Atom → Bool)
       let first =
       pair-clause (num i (Y e t)) (neg (var i (S e t))) ∙ ap₂ (λ a b. a || b) y not-s
       ∙ taut 2 (λ y s. y || not s) (λ y s. not s || y) tt (τ (Y e t)) (τ (S e t)) in
+      let pair = pair-clause (neg (var i (Y e t))) (num i (S e t)) ∙ ap₂ (λ a b. a || b) not-y s in
       let second =
       clause-append ν (yBefore i e t) (neg (var i (Y e t)) ∷ num i (S e t) ∷ [])
-      ∙ ap₂ (λ a b. a || b) (before-agrees e t a b) (pair-clause (neg (var i (Y e t))) (num i (S e t)) ∙ ap₂ (λ a b. a || b) not-y s)
+      ∙ ap₂ (λ a b. a || b) (before-agrees e t a b) pair
       ∙ taut 3 (λ y s p. p || (not y || s)) (λ y s p. not y || p || s) tt (τ (Y e t)) (τ (S e t)) (takenBefore i τ e t) in
       let both = and-eq-true-iff (not (τ (S e t)) || τ (Y e t)) (not (τ (Y e t)) || takenBefore i τ e t || τ (S e t)) in
       record {
@@ -64,13 +65,15 @@ module _ (i : Instance) (ν : Assignment) (τ : Atom → Bool)
         costs = refl;
       }
 
+  -- the clauses of all starts hold exactly where all starts are right
   pub starts-score : Scores ν (starts i) (All (StartsRight i τ) (upTo (eventCount i))) 0
   unfolding starts
   starts-score =
       Scores-flatMap ν (StartsRight i τ) (λ e. flatMap (startItems i e) (upTo (i .times))) (upTo (eventCount i))
       (All-weaken _ _
       (λ e a.
-      Scores-flatMap ν _ (startItems i e) (upTo (i .times)) (All-weaken _ _ (λ t b. start-score e t a b) (upTo (i .times)) (times-within i)))
+      Scores-flatMap ν _ (startItems i e) (upTo (i .times))
+      (All-weaken _ _ (λ t b. start-score e t a b) (upTo (i .times)) (times-within i)))
       (upTo (eventCount i)) (events-within i))
 
 -- the bytes of a timetable, with more bytes after them
@@ -85,7 +88,8 @@ module _ (i : Instance) (v : ValidInstance i) (t rest : List ℕ) (size : length
   inner : (u : ℕ) → u ≤ primary i → lit ν (2 * u) ≡ bit t u
   inner u h = lit-pos ν u ∙ sym (bit-append t rest u (omega arith))
 
-  taken-agrees : (e s : ℕ) → Within 1 (length (i .events)) e → Within 1 (i .times) s → lit ν (num i (Y e s)) ≡ bit t (var i (Y e s))
+  taken-agrees : (e s : ℕ) → Within 1 (length (i .events)) e → Within 1 (i .times) s
+      → lit ν (num i (Y e s)) ≡ bit t (var i (Y e s))
   taken-agrees e s a b =
       let w = place-within e s (eventCount i) (i .times) a b in
       inner (var i (Y e s)) (omega (arith, w .high))
@@ -115,4 +119,5 @@ module _ (i : Instance) (v : ValidInstance i) (t rest : List ℕ) (size : length
       let valid = allRules-valid i v (Agrees (num i) ν τ) agree in
       let s = Scores-gates ν (uses i) rs (rules-score (num i) ν refl τ (allRules i) (atomsEnd i) valid (p .1)) in
       rw (formula-parts, ← score-cost i τ, ← zero-add (weighed τ (allRules i)))
-      (Scores-same ν (score-hard i τ (v .events)) (Scores-append ν (starts i) (map gate (uses i) ++ rs) (starts-score i ν τ agree) s))
+      (Scores-same ν (score-hard i τ (v .events))
+      (Scores-append ν (starts i) (map gate (uses i) ++ rs) (starts-score i ν τ agree) s))

@@ -1,6 +1,6 @@
 -- A gate's clauses hold exactly where its output has the gate's value. The assignment makes variable 0 false.
 use mathlib.Core.Path.{_≡_, refl, sym, ap, ap₂}
-use mathlib.Core.Bool.{Bool, true, false, not, _&&_, _||_, cond, Bool·beq, Bool·not-not, or-true, and-true}
+use mathlib.Core.Bool.{Bool, true, false, not, _&&_, _||_, cond, Bool·beq, Bool·not-not, or-true, and-true, or-assoc, and-assoc}
 use mathlib.Core.Logic.{_↔_}
 use mathlib.Core.List.{List, [], _∷_, _++_, map}
 use Prim.Native.Nat.{ℕ, zero, suc, _+_, _*_, _/_, _%_}
@@ -48,13 +48,12 @@ module _ (ν : Assignment) where
   pub clause-append : (c d : List ℕ) → clause ν (c ++ d) ≡ clause ν c || clause ν d
   unfolding clause
   clause-append [] d = refl
-  clause-append (l ∷ c) d = rw (clause-append c d) (taut 3 (λ a b c. a || (b || c)) (λ a b c. a || b || c) tt (lit ν l) (clause ν c) (clause ν d))
+  clause-append (l ∷ c) d = rw (clause-append c d) (sym (or-assoc (lit ν l) (clause ν c) (clause ν d)))
 
   pub clauses-append : (c d : List (List ℕ)) → clauses ν (c ++ d) ≡ clauses ν c && clauses ν d
   unfolding clauses
   clauses-append [] d = refl
-  clauses-append (l ∷ c) d =
-      rw (clauses-append c d) (taut 3 (λ a b c. a && (b && c)) (λ a b c. a && b && c) tt (clause ν l) (clauses ν c) (clauses ν d))
+  clauses-append (c ∷ cs) d = rw (clauses-append cs d) (sym (and-assoc (clause ν c) (clauses ν cs) (clauses ν d)))
 
   -- an OR over literals that say what some things are
   pub clause-any : {A : Type 0} (f : A → ℕ) (g : A → Bool) (xs : List A) → All (λ x. lit ν (f x) ≡ g x) xs
@@ -108,7 +107,8 @@ module _ (ν : Assignment) where
         simp (clauses-append, tidy-same, lit-neg, lit-pos, lit-opp)
         (taut 4
         (λ x a b o.
-        (not a || (o || false)) && (not x || (not b || (o || false))) && (x || (a || (not o || false))) && (b || (a || (not o || false))))
+        (not a || (o || false)) && (not x || (not b || (o || false))) && (x || (a || (not o || false)))
+        && (b || (a || (not o || false))))
         (λ x a b o. Bool·beq o (a || x && b)) tt (lit ν x) (lit ν a) (lit ν b) (ν o))
     gate-clauses (idling x g h) o =
         simp (lit-neg, lit-pos, lit-opp)

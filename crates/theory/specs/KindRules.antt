@@ -81,7 +81,8 @@ module _ (i : Instance) (v : ValidInstance i) where
 
   group-atoms : (r g : ℕ) → Within 1 (i .resources) r → Within 1 (length (i .groups)) g
       → All (Atoms (InRange i)) (map atom (usesAt r (groupAt (i .groups) g)))
-  group-atoms r g a b = All-map (InRange i) (Atoms (InRange i)) atom (λ x h. h) (usesAt r (groupAt (i .groups) g)) (group-range r g a b)
+  group-atoms r g a b =
+      All-map (InRange i) (Atoms (InRange i)) atom (λ x h. h) (usesAt r (groupAt (i .groups) g)) (group-range r g a b)
 
   clash-valid : (us : List ℕ) → All (Within 1 (length (i .events))) us
       → All (ValidRule (InRange i)) (map (λ t. between 0 1 (map (λ e. atom (Y e t)) us)) (upTo (i .times)))
@@ -99,17 +100,19 @@ module _ (i : Instance) (v : ValidInstance i) where
   kind-valid (unavailable r g) f a b = one-valid (InRange i) 0 0 false _ a b (group-atoms r g (f .0) (f .1))
   kind-valid (preferred e g) f a b =
       let P = Atoms (InRange i) in
-      let g′ = groupAt (i .groups) g in
+      let members = groupAt (i .groups) g in
+      let times = outside-all _ members (upTo (i .times)) (times-within i) in
       one-valid (InRange i) 0 0 false _ a b
-      (All-map _ P (λ t. atom (Y e t)) (λ t w. (f .0, w)) (outside g′ (upTo (i .times))) (outside-all _ g′ (upTo (i .times)) (times-within i)))
+      (All-map _ P (λ t. atom (Y e t)) (λ t w. (f .0, w)) (outside members (upTo (i .times))) times)
   kind-valid (split e lo hi) f a b =
       one-valid (InRange i) lo hi false _ a b
       (All-map _ (Atoms (InRange i)) (λ t. atom (S e t)) (λ t w. (f .0, w)) (upTo (i .times)) (times-within i))
   kind-valid (spread vs g lo hi) f a b =
       let P = Atoms (InRange i) in
       let ts = groupAt (i .groups) g in
+      let times = group-within i v g (f .1) in
       one-valid (InRange i) lo hi false _ a b
-      (All-flatMap _ P (λ e. startsAt e ts) (λ e x. All-map _ P (λ t. atom (S e t)) (λ t w. (x, w)) ts (group-within i v g (f .1))) vs
+      (All-flatMap _ P (λ e. startsAt e ts) (λ e x. All-map _ P (λ t. atom (S e t)) (λ t w. (x, w)) ts times) vs
       (ascending-within 0 (length (i .events)) vs (f .0)))
   kind-valid (busy r g lo hi) f a b = one-valid (InRange i) lo hi true _ a b (group-atoms r g (f .0) (f .1))
   kind-valid (cluster r hs lo hi) f a b =
@@ -142,7 +145,8 @@ module _ (i : Instance) (v : ValidInstance i) where
   constraints-valid cs h =
       let P : ℕ × Rule → Type 0 = λ r. ValidRule (InRange i) (r .1) in
       All-flatMap _ P (λ c. map (λ r. (c .weight, r)) (rules i c))
-      (λ c w. All-map _ P (λ r. (c .weight, r)) (λ r x. x) (rules i c) (kind-valid (c .kind) (w .fields) (w .bounds) (w .reached))) cs h
+      (λ c w.
+      All-map _ P (λ r. (c .weight, r)) (λ r x. x) (rules i c) (kind-valid (c .kind) (w .fields) (w .bounds) (w .reached))) cs h
 
   -- the durations' rules and the constraints', for what holds of each atom in range
   pub allRules-valid : (P : Atom → Type 0) → ((a : Atom) → InRange i a → P a) → All (λ r. ValidRule P (r .1)) (allRules i)

@@ -45,7 +45,8 @@ module _ (m : ℕ) where
   implied-proper [] o h a = tt
   implied-proper (l ∷ ls) o h a = ((opp-proper m l (a .0), (h, tt)), implied-proper ls o h (a .1))
 
-  cell-proper : (x a b n : ℕ) → 1 ≤ n → n < m → x < 2 * n → a < 2 * n → b < 2 * n → All (All (Proper m)) (gateClauses (cell x a b) n)
+  cell-proper : (x a b n : ℕ) → 1 ≤ n → n < m → x < 2 * n → a < 2 * n → b < 2 * n
+      → All (All (Proper m)) (gateClauses (cell x a b) n)
   unfolding gateClauses
   cell-proper x a b n p h i j k =
       let P = All (Proper m) in
@@ -55,7 +56,8 @@ module _ (m : ℕ) where
       let c4 = b ∷ a ∷ neg n ∷ [] in
       All-append P (tidy c1 ++ tidy c2 ++ tidy c3) (tidy c4)
       (All-append P (tidy c1 ++ tidy c2) (tidy c3)
-      (All-append P (tidy c1) (tidy c2) (tidy-proper c1 (omega arith)) (tidy-proper c2 (omega arith))) (tidy-proper c3 (omega arith)))
+      (All-append P (tidy c1) (tidy c2) (tidy-proper c1 (omega arith)) (tidy-proper c2 (omega arith)))
+      (tidy-proper c3 (omega arith)))
       (tidy-proper c4 (omega arith))
 
   gate-proper : (g : Gate) (n : ℕ) → 1 ≤ n → n < m → Reads n g → All (All (Proper m)) (gateClauses g n)
@@ -79,6 +81,7 @@ module _ (m : ℕ) where
       let D = proper-up n m d (omega arith) (r .1) in
       ((C, (v, tt)), ((opp-proper m d D, (v, tt)), ((opp-proper m c C, (D, (omega arith, tt))), tt)))
 
+  -- the clauses of items in order, whose variables are all before m
   pub hard-literals : (n : ℕ) (is : List Item) → 1 ≤ n → n + gates is ≤ m → Ordered n is → All (All (Proper m)) (hardClauses n is)
   unfolding hardClauses
   hard-literals n [] p h a = tt
@@ -93,7 +96,8 @@ pub formula-literals : (i : Instance) → ValidInstance i → All (All (Proper (
 unfolding variables hardOf
 formula-literals i v = hard-literals (variables i + 1) (primary i + 1) (formula i) (omega arith) (omega arith) (formula-order i v)
 
-pub bounded-literals : (i : Instance) → ValidInstance i → (B : ℕ) → All (All (Proper (boundedVariables i B + 1))) (boundedHard i B)
+pub bounded-literals : (i : Instance) → ValidInstance i → (B : ℕ)
+    → All (All (Proper (boundedVariables i B + 1))) (boundedHard i B)
 unfolding boundedVariables boundedHard
 bounded-literals i v B =
     hard-literals (boundedVariables i B + 1) (primary i + 1) (bounded i B) (omega arith) (omega arith) (bounded-order i v B)

@@ -45,7 +45,9 @@ decodes-models file i a l m x =
           let q = b .0 (p .0 e .1) in
           let r = u .0 (q .2) in
           (record { size = q .0; bytes = All-everywhere (λ b. b ≤ 1) 0 (omega arith) m (q .1); holds = n .0 (r .0) }, r .1),
-      λ h. p .1 (le-leb (variables i) mostVariables l, b .1 (h .0 .size, model-bytes i m (h .0), u .1 (n .1 (h .0 .holds), h .1))),
+      λ h.
+          let shown = u .1 (n .1 (h .0 .holds), h .1) in
+          p .1 (le-leb (variables i) mostVariables l, b .1 (h .0 .size, model-bytes i m (h .0), shown)),
     )
 
 module _ (i : Instance) (v : ValidInstance i) where
@@ -87,11 +89,13 @@ module _ (i : Instance) (v : ValidInstance i) where
 
   part-feasible : (m : List ℕ) → Model i m → Feasible i (part i m)
   part-feasible m k =
-      extended-model (part i m) (part-size m k) (All-take (λ b. b ≤ 1) (primary i) m (model-bytes i m k)) .0 (rw (model-extended m k) at k)
+      let a = All-take (λ b. b ≤ 1) (primary i) m (model-bytes i m k) in
+      extended-model (part i m) (part-size m k) a .0 (rw (model-extended m k) at k)
 
   part-cost : (m : List ℕ) → Model i m → objective i (part i m) ≡ falsifiedSoft i m
   part-cost m k =
-      ap (λ n. record { 0 = n }) (sym (extended-cost (part i m) (part-size m k)) ∙ ap (λ n. falsified (bit n) (softOf i)) (sym (model-extended m k)))
+      let c = extended-cost (part i m) (part-size m k) in
+      ap (λ n. record { 0 = n }) (sym c ∙ ap (λ n. falsified (bit n) (softOf i)) (sym (model-extended m k)))
 
   part-extended : (t : List ℕ) → length t ≡ primary i → part i (extended (formula i) t) ≡ t
   part-extended t l = take-at t (outputs (formula i) t) (primary i) l

@@ -20,6 +20,7 @@ Reads n (cell x a b) = Proper n x × (a < 2 * n) × (b < 2 * n)
 Reads n (idling x g h) = Proper n x × Proper n g × Proper n h
 Reads n (short c d) = Proper n c × Proper n d
 
+-- the literals of an item are of variables before n
 abbrev pub ItemReads : ℕ → Item → Type 0
 ItemReads n (gate g) = Reads n g
 ItemReads n (hard c) = All (Proper n) c
@@ -34,6 +35,7 @@ Ordered n (soft w l ∷ is) = Proper n l × Ordered n is
 
 -- orders one after the other
 
+-- items one after the other; gates, then other items
 pub Ordered-append : (n : ℕ) (is js : List Item) → Ordered n is → Ordered (n + gates is) js → Ordered n (is ++ js)
 Ordered-append n [] js a b = rw add-zero at b
 Ordered-append n (gate g ∷ is) js a b = (a .0, Ordered-append (suc n) is js (a .1) (rw (add-suc, ← suc-add) at b))
@@ -44,6 +46,7 @@ pub Ordered-gates : (n : ℕ) (gs : List Gate) (is : List Item) → Ordered n (m
     → Ordered n (map gate gs ++ is)
 Ordered-gates n gs is a b = Ordered-append n (map gate gs) is a (rw gates-map b)
 
+-- what reads variables before n reads variables before m, for n ≤ m
 pub proper-up : (n m l : ℕ) → n ≤ m → Proper n l → Proper m l
 proper-up n m l h p = record { literal = p .literal; before = omega (arith, p .before) }
 
@@ -55,11 +58,6 @@ reads-up n m (or ls) h r = all-proper-up n m ls h r
 reads-up n m (cell x a b) h r = (proper-up n m x h (r .0), omega (arith, r .1), omega (arith, r .2))
 reads-up n m (idling x a b) h r = (proper-up n m x h (r .0), proper-up n m a h (r .1), proper-up n m b h (r .2))
 reads-up n m (short a b) h r = (proper-up n m a h (r .0), proper-up n m b h (r .1))
-
-item-up : (n m : ℕ) (i : Item) → n ≤ m → ItemReads n i → ItemReads m i
-item-up n m (gate g) h r = reads-up n m g h r
-item-up n m (hard c) h r = all-proper-up n m c h r
-item-up n m (soft w l) h r = proper-up n m l h r
 
 -- items that all read variables before the first of them
 pub Ordered-all : (n m : ℕ) (is : List Item) → n ≤ m → All (ItemReads n) is → Ordered m is

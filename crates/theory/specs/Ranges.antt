@@ -12,6 +12,7 @@ use Rattle.laws.specs.Lists.{All}
 use Rattle.scope.specs.Kinds.{from}
 use Rattle.scope.specs.Score.{trues}
 
+-- how many; each of them; the one at a place
 pub length-from : (n k : ℕ) → length (from n k) ≡ k
 unfolding from
 length-from n zero = refl
@@ -47,6 +48,7 @@ count-upto c n (suc k) = rw (count-upto c (suc n) k) (go (leb n c) refl)
     go true e = omega (arith, leb-true n c e)
     go false e = omega (arith, leb-false n c e)
 
+-- none of them is true
 pub trues-none : (xs : List ℕ) → trues (map (λ i. false) xs) ≡ 0
 unfolding trues
 trues-none [] = refl

@@ -12,6 +12,7 @@ use Rattle.scope.specs.Parsed.{Parsed, got, refused, andThen, unless, cons, rep
 refused≢got : {A : Type 0} {k v next : ℕ} {a : A} → refused k v ≡ got a next → ⊥
 refused≢got e = let z : _≡_ {A = ℕ} 0 1 = cc in omega arith
 
+-- equal readings have equal values
 pub got-value : {A : Type 0} {n m : ℕ} {a b : A} → got a n ≡ got b m → a ≡ b
 got-value e = cc
 
@@ -27,6 +28,7 @@ pub unless-got : {A : Type 0} (test : Bool) (k v : ℕ) (p : Parsed A) {a : A} {
 unless-got true k v p e = (refl, e)
 unless-got false k v p e = absurd (refused≢got e)
 
+-- the rest gave a list
 pub cons-got : {A : Type 0} (a : A) (p : Parsed (List A)) {xs : List A} {end : ℕ} → cons a p ≡ got xs end
     → (ys : List A) × (p ≡ got ys end) × (a ∷ ys ≡ xs)
 cons-got a (got ys next) e = (ys, cc, got-value e)
@@ -36,6 +38,7 @@ cons-got a (refused k v) e = absurd (refused≢got e)
 pub record Gives {A : Type 0} (P : A → Type 0) (p : Parsed A) : Type 0 where
   pub known : (a : A) (next : ℕ) → p ≡ got a next → P a
 
+-- the laws of facts: a value, one reading after another, a test, a list, a choice
 pub gives-value : {A : Type 0} {P : A → Type 0} {a : A} {next : ℕ} → P a → Gives P (got a next)
 gives-value {P = P} h = record { known = λ b next e. subst P (got-value e) h }
 

@@ -18,6 +18,7 @@ use Rattle.theory.specs.Bounds.{columns-reach}
 use Rattle.theory.specs.Ranges.{from-all}
 use Rattle.theory.specs.Rules.{Atoms, ValidRule, length-entryGates, length-listGates, length-listLiterals}
 
+-- the opposite of a literal is one of the same variable
 pub opp-proper : (n l : ℕ) → Proper n l → Proper n (opp l)
 opp-proper n l p = record { literal = omega (arith, p .literal); before = omega (arith, p .before) }
 
@@ -25,7 +26,8 @@ opp-proper n l p = record { literal = omega (arith, p .literal); before = omega 
 abbrev pub Literals : ℕ → List (ℕ × ℕ) → Type 0
 Literals v xs = All (λ x. Proper v (x .1)) xs
 
-row-reads : (p : ℕ → ℕ) (w x j k v : ℕ) → Proper v x → ((i : ℕ) → i < j + k → p i < 2 * v) → All (ItemReads v) (map gate (row p w x j k))
+row-reads : (p : ℕ → ℕ) (w x j k v : ℕ) → Proper v x → ((i : ℕ) → i < j + k → p i < 2 * v)
+    → All (ItemReads v) (map gate (row p w x j k))
 unfolding row
 row-reads p w x j zero v a b = tt
 row-reads p w x j (suc k) v a b =
@@ -46,10 +48,12 @@ rows-order p [] J v a b c = tt
 rows-order p (x ∷ xs) J v a b c =
     let first = row p (x .0) (x .1) 1 J in
     let more = All-weaken _ _ (λ y. proper-up v (v + J) (y .1) (omega arith)) xs (c .1) in
+    let reads = row-reads p (x .0) (x .1) 1 J v (c .0) (λ i h. b i (omega arith)) in
     rw map-append
-    (Ordered-gates v first _ (Ordered-all v v (map gate first) (le-refl v) (row-reads p (x .0) (x .1) 1 J v (c .0) (λ i h. b i (omega arith))))
+    (Ordered-gates v first _ (Ordered-all v v (map gate first) (le-refl v) reads)
     (rw length-row (rows-order (rowAt v) xs J (v + J) (omega arith) (λ j h. rowAt-below v J j a h) more)))
 
+-- a counter whose literals are of variables before its own
 pub counter-order : (xs : List (ℕ × ℕ)) (J v : ℕ) → 1 ≤ v → Literals v xs → Ordered v (map gate (counter noRow xs J v))
 counter-order xs J v a c = rows-order noRow xs J v a (λ j h. noRow-below v j a) c
 
@@ -57,7 +61,9 @@ counter-order xs J v a c = rows-order noRow xs J v a (λ j h. noRow-below v j a)
 abbrev pub RowProper : ℕ → (ℕ → ℕ) → ℕ → Type 0
 RowProper J q n = (j : ℕ) → 1 ≤ j → j ≤ J → Proper n (q j)
 
-pub lastRow-proper : (xs : List (ℕ × ℕ)) (J v : ℕ) → 1 ≤ v → J ≤ length xs * J → RowProper J (lastRow noRow xs J v) (v + length xs * J)
+-- those of a counter's last row, if it has a row
+pub lastRow-proper : (xs : List (ℕ × ℕ)) (J v : ℕ) → 1 ≤ v → J ≤ length xs * J
+    → RowProper J (lastRow noRow xs J v) (v + length xs * J)
 lastRow-proper xs J v a b = rw (lastRow-row noRow xs J v) (go (length xs) b)
   where
     go : (n : ℕ) → J ≤ n * J → RowProper J (rowOf noRow J v n) (v + n * J)
@@ -99,14 +105,16 @@ high-reads (suc w) q hi n v a c =
     All-map (λ j. Proper v (q j)) (ItemReads v) (λ j. unit (suc w) (opp (q j))) (λ j. opp-proper v (q j)) (from (hi + 1) (n - hi))
     (from-all _ (hi + 1) (n - hi) (λ j l h. c j (omega arith) (omega arith)))
 
-short-order : (w : ℕ) (q : ℕ → ℕ) (j k v : ℕ) → 1 ≤ v → 1 ≤ j → (0 < k → RowProper (j + k - 1) q v) → Ordered v (shortUnits w q j k v)
+short-order : (w : ℕ) (q : ℕ → ℕ) (j k v : ℕ) → 1 ≤ v → 1 ≤ j → (0 < k → RowProper (j + k - 1) q v)
+    → Ordered v (shortUnits w q j k v)
 unfolding shortUnits
 short-order w q j zero v p a c = tt
 short-order w q j (suc k) v p a c =
     let more : 0 < k → RowProper (suc j + k - 1) q (suc v) =
     λ _ i l h. proper-up v (suc v) (q i) (omega arith) (c (omega arith) i l (omega arith)) in (
       (c (omega arith) 1 (omega arith) (omega arith), c (omega arith) j a (omega arith)),
-      unit-order (suc v) w (neg v) (shortUnits w q (suc j) k (suc v)) (omega arith) (short-order w q (suc j) k (suc v) (omega arith) (omega arith) more),
+      unit-order (suc v) w (neg v) (shortUnits w q (suc j) k (suc v)) (omega arith)
+          (short-order w q (suc j) k (suc v) (omega arith) (omega arith) more),
     )
 
 bounds-order : (w : ℕ) (r : Rule) (q : ℕ → ℕ) (n v : ℕ) → 1 ≤ v → r .lo ≤ r .hi → r .hi ≤ n → RowProper (columns w (r .hi) n) q v
@@ -126,7 +134,8 @@ bounds-order w r q n v p a b c = go (r .zeroFree)
         (short-order w q 2 (r .lo - 1) v p (omega arith) (λ k j l h. c j l (omega (arith, reach)))) (high _ (omega arith))
     go false =
         Ordered-append v (lowUnits w q (r .lo)) (highUnits w q (r .hi) n)
-        (Ordered-all v v (lowUnits w q (r .lo)) (le-refl v) (low-reads w q (r .lo) (columns w (r .hi) n) v (omega (arith, reach)) c)) (high _ (omega arith))
+        (Ordered-all v v (lowUnits w q (r .lo)) (le-refl v) (low-reads w q (r .lo) (columns w (r .hi) n) v (omega (arith, reach)) c))
+        (high _ (omega arith))
 
 count-order : (w : ℕ) (r : Rule) (xs : List ℕ) (v : ℕ) → 1 ≤ v → r .lo ≤ r .hi → r .hi ≤ length xs → All (Proper v) xs
     → Ordered v (countItems w r xs v)
@@ -185,9 +194,12 @@ module _ (num : Atom → ℕ) (m : ℕ) where
       let n = v + allAdded (r .list) in
       Ordered-gates v (listGates num (r .list) v) _ (list-order (r .list) v p h (g .atoms))
       (rw length-listGates
-      (count-order w r xs n (omega arith) (g .order) (rw length-listLiterals (g .reach)) (list-proper (r .list) v n p h (le-refl n) (g .atoms))))
+      (count-order w r xs n (omega arith) (g .order) (rw length-listLiterals (g .reach))
+      (list-proper (r .list) v n p h (le-refl n) (g .atoms))))
 
-  pub rules-order : (rs : List (ℕ × Rule)) (v : ℕ) → 1 ≤ m → m ≤ v → All (λ r. ValidRule Below (r .1)) rs → Ordered v (rulesItems num rs v)
+  -- rules with weights, one after the other
+  pub rules-order : (rs : List (ℕ × Rule)) (v : ℕ) → 1 ≤ m → m ≤ v → All (λ r. ValidRule Below (r .1)) rs
+      → Ordered v (rulesItems num rs v)
   unfolding rulesItems
   rules-order [] v p h g = tt
   rules-order (r ∷ rs) v p h g =

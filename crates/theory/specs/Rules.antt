@@ -22,6 +22,7 @@ Atoms P (atom a) = P a
 Atoms P (anyOf xs) = All P xs
 Atoms P (gap earlier here later) = All P earlier × P here × All P later
 
+-- a weaker predicate
 pub Atoms-weaken : (P Q : Atom → Type 0) → ((a : Atom) → P a → Q a) → (x : Entry) → Atoms P x → Atoms Q x
 Atoms-weaken P Q f (atom a) h = f a h
 Atoms-weaken P Q f (anyOf xs) h = All-weaken P Q f xs h
@@ -33,11 +34,14 @@ pub record ValidRule (P : Atom → Type 0) (r : Rule) : Type 0 where
   pub reach : r .hi ≤ length (r .list)
   pub atoms : All (Atoms P) (r .list)
 
+-- the same rule by a weaker predicate
 pub ValidRule-weaken : (P Q : Atom → Type 0) → ((a : Atom) → P a → Q a) → (r : Rule) → ValidRule P r → ValidRule Q r
 ValidRule-weaken P Q f r v =
-    record { order = v .order; reach = v .reach; atoms = All-weaken (Atoms P) (Atoms Q) (Atoms-weaken P Q f) (r .list) (v .atoms) }
+    let atoms = All-weaken (Atoms P) (Atoms Q) (Atoms-weaken P Q f) (r .list) (v .atoms) in
+    record { order = v .order; reach = v .reach; atoms = atoms }
 
 module _ (num : Atom → ℕ) where
+  -- how many gates and literals entries have
   pub length-entryGates : (x : Entry) (v : ℕ) → length (entryGates num x v) ≡ added x
   length-entryGates (atom a) v = refl
   length-entryGates (anyOf xs) v = refl
@@ -47,7 +51,8 @@ module _ (num : Atom → ℕ) where
   unfolding listGates allAdded
   length-listGates [] v = refl
   length-listGates (x ∷ xs) v =
-      length-append (entryGates num x v) (listGates num xs (v + added x)) ∙ rw (length-entryGates x v, length-listGates xs (v + added x))
+      length-append (entryGates num x v) (listGates num xs (v + added x))
+      ∙ rw (length-entryGates x v, length-listGates xs (v + added x))
 
   pub length-listLiterals : (xs : List Entry) (v : ℕ) → length (listLiterals num xs v) ≡ length xs
   unfolding listLiterals
@@ -91,6 +96,7 @@ module _ (num : Atom → ℕ) (ν : Assignment) (z : ν 0 ≡ false) (τ : Atom 
       let p = Holds-gates ν v (entryGates num x v) _ (rw map-append at h) in
       ap₂ (λ b bs. b ∷ bs) (entry-agrees x v (g .0) (p .0)) (list-agrees xs (v + added x) (g .1) (rw length-entryGates at (p .1)))
 
+  -- one rule
   pub rule-costs : (w : ℕ) (r : Rule) (v : ℕ) → ValidRule (Agrees num ν τ) r → Holds ν v (ruleItems num w r v)
       → Costs ν w (ruleItems num w r v) (charge τ r)
   unfolding ruleItems
@@ -101,11 +107,12 @@ module _ (num : Atom → ℕ) (ν : Assignment) (z : ν 0 ≡ false) (τ : Atom 
       let e = list-agrees (r .list) v (g .atoms) (p .0) in
       Scores-gates ν gs _
       (rw (← e)
-      (count-costs ν z w r xs (v + allAdded (r .list)) (g .order) (rw length-listLiterals (g .reach)) (rw length-listGates at (p .1))))
+      (count-costs ν z w r xs (v + allAdded (r .list)) (g .order) (rw length-listLiterals (g .reach))
+      (rw length-listGates at (p .1))))
 
   -- rules with weights, one after the other
-  pub rules-score : (rs : List (ℕ × Rule)) (v : ℕ) → All (λ r. ValidRule (Agrees num ν τ) (r .1)) rs → Holds ν v (rulesItems num rs v)
-      → Scores ν (rulesItems num rs v) (All (Kept τ) rs) (weighed τ rs)
+  pub rules-score : (rs : List (ℕ × Rule)) (v : ℕ) → All (λ r. ValidRule (Agrees num ν τ) (r .1)) rs
+      → Holds ν v (rulesItems num rs v) → Scores ν (rulesItems num rs v) (All (Kept τ) rs) (weighed τ rs)
   unfolding rulesItems weighed
   rules-score [] v g h = Scores-none ν
   rules-score (r ∷ rs) v g h =

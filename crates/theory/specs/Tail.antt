@@ -27,6 +27,7 @@ total-negated ν (u ∷ us) = rw (lit-opp, total-negated ν us) (go (lit ν (u .
     go true = refl
     go false = refl
 
+-- the last unit is true exactly where the sum is within the bound
 pub tail-keeps : (ν : Assignment) → ν 0 ≡ false → (B : ℕ) (xs : List (ℕ × ℕ)) (v : ℕ) → Holds ν v (tail B xs v)
     → Keeps ν (tail B xs v) ↔ (total ν xs ≤ B)
 unfolding tail total
@@ -53,6 +54,7 @@ tail-order B (x ∷ xs) v a b =
     (rw (length-counter noRow (x ∷ xs))
     ((opp-proper _ (q (B + 1)) (lastRow-proper (x ∷ xs) (B + 1) v a (omega arith) (B + 1) (omega arith) (omega arith)), tt), tt))
 
+-- the literals of the soft units are of variables before the tail's
 pub soft-literals : (n : ℕ) (is : List Item) → Ordered n is → Literals (n + gates is) (negated (softUnits is))
 unfolding softUnits
 soft-literals n [] h = tt

@@ -30,6 +30,7 @@ module _ (i : Instance) where
   use-row : (r : ℕ) → length (map (useGate r) (upTo (i .times))) ≡ i .times
   use-row r = rw (length-map, length-from)
 
+  -- how many there are
   pub length-uses : length (uses i) ≡ i .resources * i .times
   unfolding uses
   length-uses = length-rows (λ r. map (useGate r) (upTo (i .times))) (i .times) use-row (upTo (i .resources)) ∙ rw length-from
@@ -40,7 +41,8 @@ module _ (i : Instance) where
   use-at r t a b =
       let p : 1 + (r - 1) ≡ r = omega (arith, a .low) in
       let q : 1 + (t - 1) ≡ t = omega (arith, b .low) in
-      let rows = getD-rows (λ r. map (useGate r) (upTo (i .times))) (i .times) use-row 0 (useGate r 0) (upTo (i .resources)) (r - 1) (t - 1)
+      let rows =
+      getD-rows (λ r. map (useGate r) (upTo (i .times))) (i .times) use-row 0 (useGate r 0) (upTo (i .resources)) (r - 1) (t - 1)
       (omega (arith, length-from 1 (i .resources), a .low, a .high)) (omega (arith, b .low, b .high)) in
       let row = getD-from 0 1 (i .resources) (r - 1) (omega (arith, a .low, a .high)) ∙ p in
       let time = getD-from 0 1 (i .times) (t - 1) (omega (arith, b .low, b .high)) ∙ q in
@@ -64,9 +66,11 @@ module _ (i : Instance) where
   abbrev pub atomsEnd : ℕ
   atomsEnd = primary i + i .resources * i .times + 1
 
+  -- they follow those of the gates of X
   pub uses-end : primary i + 1 + length (uses i) ≡ atomsEnd
   uses-end = omega (arith, length-uses)
 
+  -- the items of starts have no gates
   pub gates-starts : gates (starts i) ≡ 0
   unfolding starts
   gates-starts = gates-none _ (λ e. gates-none (startItems i e) (λ t. refl) (upTo (i .times))) (upTo (eventCount i))
@@ -76,6 +80,7 @@ module _ (i : Instance) where
   unfolding formula
   formula-parts = append-assoc (starts i) (map gate (uses i)) (rulesItems (num i) (allRules i) atomsEnd)
 
+  -- what holds of the formula's gates holds of the gates of X and of the rules'
   pub formula-holds : (ν : Assignment) → Holds ν (primary i + 1) (formula i)
       → Holds ν (primary i + 1) (map gate (uses i)) × Holds ν atomsEnd (rulesItems (num i) (allRules i) atomsEnd)
   formula-holds ν h =
