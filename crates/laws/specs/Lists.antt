@@ -33,7 +33,7 @@ module _ {A : Type 0} (P : A → Type 0) where
   All-drop (suc n) [] h = tt
   All-drop (suc n) (x ∷ xs) h = All-drop n xs (h .1)
 
-  -- what holds of each element holds at each place, and the other way round
+  -- what holds of each element holds at each place
   pub All-at : (d : A) (xs : List A) (k : ℕ) → k < length xs → All P xs → P (getD xs k d)
   All-at d [] k l h = let f : ⊥ = omega arith in absurd f
   All-at d (x ∷ xs) zero l h = h .0

@@ -42,8 +42,6 @@ hard-clauses ν z n (hard c ∷ is) =
     (λ e. let p = b .0 e in (ih .0 (p .1) .0, (p .0, ih .0 (p .1) .1)), λ h. b .1 (h .1 .0, ih .1 (h .0, h .1 .1)))
 hard-clauses ν z n (soft w l ∷ is) = hard-clauses ν z n is
 
--- items one after the other
-
 -- the number of gates of items one after the other; of gates alone
 pub gates-append : (is js : List Item) → gates (is ++ js) ≡ gates is + gates js
 gates-append [] js = sym (zero-add (gates js))

@@ -33,8 +33,6 @@ Ordered n (gate g ∷ is) = Reads n g × Ordered (suc n) is
 Ordered n (hard c ∷ is) = All (Proper n) c × Ordered n is
 Ordered n (soft w l ∷ is) = Proper n l × Ordered n is
 
--- orders one after the other
-
 -- items one after the other; gates, then other items
 pub Ordered-append : (n : ℕ) (is js : List Item) → Ordered n is → Ordered (n + gates is) js → Ordered n (is ++ js)
 Ordered-append n [] js a b = rw add-zero at b
