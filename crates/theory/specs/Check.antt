@@ -16,7 +16,7 @@ use Rattle.scope.specs.Operations.{Lent, limitsOf, formulaFits, checkOf}
 use Rattle.scope.specs.Demands.{Accepted}
 use Rattle.scope.specs.Spelling.{Bytes}
 use Rattle.theory.specs.Performed.{Refuted}
-use Rattle.theory.specs.Cases.{impossible, and-true}
+use Rattle.laws.specs.Booleans.{impossible, and-true}
 use Rattle.theory.specs.Sound.{plain-sound}
 use Rattle.theory.specs.Exact.{plain-exact}
 

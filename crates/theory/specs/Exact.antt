@@ -15,7 +15,7 @@ use Rattle.scope.specs.PlainRun.{State, Limits, Outcome, next, empty, refused, 
 use Rattle.scope.specs.PlainRun.{atEnd, byOutcome, byForm, byRead, run, start, plainRun}
 use Rattle.scope.specs.Spelling.{SpellsProof, Bytes}
 use Rattle.theory.specs.Performed.{Taken, ends, goes-on}
-use Rattle.theory.specs.Cases.{impossible}
+use Rattle.laws.specs.Booleans.{impossible}
 use Rattle.theory.specs.Spelt.{ReadAs, done, first, proof-exact, few-steps}
 
 -- each step counts one

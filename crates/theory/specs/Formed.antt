@@ -9,7 +9,7 @@ use native.Mathlib.Omega.{arith}
 use lib.Dec.{leb, ltb, eqb}
 use borrow.Author.Tests.{le-leb, lt-ltb, eq-eqb, ne-eqb, leb-true, ltb-true, eqb-true, eqb-false}
 use Rattle.scope.specs.Steps.{Step, add, delete, Marks, allOpen, makeFalse, literalsOk, wellFormed}
-use Rattle.theory.specs.Cases.{and-true}
+use Rattle.laws.specs.Booleans.{and-true}
 use Rattle.scope.specs.Refutation.{Fresh, Literals, no-literal, literal, WellFormed, add-form, delete-form}
 
 -- the variables of some literals are open

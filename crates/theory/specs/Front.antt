@@ -10,7 +10,7 @@ use lib.ListN.{length}
 use borrow.Author.Tests.{lt-ltb, le-ltb, ne-eqb, ltb-true, ltb-false, eqb-false}
 use Rattle.scope.specs.Number.{Front, broken, whole, group, front, most}
 use Rattle.scope.specs.Spelling.{Spells, last, more, Bytes}
-use Rattle.theory.specs.Cases.{impossible}
+use Rattle.laws.specs.Booleans.{impossible}
 
 -- the bytes begin with n bytes that spell v
 abbrev pub Spelt : List ℕ → ℕ → ℕ → Type 0

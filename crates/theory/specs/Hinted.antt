@@ -13,7 +13,7 @@ use borrow.Author.Tests.{eq-eqb, ne-eqb, eqb-true, eqb-false}
 use Rattle.scope.specs.Cnf.{opp}
 use Rattle.scope.specs.Steps.{Marks, allOpen, makeTrue, makeFalse, allFalse, Standing, falsified, oneOpen, other, standing}
 use Rattle.scope.specs.Steps.{Live, hintOf, byStanding, byHint, ifLast, follows, hintsShow}
-use Rattle.theory.specs.Cases.{impossible}
+use Rattle.laws.specs.Booleans.{impossible}
 use Rattle.scope.specs.Refutation.{AllFalse, Open, Hinted, conflict, implied, Follows, Literals, no-literal, literal}
 use Rattle.theory.specs.Formed.{AllOpen, open-before}
 use Rattle.theory.specs.Standing.{False, Falses, OneOpen, standing-falsified, all-false, standing-open, open-standing}

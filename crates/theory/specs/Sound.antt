@@ -18,7 +18,7 @@ use Rattle.scope.specs.Steps.{Live, hintOf, byStanding, byHint, ifLast, ifLive,
 use Rattle.scope.specs.Steps.{Shown, follows, notLive, breaks, hintsShow}
 use Rattle.scope.specs.PlainRun.{State, Limits, Outcome, next, empty, refused, withClause, fits, byShown, byDeleted, perform}
 use Rattle.scope.specs.PlainRun.{byOutcome, byForm, byRead, run, byId, start, plainRun}
-use Rattle.theory.specs.Cases.{impossible, never-true, and-true, or-false}
+use Rattle.laws.specs.Booleans.{impossible, never-true, and-true, or-false}
 
 -- the mark of a variable with this value
 abbrev markOf : Bool → ℕ

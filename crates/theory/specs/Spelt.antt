@@ -15,7 +15,7 @@ use Rattle.scope.specs.Steps.{Numbers, upTo0, cut, before, numbers}
 use Rattle.scope.specs.Steps.{StepRead, read, misread, readHints, readLiterals, readAdd, readDelete, readStep}
 use Rattle.scope.specs.Spelling.{Spells, last, more, SpellsList, closing, item, SpellsStep, adds, deletes}
 use Rattle.scope.specs.Spelling.{SpellsProof, nothing, step, Bytes}
-use Rattle.theory.specs.Cases.{impossible}
+use Rattle.laws.specs.Booleans.{impossible}
 use Rattle.theory.specs.Tokens.{tokens-whole, tokens-broken}
 use Rattle.theory.specs.Front.{Spelt, front-spelt, spelt-front}
 

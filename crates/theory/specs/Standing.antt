@@ -7,7 +7,7 @@ use mathlib.Core.List.{List·Memᴰ, List·Memᴰ·head, List·Memᴰ·tail, Lis
 use Prim.Native.Nat.{ℕ, _+_, _/_, _%_}
 use lib.Dec.{eqb}
 use Rattle.scope.specs.Steps.{Marks, Standing, falsified, oneOpen, other, alsoOpen, alsoLiteral, standing}
-use Rattle.theory.specs.Cases.{impossible}
+use Rattle.laws.specs.Booleans.{impossible}
 
 -- a literal is false under marks, and all literals of a clause are
 abbrev pub False : Marks → ℕ → Type 0

@@ -12,7 +12,7 @@ use Rattle.scope.specs.Steps.{Step, add, delete, put, Live, allOpen, allFalse}
 use Rattle.scope.specs.Steps.{Shown, follows, notLive, breaks, hintsShow, ifLive, deleted}
 use Rattle.scope.specs.PlainRun.{State, Limits, next, empty, refused, withClause, withLive, fits, byShown, byDeleted, perform}
 use Rattle.theory.specs.Performed.{Taken, ends, goes-on}
-use Rattle.theory.specs.Cases.{impossible, and-true}
+use Rattle.laws.specs.Booleans.{impossible, and-true}
 use Rattle.theory.specs.Formed.{formed-exact}
 use Rattle.theory.specs.Hinted.{hints-exact}
 use Rattle.scope.specs.Refutation.{Literals, WellFormed, add-form, delete-form, Follows, Differs, Deletes, no-id, one-id}

@@ -10,7 +10,7 @@ use lib.Seq.{drop-drop}
 use Rattle.scope.specs.Parsed.{got, refused}
 use Rattle.scope.specs.Number.{Front, broken, whole, group, front, most, within, numberFrom, number}
 use Rattle.scope.specs.Steps.{stop, bad, num, tokensAfter, tokens}
-use Rattle.theory.specs.Cases.{impossible}
+use Rattle.laws.specs.Booleans.{impossible}
 
 -- the bytes of a number that was read are passed over
 pub tokens-after : (k : ℕ) (bs : List ℕ) → tokensAfter k bs ≡ tokens (drop k bs)
