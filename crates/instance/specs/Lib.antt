@@ -1,0 +1,3 @@
+pub mod Length
+pub mod Inner
+pub mod Ready

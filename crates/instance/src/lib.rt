@@ -1,0 +1,3 @@
+// The instance file: its tables filled, its constraints checked one by one, refusals 1 to 6 in file order.
+mod check;
+mod length;
