@@ -129,3 +129,17 @@ list-length T used es gs (spread vs g lo hi) p u a =
 list-length T used es gs (busy r g lo hi) p u a = longest-one _ ∙ length-map (usesAt r (groupAt gs g)) atom ∙ length-map (groupAt gs g) (X r)
 list-length T used es gs (cluster r hs lo hi) p u a = longest-one _ ∙ length-map hs _
 list-length T used es gs (idle r hs lo hi) p u a = longest-one _ ∙ length-inner r gs hs
+
+-- only the counts of users matter
+pub length-same : (T : ℕ) (used used′ : ℕ → ℕ) (gs : List (List ℕ)) (k : Kind)
+    → ((r : ℕ) → used r ≡ used′ r)
+    → listLength T used gs k ≡ listLength T used′ gs k
+unfolding listLength
+length-same T used used′ gs (clash r) h = h r
+length-same T used used′ gs (unavailable r g) h = refl
+length-same T used used′ gs (preferred e g) h = refl
+length-same T used used′ gs (split e lo hi) h = refl
+length-same T used used′ gs (spread vs g lo hi) h = refl
+length-same T used used′ gs (busy r g lo hi) h = refl
+length-same T used used′ gs (cluster r hs lo hi) h = refl
+length-same T used used′ gs (idle r hs lo hi) h = refl

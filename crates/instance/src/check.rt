@@ -12,11 +12,8 @@ ghost use Prim.Native.Nat.{ℕ};
 ghost use lib.ListN.{getD};
 ghost use Rattle.scope.specs.Kinds.{lowOf, highOf};
 ghost use Rattle.scope.specs.Instance.{ended as endedAt};
-ghost use Rattle.tables.specs.Rows.{rows};
-ghost use Rattle.constraint.specs.Answers.{kindOf, saidNext, countsIn};
-ghost use Rattle.constraint.specs.Decoded.{checkedAt};
-ghost use Rattle.instance.specs.Length.{listLength};
-ghost use Rattle.instance.specs.Ready.{Ready};
+ghost use Rattle.constraint.specs.Answers.{kindOf, saidNext};
+ghost use Rattle.instance.specs.Ready.{Ready, checkedBy};
 
 // "a counted list is longer than 255"
 const LIST_TOO_LONG: u8 = 4;
@@ -81,7 +78,7 @@ pub fn checked_at(
     list: &mut [u16],
 ) -> Next
     requires { ⌜ Ready (now users) (now groups) (now list) head ⌝ }
-    ensures { λ r. ⌜ saidNext (now (list .exit)) r ≡ checkedAt (countsIn head) (listLength (head .times) (λ r. getD (now (users .entry)) r 0) (rows (now (groups .entry)) (head .groups))) (now (s .entry)) at ⌝ }
+    ensures { λ r. ⌜ saidNext (now (list .exit)) r ≡ checkedBy (λ r. getD (now (users .entry)) r 0) (now (groups .entry)) head (now (s .entry)) at ⌝ }
 {
     let x = constraint_at(s, at, head, list);
     let Next::Read(c, end) = x else {

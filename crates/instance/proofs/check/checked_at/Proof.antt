@@ -1,9 +1,9 @@
 -- `instance::check::checked_at` meets its contract: a constraint is decoded, its list measured, then the checks at its end.
 use borrow.Author.Needs.{needs}
-use mathlib.Core.Path.{_∙_}
 use Rattle.constraint.specs.Ladder.{next-value}
 use Rattle.constraint.specs.Decoded.{checkedAt}
 use Rattle.constraint.specs.Valid.{decoded-got}
+use Rattle.instance.specs.Ready.{ready-kept}
 use Rattle.instance.proofs.check.checked_at.Statement.{statement}
 use Rattle.instance.proofs.check.checked_at.Tie as tie
 
@@ -25,19 +25,9 @@ returns c = rw (← (c .before .before .before .before .constraint-at .ensures),
 
 list-length-requires : tie.Need-list-length-requires
 list-length-requires c κs =
-    let p = c .before .before .before .before .before .before .before .before .before .before .before .before .pre in
     let f = c .before .before .before .before .before .before .constraint-at in
-    let d = decoded-got _ _ _ (next-value (f .last .1 .1 .1 .0) _ (f .ensures) (c .before .before .x .given .1)) in (
-      record {
-        counts = p .counts;
-        room = f .kept .1 .1 .1 .0 ∙ p .room;
-        resources = p .resources;
-        numbers = p .numbers;
-        events = p .events;
-        rows = p .rows;
-      },
-      d .fields,
-    )
+    let d = decoded-got _ _ _ (next-value (f .last .1 .1 .1 .0) _ (f .ensures) (c .before .before .x .given .1)) in
+    (ready-kept (c .before .before .before .before .before .before .before .before .before .before .before .before .pre) (f .kept .1 .1 .1 .0), d .fields)
 
 ended-requires : tie.Need-ended-requires
 ended-requires c κs = search needs
