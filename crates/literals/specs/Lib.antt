@@ -1,0 +1,4 @@
+pub mod Words
+pub mod Variables
+pub mod Users
+pub mod Outputs
