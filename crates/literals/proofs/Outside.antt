@@ -1,20 +1,19 @@
 -- Passing through the times and through an ascending row together.
-use Prim.Native.Nat.{ℕ, zero, suc, _+_, _-_, _*_, _≤_, _<_}
-use mathlib.Core.Path.{_≡_, refl, sym, ap, _∙_}
-use mathlib.Core.Bool.{Bool, true, false, cond, _||_}
+use Prim.Native.Nat.{ℕ, _+_, _-_, _≤_, _<_}
+use mathlib.Core.Path.{_≡_, refl, sym, _∙_}
+use mathlib.Core.Bool.{Bool, true, false, cond}
 use mathlib.Core.List.{List, [], _∷_, _++_, map, map-append}
 use native.Mathlib.Omega.{arith}
-use native.Mathlib.Numerals.{add-one}
 use borrow.Author.Tests.{eq-eqb, ne-eqb, eqb-true, eqb-false}
 use lib.Dec.{eqb}
 use lib.ListN.{length, drop, set}
 use lib.Seq.{drop-drop}
 use Rattle.scope.specs.Kinds.{from, member, outside}
 use Rattle.number.specs.Laws.{Ascending, none, more}
-use Rattle.literals.specs.Words.{Holds, One, holds-as, holds-unless, starts, cond-append}
+use Rattle.literals.specs.Words.{Holds, Indicator, holds-as, holds-unless, startsWith, cond-append}
 use Rattle.literals.proofs.Turns.{times-more}
 
--- an ascending list has no member up to where it starts
+-- an ascending list has no member up to where it startsWith
 below : (x n before : ℕ) (l : List ℕ) → Ascending n before l → x ≤ before → member x l ≡ false
 unfolding member
 below x n before [] none h = refl
@@ -22,12 +21,12 @@ below x n before (y ∷ ys) (more a b r) h = rw (ne-eqb x y (λ p. omega arith),
 
 -- what is left of a row whose members are above t, once time t + 1 is passed
 record Left (n t : ℕ) (l : List ℕ) : Type 0 where
-  here : member (t + 1) l ≡ starts (t + 1) l
-  above : Ascending n (t + 1) (drop (cond (starts (t + 1) l) 1 0) l)
-  later : (x : ℕ) → t + 1 < x → member x l ≡ member x (drop (cond (starts (t + 1) l) 1 0) l)
+  here : member (t + 1) l ≡ startsWith (t + 1) l
+  above : Ascending n (t + 1) (drop (cond (startsWith (t + 1) l) 1 0) l)
+  later : (x : ℕ) → t + 1 < x → member x l ≡ member x (drop (cond (startsWith (t + 1) l) 1 0) l)
 
 passing : (n t : ℕ) (l : List ℕ) → Ascending n t l → Left n t l
-unfolding member starts
+unfolding member startsWith
 passing n t [] none = record { here = refl; above = none; later = λ x h. refl }
 passing n t (y ∷ ys) (more a b r) = by (eqb y (t + 1)) refl
   where
@@ -65,7 +64,7 @@ map-unless : (f : ℕ → ℕ) (b : Bool) (t : ℕ) → map f (cond b [] (t ∷ 
 map-unless f true t = refl
 map-unless f false t = refl
 
-module _ {n : ℕ} {row : List ℕ} {k t : ℕ} (p : Passed n row k t) {h : ℕ} (o : One (starts (t + 1) (drop k row)) h) where
+module _ {n : ℕ} {row : List ℕ} {k t : ℕ} (p : Passed n row k t) {h : ℕ} (o : Indicator (startsWith (t + 1) (drop k row)) h) where
   -- time t + 1 is passed
   pub passed-more : Passed n row (k + h) (t + 1)
   passed-more =
@@ -83,7 +82,7 @@ module _ {n : ℕ} {row : List ℕ} {k t : ℕ} (p : Passed n row k t) {h : ℕ}
       → x ≡ f (t + 1)
       → Holds (set words m x) (m + (1 - h)) (map f (outside row (from 1 (t + 1))))
   next-other f words m x q l v =
-      let b = starts (t + 1) (drop k row) in
+      let b = startsWith (t + 1) (drop k row) in
       let i : member (t + 1) row ≡ b = p .later (t + 1) (omega arith) ∙ passing n t (drop k row) (p .above) .here in
       let e : map f (outside row (from 1 (t + 1))) ≡ map f (outside row (from 1 t)) ++ cond b [] (x ∷ []) =
       rw (times-more t, outside-last row (from 1 t) (t + 1), map-append f (outside row (from 1 t)) (cond (member (t + 1) row) [] ((t + 1) ∷ [])), i, map-unless f b (t + 1), v)

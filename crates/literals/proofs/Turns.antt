@@ -1,7 +1,7 @@
 -- Turns of the loops: one member more of the list that the words are made of.
 use Prim.Native.Nat.{ℕ, zero, suc, _+_, _-_, _*_, _≤_, _<_}
-use mathlib.Core.Path.{_≡_, refl, sym, ap, _∙_}
-use mathlib.Core.Bool.{Bool, true, false, cond}
+use mathlib.Core.Path.{_≡_, sym, ap, _∙_}
+use mathlib.Core.Bool.{Bool}
 use mathlib.Core.List.{List, [], _∷_, _++_, map, flatMap, map-append, append-assoc, append-nil}
 use native.Mathlib.Omega.{arith}
 use native.Mathlib.Numerals.{add-one}
@@ -11,10 +11,10 @@ use lib.Seq.{take-suc, take-all, getD-take, length-take-le}
 use Rattle.scope.specs.Kinds.{from, member}
 use Rattle.number.specs.Each.{Each, each-at}
 use Rattle.tables.specs.Rows.{rowAt}
-use Rattle.literals.specs.Variables.{Index}
+use Rattle.literals.specs.Variables.{Within}
 use Rattle.literals.specs.Users.{usersIn}
 use Rattle.literals.specs.Outputs.{every, every-both}
-use Rattle.literals.specs.Words.{Holds, One, holds-none, holds-as, holds-more, holds-where}
+use Rattle.literals.specs.Words.{Holds, Indicator, holds-none, holds-as, holds-more, holds-where}
 
 map-more : (f : ℕ → ℕ) (l : List ℕ) (k : ℕ) → k < length l → map f (take (k + 1) l) ≡ map f (take k l) ++ (f (getD l k 0) ∷ [])
 map-more f l k h = rw (add-one k, take-suc l k 0 h) (map-append f (take k l) (getD l k 0 ∷ []))
@@ -93,16 +93,16 @@ next-time f words n t x h e l v =
 -- the next event, which uses the resource where b is true
 pub next-user : (t words : List ℕ) (e r n : ℕ) {k : ℕ} {b : Bool}
     → Holds words n (usersIn t e r)
-    → One b k
+    → Indicator b k
     → n < length words
     → b ≡ member r (rowAt t e)
     → Holds (set words n (e + 1)) (n + k) (usersIn t (e + 1) r)
 unfolding usersIn
 next-user t words e r n h o l v = holds-as (rw (add-one e, v)) (holds-where h o (e + 1) l)
 
--- member k of the first n members of a list is a number of an event
-pub index-at : (l : List ℕ) (n k : ℕ) → Each Index (take n l) → k < n → n ≤ length l → Index (getD l k 0)
-index-at l n k e h i =
+-- member k of the first n members of a list is within what they all are
+pub within-at : (m : ℕ) (l : List ℕ) (n k : ℕ) → Each (Within m) (take n l) → k < n → n ≤ length l → Within m (getD l k 0)
+within-at m l n k e h i =
     rw (getD-take n l k 0 h) at (each-at k 0 e (rw (length-take-le n l i) h))
 
 -- the next of a gate's outputs

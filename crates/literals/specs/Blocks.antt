@@ -1,18 +1,17 @@
 -- The formula's blocks by numbers, and the whole formula.
 use Prim.Native.Nat.{ℕ, zero, suc, _+_, _-_, _*_}
 use mathlib.Core.Path.{_≡_, refl, sym, ap, _∙_}
-use mathlib.Core.Bool.{Bool, true, false}
+use mathlib.Core.Bool.{false}
 use mathlib.Core.List.{List, [], _∷_, _++_, map, flatMap, append-assoc}
 use native.Mathlib.Omega.{arith}
 use native.Mathlib.Nat.{add-zero}
-use lib.ListN.{length}
-use Rattle.scope.specs.Kinds.{Event, Constraint, Atom, Y, S, Rule, upTo, users, groupAt}
+use Rattle.scope.specs.Kinds.{Event, Constraint, Atom, Y, Rule, upTo, users, groupAt}
 use Rattle.scope.specs.Instance.{Instance}
 use Rattle.scope.specs.Score.{cells, rules, eventCount}
-use Rattle.scope.specs.Cnf.{Gate, or, Item, gate, hard, soft, gates}
-use Rattle.scope.specs.Formula.{num, yBefore, startItems, starts, uses, durationRules, constraintRules, allRules, rulesItems, ruleItems, formula}
-use Rattle.literals.specs.Variables.{baseOf, literalAt, yAt, sAt}
-use Rattle.literals.specs.Numbered.{numbered, numberedItems, allNumbered, durationLists, earlier, startClauses, useGates, constraintItems, listItems, numberedFormula}
+use Rattle.scope.specs.Cnf.{or, Item, gate, hard, soft, gates}
+use Rattle.scope.specs.Formula.{num, yBefore, startItems, starts, uses, durationRules, constraintRules, rulesItems, ruleItems, formula}
+use Rattle.literals.specs.Variables.{yAt}
+use Rattle.literals.specs.Numbered.{allNumbered, durationLists, earlier, startClauses, useGates, constraintItems, listItems, numberedFormula}
 use Rattle.literals.specs.Laws.{y-literal, s-literal, takes-add, bounded, means-items, mean-items, kind-means}
 
 -- the same at each member

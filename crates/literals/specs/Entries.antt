@@ -1,16 +1,16 @@
 -- What the entries of a counted list add to a formula: gates, and the literals that are counted.
-use Prim.Native.Nat.{ℕ, zero, suc, _+_, _-_, _*_, min}
+use Prim.Native.Nat.{ℕ, zero, suc, _+_, _-_, _*_}
 use mathlib.Core.Path.{_≡_, refl, sym, ap, _∙_}
-use mathlib.Core.List.{List, [], _∷_, _++_, map, flatMap, map-append, append-assoc, append-nil}
+use mathlib.Core.List.{List, [], _∷_, _++_, map, flatMap, map-append, append-assoc}
 use native.Mathlib.Omega.{arith}
 use native.Mathlib.Nat.{add-zero, add-assoc}
-use lib.ListN.{length, getD, take, drop, length-append, length-map}
+use lib.ListN.{length, length-append, length-map}
 use lib.Seq.{take-at, drop-at, getD-at}
 use Rattle.scope.specs.Kinds.{Atom, Entry, atom, anyOf, gap, gapsAfter, gaps}
 use Rattle.scope.specs.Cnf.{pos, Gate, or, idling}
 use Rattle.scope.specs.Formula.{added, allAdded, entryGates, entryLiteral, listGates, listLiterals}
 use Rattle.literals.specs.Outputs.{every, every-both}
-use Rattle.literals.specs.Numbered.{gapGates, idleGates, inner}
+use Rattle.literals.specs.Numbered.{gapGates, idleGates, innerCount}
 
 -- the entries add the gates gs from the variable v on, and the literals xs are counted
 pub record Adds (num : Atom → ℕ) (l : List Entry) (v : ℕ) (gs : List Gate) (xs : List ℕ) : Type 0 where
@@ -162,12 +162,12 @@ module _ (num : Atom → ℕ) where
 
 -- the idle times of each of some groups, where h gives a group's X literals
 pub adds-idle : {num : Atom → ℕ} (f : ℕ → List Atom) (h : ℕ → List ℕ) → ((g : ℕ) → map num (f g) ≡ h g) → (gs : List ℕ) (v : ℕ)
-    → Adds num (flatMap (λ g. gaps (f g)) gs) v (idleGates (map h gs) v) (every 3 (v + 2) (inner (map h gs)))
-unfolding flatMap idleGates inner every
+    → Adds num (flatMap (λ g. gaps (f g)) gs) v (idleGates (map h gs) v) (every 3 (v + 2) (innerCount (map h gs)))
+unfolding flatMap idleGates innerCount every
 adds-idle {num} f h e [] v = adds-none num v
 adds-idle {num} f h e (g ∷ gs) v =
     let n = length (h g) - 2 in
     let k : v + 2 + 3 * n ≡ v + 3 * n + 2 = omega arith in
     let a : Adds num (gaps (f g)) v (gapGates (h g) 1 n v) (every 3 (v + 2) n) = rw (e g) at (gaps-number num (f g) v) in
-    rw (every-both 3 (v + 2) n (inner (map h gs)), k)
+    rw (every-both 3 (v + 2) n (innerCount (map h gs)), k)
     (adds-both a (rw (length-gates (h g) 1 n v) (adds-idle f h e gs (v + 3 * n))))

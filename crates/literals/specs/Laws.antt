@@ -1,15 +1,15 @@
 -- The counted lists of the kinds by numbers are those of the formula.
-use Prim.Native.Nat.{ℕ, zero, suc, _+_, _-_, _*_, min}
-use mathlib.Core.Path.{_≡_, refl, sym, ap, _∙_}
+use Prim.Native.Nat.{ℕ, _+_, _-_, min}
+use mathlib.Core.Path.{_≡_, refl, ap, _∙_}
 use mathlib.Core.Bool.{Bool, true, false}
 use mathlib.Core.List.{List, [], _∷_, _++_, map, flatMap, map-map}
 use native.Mathlib.Omega.{arith}
 use lib.ListN.{length}
-use Rattle.scope.specs.Kinds.{Event, Kind, clash, unavailable, preferred, split, spread, busy, cluster, idle, Atom, Y, S, X, Entry, atom, Rule, between, upTo, users, outside, groupAt, usesAt, takesAt, startsAt, rulesOf}
+use Rattle.scope.specs.Kinds.{Kind, clash, unavailable, preferred, split, spread, busy, cluster, idle, Atom, Y, S, X, Entry, atom, Rule, between, upTo, users, outside, groupAt, usesAt, takesAt, startsAt, rulesOf}
 use Rattle.scope.specs.Instance.{Instance}
 use Rattle.scope.specs.Score.{cells}
 use Rattle.scope.specs.Cnf.{Gate, Item, gate, gates}
-use Rattle.scope.specs.Formula.{num, countInto, countItems, boundItems, ruleItems, rulesItems, allAdded}
+use Rattle.scope.specs.Formula.{num, countInto, countItems, boundItems, ruleItems, rulesItems}
 use Rattle.literals.specs.Variables.{baseOf, literalAt, yAt, sAt, xAt}
 use Rattle.literals.specs.Numbered.{Numbered, plain, numberedItems, allNumbered, numbered}
 use Rattle.literals.specs.Entries.{Adds, adds-atoms, adds-lists, adds-any, adds-idle}

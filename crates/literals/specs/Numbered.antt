@@ -1,5 +1,5 @@
 -- The formula's lists by numbers: for T times and C = E×T, from the users of a resource, the times of a group and the durations.
--- No atom or entry is left. Laws has the equations with the formula.
+-- No atom or entry is left. Laws and Blocks have the equations with the formula.
 use Prim.Native.Nat.{ℕ, zero, suc, _+_, _-_, _*_, min}
 use mathlib.Core.Bool.{Bool, true, false}
 use mathlib.Core.List.{List, [], _∷_, _++_, map, flatMap}
@@ -46,15 +46,15 @@ idleGates [] v = []
 idleGates (xs ∷ xss) v = gapGates xs 1 (length xs - 2) v ++ idleGates xss (v + 3 * (length xs - 2))
 
 -- how many these are
-unfoldable pub inner : List (List ℕ) → ℕ
-inner [] = 0
-inner (xs ∷ xss) = (length xs - 2) + inner xss
+unfoldable pub innerCount : List (List ℕ) → ℕ
+innerCount [] = 0
+innerCount (xs ∷ xss) = (length xs - 2) + innerCount xss
+
+-- X of resource r in each of some groups
+abbrev pub xsOf : (T C : ℕ) (group : ℕ → List ℕ) (r : ℕ) → List ℕ → List (List ℕ)
+xsOf T C group r hs = map (λ g. map (xAt T C r) (group g)) hs
 
 module _ (T C : ℕ) (users group : ℕ → List ℕ) where
-  -- X of resource r in each of some groups
-  abbrev pub xsOf : (r : ℕ) → List ℕ → List (List ℕ)
-  xsOf r hs = map (λ g. map (xAt T C r) (group g)) hs
-
   -- the counted lists of a kind
   unfoldable pub numbered : Kind → List Numbered
   numbered (clash r) = map (λ t. plain 0 1 (map (λ e. yAt T e t) (users r))) (upTo T)
@@ -69,7 +69,7 @@ module _ (T C : ℕ) (users group : ℕ → List ℕ) where
         lo = lo;
         hi = hi;
         zeroFree = false;
-        gates = λ v. map or (xsOf r hs);
+        gates = λ v. map or (xsOf T C group r hs);
         literals = λ v. every 1 v (length hs);
       }
       ∷ []
@@ -78,8 +78,8 @@ module _ (T C : ℕ) (users group : ℕ → List ℕ) where
         lo = lo;
         hi = hi;
         zeroFree = false;
-        gates = idleGates (xsOf r hs);
-        literals = λ v. every 3 (v + 2) (inner (xsOf r hs));
+        gates = idleGates (xsOf T C group r hs);
+        literals = λ v. every 3 (v + 2) (innerCount (xsOf T C group r hs));
       }
       ∷ []
 

@@ -1,21 +1,19 @@
 -- The formula of an instance that stands in tables, by numbers and the tables' rows.
-use Prim.Native.Nat.{ℕ, zero, suc, _+_, _-_, _*_, _≤_, _<_}
+use Prim.Native.Nat.{ℕ, zero, suc, _-_, _*_, _≤_}
 use mathlib.Core.Path.{_≡_, refl, sym, ap, _∙_}
-use mathlib.Core.List.{List, [], _∷_, _++_, map, map-append}
+use mathlib.Core.List.{List, [], _∷_, map, map-append}
 use native.Mathlib.Omega.{arith}
 use lib.ListN.{length, getD, take}
 use lib.Seq.{take-suc}
 use Rattle.scope.specs.Kinds.{Event, Kind, clash, unavailable, preferred, split, spread, busy, cluster, idle, Constraint, users, groupAt, upTo}
 use Rattle.scope.specs.Instance.{Instance}
-use Rattle.scope.specs.Cnf.{Item, gate}
 use Rattle.scope.specs.Formula.{formula}
 use Rattle.number.specs.Each.{Each, each-none, each-more, each-map}
-use Rattle.number.specs.Laws.{Ascending, none, more}
 use Rattle.tables.specs.Rows.{rowAt, rows, eventsOf}
 use Rattle.tables.specs.Laws.{length-events, group-row}
-use Rattle.literals.specs.Variables.{yAt, sAt, xAt}
+use Rattle.literals.specs.Variables.{Within}
 use Rattle.literals.specs.Users.{usersIn, users-in}
-use Rattle.literals.specs.Numbered.{xsOf, numbered, allNumbered, useGates, constraintItems, listItems, numberedFormula}
+use Rattle.literals.specs.Numbered.{xsOf, numbered, useGates, constraintItems, listItems, numberedFormula}
 use Rattle.literals.specs.Blocks.{flat-same, formula-numbers}
 
 -- the groups that a kind refers to
@@ -29,22 +27,13 @@ groupsOf (busy r g lo hi) = g ∷ []
 groupsOf (cluster r hs lo hi) = hs
 groupsOf (idle r hs lo hi) = hs
 
--- a reference to one of n groups
-pub record Refers (n g : ℕ) : Type 0 where
-  pub low : 1 ≤ g
-  pub high : g ≤ n
-
-pub ascending-refers : {n before : ℕ} {hs : List ℕ} → Ascending n before hs → Each (Refers n) hs
-ascending-refers none = each-none
-ascending-refers (more {x = x} a b r) = each-more {x = x} (record { low = omega arith; high = b }) (ascending-refers r)
-
 -- the row of a group by its number
 abbrev pub groupIn : List ℕ → ℕ → List ℕ
 groupIn t g = rowAt t (g - 1)
 
 -- the times of the groups, and the users of the resources, found otherwise
 module _ (us vs f h : ℕ → List ℕ) (e : (r : ℕ) → us r ≡ vs r) where
-  xs-same : (T C r : ℕ) {hs : List ℕ} → Each (λ g. f g ≡ h g) hs → xsOf T C us f r hs ≡ xsOf T C vs h r hs
+  xs-same : (T C r : ℕ) {hs : List ℕ} → Each (λ g. f g ≡ h g) hs → xsOf T C f r hs ≡ xsOf T C h r hs
   xs-same T C r each-none = refl
   xs-same T C r (each-more p ps) = rw (p, xs-same T C r ps)
 
@@ -88,7 +77,7 @@ pub record Held (i : Instance) (T E R G : ℕ) (d t gs : List ℕ) : Type 0 wher
   pub events : i .events ≡ eventsOf d t E
   pub groups : i .groups ≡ rows gs G
   pub room : E ≤ length d
-  pub refers : Each (λ c. Each (Refers G) (groupsOf (c .kind))) (i .constraints)
+  pub refers : Each (λ c. Each (Within G) (groupsOf (c .kind))) (i .constraints)
 
 -- its formula
 pub formula-tables : {i : Instance} {T E R G : ℕ} {d t gs : List ℕ} → Held i T E R G d t gs

@@ -1,6 +1,6 @@
 -- The events that use a resource, by the rows of the table of the events' resources.
-use Prim.Native.Nat.{ℕ, zero, suc, _+_, _*_, _≤_, _<_}
-use mathlib.Core.Path.{_≡_, refl, sym, ap, _∙_}
+use Prim.Native.Nat.{ℕ, zero, suc, _+_, _≤_}
+use mathlib.Core.Path.{_≡_, refl, _∙_}
 use mathlib.Core.List.{List, [], _∷_, _++_}
 use mathlib.Core.Bool.{Bool, true, false, cond}
 use lib.ListN.{length, getD, length-append}
@@ -11,7 +11,7 @@ use Rattle.number.specs.Each.{Each, each-none, each-more}
 use Rattle.tables.specs.Rows.{rowAt, eventsOf}
 use Rattle.tables.specs.Laws.{length-events}
 use Rattle.literals.specs.Words.{cond-append}
-use Rattle.literals.specs.Variables.{Index}
+use Rattle.literals.specs.Variables.{Within}
 
 -- those of the first n events
 unfoldable pub usersIn : (t : List ℕ) (n r : ℕ) → List ℕ
@@ -49,15 +49,15 @@ users-most t (suc n) r = simp length-append (by (member r (rowAt t n)) (users-mo
     by true h = omega arith
     by false h = omega arith
 
-each-both : {A : Type 0} {P : A → Type 0} {xs ys : List A} → Each P xs → Each P ys → Each P (xs ++ ys)
+pub each-both : {A : Type 0} {P : A → Type 0} {xs ys : List A} → Each P xs → Each P ys → Each P (xs ++ ys)
 each-both each-none q = q
 each-both (each-more p ps) q = each-more p (each-both ps q)
 
-pub users-index : (t : List ℕ) (n r : ℕ) → n < 65536 → Each Index (usersIn t n r)
+pub users-within : (t : List ℕ) (m n r : ℕ) → n ≤ m → Each (Within m) (usersIn t n r)
 unfolding usersIn
-users-index t zero r h = each-none
-users-index t (suc n) r h = each-both (users-index t n r (omega arith)) (by (member r (rowAt t n)))
+users-within t m zero r h = each-none
+users-within t m (suc n) r h = each-both (users-within t m n r (omega arith)) (by (member r (rowAt t n)))
   where
-    by : (b : Bool) → Each Index (cond b (suc n ∷ []) [])
+    by : (b : Bool) → Each (Within m) (cond b (suc n ∷ []) [])
     by true = each-more {x = suc n} (record { low = omega arith; high = h }) each-none
     by false = each-none

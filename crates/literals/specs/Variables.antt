@@ -30,10 +30,10 @@ pub record Sizes (T C : ℕ) : Type 0 where
   pub times : T ≤ 125
   pub cells : C ≤ 128000
 
--- a number of an event or a resource
-pub record Index (k : ℕ) : Type 0 where
-  pub low : 1 ≤ k
-  pub high : k < 65536
+-- a number of one of n things, from 1
+pub record Within (n x : ℕ) : Type 0 where
+  pub low : 1 ≤ x
+  pub high : x ≤ n
 
 -- a number of a group, from 1: the table has its row
 pub record GroupIn (t : List ℕ) (g : ℕ) : Type 0 where
@@ -43,8 +43,8 @@ pub record GroupIn (t : List ℕ) (g : ℕ) : Type 0 where
 -- what a base is, and that it is small
 pub record Based (before T k base : ℕ) : Type 0 where
   pub value : base ≡ baseOf before T k
-  pub small : base < 16777216
+  pub small : base < 524288
 
 -- a row's place in its block is small
-pub row-small : (T k : ℕ) → T ≤ 125 → k < 65536 → (k - 1) * T ≤ 8191875
-row-small T k h l = omega (arith, mul-le-mul {n₁ = k - 1} {m₁ = T} {n₂ = 65535} {m₂ = 125} (omega arith) h)
+pub row-small : (T k : ℕ) → T ≤ 125 → k ≤ 1024 → (k - 1) * T ≤ 127875
+row-small T k h l = omega (arith, mul-le-mul {n₁ = k - 1} {m₁ = T} {n₂ = 1023} {m₂ = 125} (omega arith) h)

@@ -1,6 +1,6 @@
 -- Lists at the front of a lent slice of words.
-use Prim.Native.Nat.{ℕ, zero, suc, _+_, _-_, _<_, _≤_}
-use mathlib.Core.Path.{_≡_, refl, sym, ap, _∙_}
+use Prim.Native.Nat.{ℕ, _+_, _-_, _<_, _≤_}
+use mathlib.Core.Path.{_≡_, refl, ap, _∙_}
 use mathlib.Core.List.{List, [], _∷_, _++_, append-nil}
 use mathlib.Core.Bool.{Bool, true, false, cond}
 use lib.Dec.{eqb}
@@ -11,11 +11,11 @@ use native.Mathlib.Numerals.{add-one}
 use native.Mathlib.Nat.{add-zero}
 
 -- k is 1 where b is true, else 0
-pub record One (b : Bool) (k : ℕ) : Type 0 where
+pub record Indicator (b : Bool) (k : ℕ) : Type 0 where
   pub is : k ≡ cond b 1 0
 
-pub one-most : {b : Bool} {k : ℕ} → One b k → k ≤ 1
-one-most {b} o = rw (o .is) (by b)
+pub indicator-most : {b : Bool} {k : ℕ} → Indicator b k → k ≤ 1
+indicator-most {b} o = rw (o .is) (by b)
   where
     by : (b : Bool) → cond b 1 0 ≤ 1
     by true = omega arith
@@ -43,7 +43,7 @@ module _ {words : List ℕ} {n : ℕ} {xs : List ℕ} (h : Holds words n xs) whe
       }
 
   -- a word that is stored, and taken only where b is true
-  pub holds-where : {b : Bool} {k : ℕ} → One b k → (x : ℕ) → n < length words → Holds (set words n x) (n + k) (xs ++ cond b (x ∷ []) [])
+  pub holds-where : {b : Bool} {k : ℕ} → Indicator b k → (x : ℕ) → n < length words → Holds (set words n x) (n + k) (xs ++ cond b (x ∷ []) [])
   holds-where {b} {k} o x l = rw (o .is) (by b)
     where
       by : (b : Bool) → Holds (set words n x) (n + cond b 1 0) (xs ++ cond b (x ∷ []) [])
@@ -55,27 +55,27 @@ module _ {words : List ℕ} {n : ℕ} {xs : List ℕ} (h : Holds words n xs) whe
           }
 
   -- the same where b is false
-  pub holds-unless : {b : Bool} {k : ℕ} → One b k → (x : ℕ) → n < length words → Holds (set words n x) (n + (1 - k)) (xs ++ cond b [] (x ∷ []))
+  pub holds-unless : {b : Bool} {k : ℕ} → Indicator b k → (x : ℕ) → n < length words → Holds (set words n x) (n + (1 - k)) (xs ++ cond b [] (x ∷ []))
   holds-unless {b} {k} o x l = rw (o .is) (by b)
     where
       by : (b : Bool) → Holds (set words n x) (n + (1 - cond b 1 0)) (xs ++ cond b [] (x ∷ []))
       by true = holds-where {b = false} {k = 0} (record { is = refl }) x l
       by false = holds-more x l
 
--- whether a list starts with x
-unfoldable pub starts : ℕ → List ℕ → Bool
-starts x [] = false
-starts x (y ∷ ys) = eqb y x
+-- whether a list startsWith with x
+unfoldable pub startsWith : ℕ → List ℕ → Bool
+startsWith x [] = false
+startsWith x (y ∷ ys) = eqb y x
 
 module _ (x : ℕ) (l : List ℕ) (k : ℕ) where
-  pub starts-past : length l ≤ k → starts x (drop k l) ≡ false
-  unfolding starts
-  starts-past h = rw (drop-of-length-le l h)
+  pub with-past : length l ≤ k → startsWith x (drop k l) ≡ false
+  unfolding startsWith
+  with-past h = rw (drop-of-length-le l h)
 
   -- where y is member k
-  pub starts-by : (y : ℕ) → k < length l → y ≡ getD l k 0 → starts x (drop k l) ≡ eqb y x
-  unfolding starts
-  starts-by y h e = rw (drop-cons l k 0 h, e)
+  pub with-member : (y : ℕ) → k < length l → y ≡ getD l k 0 → startsWith x (drop k l) ≡ eqb y x
+  unfolding startsWith
+  with-member y h e = rw (drop-cons l k 0 h, e)
 
 pub cond-append : (b : Bool) (xs ys zs : List ℕ) → cond b (xs ++ zs) (ys ++ zs) ≡ cond b xs ys ++ zs
 cond-append true xs ys zs = refl

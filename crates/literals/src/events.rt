@@ -3,18 +3,17 @@ use crate::times::group_times;
 use crate::variable::base;
 use crate::variable::literal;
 use tables::row_has;
-ghost use mathlib.Core.Path.{_≡_};
 ghost use Prim.Native.Nat.{_-_, _*_, _≤_, _<_};
 ghost use mathlib.Core.List.{map, flatMap};
 ghost use lib.ListN.{length, take};
 ghost use Rattle.number.specs.Each.{Each};
 ghost use Rattle.tables.specs.Rows.{rowAt, RowsIn};
-ghost use Rattle.literals.specs.Variables.{yAt, sAt, Sizes, Index, GroupIn};
-ghost use Rattle.literals.specs.Words.{Holds, One};
+ghost use Rattle.literals.specs.Variables.{yAt, sAt, Sizes, Within, GroupIn};
+ghost use Rattle.literals.specs.Words.{Holds, Indicator};
 ghost use Rattle.literals.specs.Users.{usersIn};
 
 fn one_if(b: bool) -> usize
-    ensures { λ r. ⌜ One b r ⌝ }
+    ensures { λ r. ⌜ Indicator b r ⌝ }
 {
     if b {
         return 1;
@@ -24,7 +23,7 @@ fn one_if(b: bool) -> usize
 
 // The events that use resource r, from the table of the events' resources.
 pub fn users_of(resources: &[u8], events: u32, r: u32, list: &mut [u16]) -> usize
-    requires { ⌜ RowsIn (now resources) events × ((events < 65536) × ((events ≤ length (now list)) × (r < 256))) ⌝ }
+    requires { ⌜ RowsIn (now resources) events × ((events ≤ 1024) × ((events ≤ length (now list)) × (r < 256))) ⌝ }
     ensures { λ n. ⌜ Holds (now (list .exit)) n (usersIn (now (resources .entry)) events r) ⌝ }
 {
     let x = r as u8;
@@ -42,7 +41,7 @@ pub fn users_of(resources: &[u8], events: u32, r: u32, list: &mut [u16]) -> usiz
 
 // Y of the first n events of a list, at time t.
 pub fn y_of_events(list: &[u16], n: usize, times: u32, t: u32, out: &mut [u32]) -> usize
-    requires { ⌜ Each Index (take n (now list)) × ((n ≤ length (now list)) × ((n ≤ length (now out)) × ((times ≤ 125) × (t ≤ 125)))) ⌝ }
+    requires { ⌜ Each (Within 1024) (take n (now list)) × ((n ≤ length (now list)) × ((n ≤ length (now out)) × ((times ≤ 125) × (t ≤ 125)))) ⌝ }
     ensures { λ r. ⌜ Holds (now (out .exit)) r (map (λ e. yAt times e t) (take n (now (list .entry)))) ⌝ }
 {
     let mut k: usize = 0;
@@ -65,7 +64,7 @@ pub fn s_spread(
     cells: u32,
     out: &mut [u32],
 ) -> usize
-    requires { ⌜ Each Index (take n (now list)) × ((n ≤ length (now list)) × (GroupIn (now groups) g × (Sizes times cells × (n * length (rowAt (now groups) (g - 1)) ≤ length (now out))))) ⌝ }
+    requires { ⌜ Each (Within 1024) (take n (now list)) × ((n ≤ length (now list)) × (GroupIn (now groups) g × (Sizes times cells × (n * length (rowAt (now groups) (g - 1)) ≤ length (now out))))) ⌝ }
     ensures { λ r. ⌜ Holds (now (out .exit)) r (flatMap (λ e. map (sAt times cells e) (rowAt (now (groups .entry)) (g - 1))) (take n (now (list .entry)))) ⌝ }
 {
     let mut at: usize = 0;

@@ -1,7 +1,7 @@
 -- `literals::events::s_spread` meets its contract. The loop's invariant: the words are the literals of the events passed, as
 -- many for each as the group has members.
-use Prim.Native.Nat.{_+_, _-_, _*_, _≤_, _<_}
-use mathlib.Core.Path.{_≡_, refl, sym, _∙_}
+use Prim.Native.Nat.{_+_, _-_, _*_, _≤_}
+use mathlib.Core.Path.{_≡_, refl, _∙_}
 use mathlib.Core.List.{map}
 use native.Mathlib.Omega.{arith}
 use native.Mathlib.Nat.{mul-le-mul-right}
@@ -9,7 +9,7 @@ use lib.ListN.{length, length-map}
 use Rattle.tables.specs.Rows.{rowAt}
 use Rattle.literals.specs.Variables.{sAt}
 use Rattle.literals.specs.Words.{holds-as}
-use Rattle.literals.proofs.Turns.{Flattened, flattened-none, flattened-more, flattened-size, index-at}
+use Rattle.literals.proofs.Turns.{Flattened, flattened-none, flattened-more, flattened-size, within-at}
 use borrow.Author.Needs.{needs}
 use Rattle.literals.proofs.events.s_spread.Statement.{statement}
 use Rattle.literals.proofs.events.s_spread.Tie as tie
@@ -33,7 +33,7 @@ cast-e : tie.Need-cast-e Inv-loop μ-loop
 cast-e c = omega (arith, c .shared-slice-known3 .given (c .before .before .loop .k))
 
 base-requires : tie.Need-base-requires Inv-loop μ-loop
-base-requires c κs = let a = c .before .before .before .before .before .before in (omega arith, (omega arith, index-at _ _ (c .before .before .loop .k) (a .pre .0) (c .before .loop-test .taken) (a .pre .1 .0)))
+base-requires c κs = let a = c .before .before .before .before .before .before in (omega arith, (omega arith, within-at _ _ _ (c .before .before .loop .k) (a .pre .0) (c .before .loop-test .taken) (a .pre .1 .0)))
 
 group-times-requires : tie.Need-group-times-requires Inv-loop μ-loop
 group-times-requires c κs = let l = c .before .before .before .before .loop in let a = c .before .before .before .before .before .before .before .before in (a .pre .1 .1 .0, (c .before .base .ensures .small, omega (arith, l .inv .1, l .inv .2, mul-le-mul-right {m = l .k + 1} {n = a .args .n} (length (rowAt (a .args .groups .now) (a .args .g - 1))) (omega arith))))

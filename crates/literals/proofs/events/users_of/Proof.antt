@@ -1,9 +1,9 @@
 -- `literals::events::users_of` meets its contract. The loop's invariant: the list holds those of the events passed.
-use Prim.Native.Nat.{_+_, _-_, _*_, _≤_, _<_}
-use mathlib.Core.Path.{_≡_, refl, sym, _∙_}
+use Prim.Native.Nat.{_-_, _≤_}
+use mathlib.Core.Path.{_≡_, refl}
 use native.Mathlib.Omega.{arith}
 use lib.ListN.{length, length-set}
-use Rattle.literals.specs.Words.{Holds, holds-none, holds-as, one-most}
+use Rattle.literals.specs.Words.{Holds, holds-none, holds-as, indicator-most}
 use Rattle.literals.specs.Users.{usersIn}
 use Rattle.literals.proofs.Turns.{next-user}
 use borrow.Author.Needs.{needs}
@@ -42,13 +42,13 @@ slice-write-list : tie.Need-slice-write-list Inv-loop μ-loop
 slice-write-list c = search needs
 
 add-n : tie.Need-add-n Inv-loop μ-loop
-add-n c = omega (arith, one-most (c .one-if .ensures))
+add-n c = omega (arith, indicator-most (c .one-if .ensures))
 
 loop-less : tie.Need-loop-less Inv-loop μ-loop
 loop-less c = search needs
 
 loop-again : tie.Need-loop-again Inv-loop μ-loop
-loop-again c = let l = c .before .before .before .loop in (omega arith, omega (arith, one-most (c .one-if .ensures)), l .inv .2, simp length-set (l .inv .3), next-user _ (l .list) (l .e) _ (l .n) (l .inv .4) (c .one-if .ensures) (omega (arith, l .inv .3)) (c .before .row-has .ensures))
+loop-again c = let l = c .before .before .before .loop in (omega arith, omega (arith, indicator-most (c .one-if .ensures)), l .inv .2, simp length-set (l .inv .3), next-user _ (l .list) (l .e) _ (l .n) (l .inv .4) (c .one-if .ensures) (omega (arith, l .inv .3)) (c .before .row-has .ensures))
 
 same-length : tie.Need-same-length Inv-loop μ-loop
 same-length c = search needs

@@ -1,12 +1,12 @@
 -- `literals::events::y_of_events` meets its contract. The loop's invariant: the words are the literals of the events passed.
-use Prim.Native.Nat.{_+_, _-_, _*_, _≤_, _<_}
-use mathlib.Core.Path.{_≡_, refl, sym, _∙_}
+use Prim.Native.Nat.{_-_, _≤_}
+use mathlib.Core.Path.{_≡_, refl, _∙_}
 use native.Mathlib.Omega.{arith}
-use mathlib.Core.List.{[], map}
-use lib.ListN.{length, length-set, take}
+use mathlib.Core.List.{[]}
+use lib.ListN.{length, length-set}
 use Rattle.literals.specs.Variables.{yAt}
 use Rattle.literals.specs.Words.{holds-as}
-use Rattle.literals.proofs.Turns.{Mapped, mapped-none, mapped-more, index-at}
+use Rattle.literals.proofs.Turns.{Mapped, mapped-none, mapped-more, within-at}
 use borrow.Author.Needs.{needs}
 use Rattle.literals.proofs.events.y_of_events.Statement.{statement}
 use Rattle.literals.proofs.events.y_of_events.Tie as tie
@@ -30,7 +30,7 @@ cast-e : tie.Need-cast-e Inv-loop μ-loop
 cast-e c = omega (arith, c .shared-slice-known2 .given (c .before .before .loop .k))
 
 base-requires : tie.Need-base-requires Inv-loop μ-loop
-base-requires c κs = let a = c .before .before .before .before .before in (omega arith, (omega arith, index-at _ _ (c .before .before .loop .k) (a .pre .0) (c .before .loop-test .taken) (a .pre .1 .0)))
+base-requires c κs = let a = c .before .before .before .before .before in (omega arith, (omega arith, within-at _ _ _ (c .before .before .loop .k) (a .pre .0) (c .before .loop-test .taken) (a .pre .1 .0)))
 
 literal-requires : tie.Need-literal-requires Inv-loop μ-loop
 literal-requires c κs = omega (arith, c .base .ensures .small)

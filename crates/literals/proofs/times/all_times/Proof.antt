@@ -1,5 +1,5 @@
 -- `literals::times::all_times` meets its contract. The loop's invariant: the words are the literals of the times passed.
-use Prim.Native.Nat.{_-_, _≤_, _<_}
+use Prim.Native.Nat.{_-_, _≤_}
 use mathlib.Core.Path.{_≡_, refl}
 use mathlib.Core.List.{map}
 use native.Mathlib.Omega.{arith}

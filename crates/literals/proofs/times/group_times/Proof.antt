@@ -1,9 +1,8 @@
 -- `literals::times::group_times` meets its contract. The loop's invariant: the words are those that stay, then the literals of
 -- the members passed.
-use Prim.Native.Nat.{_+_, _-_, _*_, _≤_, _<_}
-use mathlib.Core.Path.{_≡_, refl, sym, _∙_}
+use Prim.Native.Nat.{_+_, _-_, _≤_}
+use mathlib.Core.Path.{_≡_, refl, _∙_}
 use native.Mathlib.Omega.{arith}
-use mathlib.Core.List.{map}
 use lib.ListN.{length, length-set, take}
 use Rattle.tables.specs.Rows.{rowAt}
 use Rattle.literals.specs.Variables.{literalAt}

@@ -1,14 +1,14 @@
 -- `literals::times::other_times` meets its contract. The loop's invariant: the words are the literals of the times passed that
 -- are outside the group, and member k is the group's first after them.
-use Prim.Native.Nat.{_+_, _-_, _*_, _≤_, _<_}
-use mathlib.Core.Path.{_≡_, refl, sym, _∙_}
+use Prim.Native.Nat.{_-_, _≤_}
+use mathlib.Core.Path.{_≡_, refl}
 use native.Mathlib.Omega.{arith}
 use mathlib.Core.List.{map}
 use lib.ListN.{length, length-set}
 use Rattle.scope.specs.Kinds.{from, upTo, outside}
 use Rattle.tables.specs.Rows.{rowAt}
 use Rattle.literals.specs.Variables.{literalAt}
-use Rattle.literals.specs.Words.{Holds, holds-none, holds-as, one-most}
+use Rattle.literals.specs.Words.{Holds, holds-none, holds-as, indicator-most}
 use Rattle.literals.proofs.Outside.{Passed, passed-none, passed-more, next-other}
 use borrow.Author.Needs.{needs}
 use Rattle.literals.proofs.times.other_times.Statement.{statement}
@@ -33,8 +33,8 @@ loop-holds c = (omega arith, omega arith, omega arith, refl, passed-none _ _ (c 
 add-t : tie.Need-add-t Inv-loop μ-loop
 add-t c = search needs
 
-hit-requires : tie.Need-hit-requires Inv-loop μ-loop
-hit-requires c κs = c .before .before .before .before .pre .0 .row
+member-is-requires : tie.Need-member-is-requires Inv-loop μ-loop
+member-is-requires c κs = c .before .before .before .before .pre .0 .row
 
 literal-requires : tie.Need-literal-requires Inv-loop μ-loop
 literal-requires c κs = search needs
@@ -46,13 +46,13 @@ slice-write-out : tie.Need-slice-write-out Inv-loop μ-loop
 slice-write-out c = search needs
 
 sub-n : tie.Need-sub-n Inv-loop μ-loop
-sub-n c = omega (arith, one-most (c .before .hit .ensures))
+sub-n c = omega (arith, indicator-most (c .before .member-is .ensures))
 
 add-n : tie.Need-add-n Inv-loop μ-loop
-add-n c = omega (arith, one-most (c .before .hit .ensures))
+add-n c = omega (arith, indicator-most (c .before .member-is .ensures))
 
 add-k : tie.Need-add-k Inv-loop μ-loop
-add-k c = omega (arith, one-most (c .before .hit .ensures))
+add-k c = omega (arith, indicator-most (c .before .member-is .ensures))
 
 loop-less : tie.Need-loop-less Inv-loop μ-loop
 loop-less c = search needs
@@ -60,10 +60,10 @@ loop-less c = search needs
 loop-again : tie.Need-loop-again Inv-loop μ-loop
 loop-again c =
     let l = c .before .before .before .loop in
-    let h = c .before .hit .ensures in (
+    let h = c .before .member-is .ensures in (
       omega arith,
-      omega (arith, one-most h),
-      omega (arith, one-most h),
+      omega (arith, indicator-most h),
+      omega (arith, indicator-most h),
       simp length-set (l .inv .3),
       passed-more (l .inv .4) h,
       next-other (l .inv .4) h _ (l .out) (l .n) _ (l .inv .5) (omega (arith, l .inv .3)) (c .literal .ensures),
@@ -85,7 +85,7 @@ other-times-spec =
     cast-row
     loop-holds
     add-t
-    hit-requires
+    member-is-requires
     literal-requires
     mul-out
     slice-write-out
