@@ -1,0 +1,10 @@
+pub mod Words
+pub mod Variables
+pub mod Users
+pub mod Outputs
+pub mod Proper
+pub mod Numbered
+pub mod Entries
+pub mod Laws
+pub mod Blocks
+pub mod Tables

@@ -1,0 +1,18 @@
+// The literals of the formula's lists, gathered from the tables of an instance into a lent slice of words. Each function
+// answers how many literals there are; they stand at the front of the slice.
+mod events;
+mod gate;
+mod times;
+mod variable;
+
+pub use events::s_spread;
+pub use events::users_of;
+pub use events::y_of_events;
+pub use gate::outputs;
+pub use times::s_of_event;
+pub use times::x_of_group;
+pub use times::y_of_event;
+pub use times::y_outside;
+pub use variable::s_literal;
+pub use variable::x_literal;
+pub use variable::y_literal;
