@@ -1,0 +1,6 @@
+pub mod Lists
+pub mod Sums
+pub mod Measure
+pub mod Gates
+pub mod Rows
+pub mod Tail
