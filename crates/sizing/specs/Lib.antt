@@ -4,3 +4,5 @@ pub mod Measure
 pub mod Gates
 pub mod Rows
 pub mod Tail
+pub mod Counts
+pub mod Softs
