@@ -6,3 +6,4 @@ pub mod Rows
 pub mod Tail
 pub mod Counts
 pub mod Softs
+pub mod Rules

@@ -10,7 +10,7 @@ use Rattle.scope.specs.Cnf.{pos, opp, neg, Gate, Item, gate, hard, soft, softUn
 use Rattle.scope.specs.Kinds.{Rule, from}
 use Rattle.scope.specs.Formula.{noRow, rowAt, counter, lastRow, columns, ones, unit, lowUnits, highUnits, shortUnits, boundItems, countInto, countItems}
 use Rattle.sizing.specs.Lists.{Each, each-append}
-use Rattle.sizing.specs.Rows.{weights}
+use Rattle.sizing.specs.Rows.{Proper, weights}
 
 -- soft units of the weight w whose literals are no constants
 abbrev pub Weighing : ℕ → List (ℕ × ℕ) → Type 0
@@ -19,6 +19,14 @@ Weighing w us = Each (λ u. (u .0 ≡ w) × (2 ≤ u .1)) us
 pub weighing-weights : (w : ℕ) (us : List (ℕ × ℕ)) → Weighing w us → weights us ≡ replicate (length us) w
 weighing-weights w [] p = refl
 weighing-weights w (u ∷ us) p = ap₂ (λ x xs. x ∷ xs) (p .0 .0) (weighing-weights w us (p .1))
+
+pub weighing-proper : (w : ℕ) (us : List (ℕ × ℕ)) → Weighing w us → Proper us
+weighing-proper w [] p = tt
+weighing-proper w (u ∷ us) p = (p .0 .1, weighing-proper w us (p .1))
+
+pub weights-append : (us vs : List (ℕ × ℕ)) → weights (us ++ vs) ≡ weights us ++ weights vs
+weights-append [] vs = refl
+weights-append (u ∷ us) vs = ap (λ ws. u .0 ∷ ws) (weights-append us vs)
 
 pub soft-append : (is js : List Item) → softUnits (is ++ js) ≡ softUnits is ++ softUnits js
 unfolding softUnits

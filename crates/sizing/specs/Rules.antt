@@ -1,0 +1,129 @@
+-- The sizes of rules: the gates that the entries of a counted list add, then the counted list.
+use mathlib.Core.Path.{_≡_, refl, sym, ap, _∙_}
+use mathlib.Core.List.{List, [], _∷_, _++_, map}
+use Prim.Native.Nat.{ℕ, zero, suc, _+_, _≤_}
+use native.Mathlib.Omega.{arith}
+use lib.ListN.{length, replicate, length-map}
+use Rattle.scope.specs.Cnf.{pos, gates, softUnits, gate}
+use Rattle.scope.specs.Kinds.{Atom, Entry, atom, anyOf, gap, Rule}
+use Rattle.scope.specs.Formula.{added, allAdded, entryGates, listGates, listLiterals, ruleItems, rulesItems, countItems}
+use Rattle.sizing.specs.Lists.{Each, each-append}
+use Rattle.sizing.specs.declared.Size.{Size}
+use Rattle.sizing.specs.Sums.{none, sum, none-sum, sum-none, sum-assoc}
+use Rattle.sizing.specs.Measure.{sizeOf, sizeAt, size-nil, size-gate, size-append}
+use Rattle.sizing.specs.Gates.{variableSize, orSize, or-size, idling-size}
+use Rattle.sizing.specs.Rows.{gatesSize, gates-append, Proper, weights}
+use Rattle.sizing.specs.Counts.{countSize, count-size}
+use Rattle.sizing.specs.Softs.{Weighing, weighing-weights, weighing-proper, weights-append, soft-append, append-weighing, gates-weighing, count-weighing}
+
+-- the gates of an entry, of some entries
+unfoldable pub entrySize : Entry → Size
+entrySize (atom a) = none
+entrySize (anyOf xs) = orSize (length xs)
+entrySize (gap earlier here later) = sum (orSize (length earlier)) (sum (orSize (length later)) (variableSize 4 10))
+
+unfoldable pub entriesSize : List Entry → Size
+entriesSize [] = none
+entriesSize (x ∷ xs) = sum (entrySize x) (entriesSize xs)
+
+-- a rule of the weight w; rules with their weights
+unfoldable pub ruleSize : ℕ → Rule → Size
+ruleSize w r = sum (entriesSize (r .list)) (countSize w (r .lo) (r .hi) (r .zeroFree) (length (r .list)))
+
+unfoldable pub rulesSize : List (ℕ × Rule) → Size
+rulesSize [] = none
+rulesSize (r ∷ rs) = sum (ruleSize (r .0) (r .1)) (rulesSize rs)
+
+-- the weights of the soft units of rules, in their order
+unfoldable pub rulesWeights : List (ℕ × Rule) → List ℕ
+rulesWeights [] = []
+rulesWeights (r ∷ rs) = replicate ((ruleSize (r .0) (r .1)) .units) (r .0) ++ rulesWeights rs
+
+-- where num gives the literals of atoms
+module _ (num : Atom → ℕ) where
+  -- an entry whose literal is no constant
+  abbrev pub Counted : Entry → Type 0
+  Counted (atom a) = 2 ≤ num a
+  Counted (anyOf xs) = Unit {0}
+  Counted (gap earlier here later) = Unit {0}
+
+  -- a rule over such entries, whose lo is no longer than its list
+  pub record Countable (r : Rule) : Type 0 where
+    pub entries : Each Counted (r .list)
+    pub low : r .lo ≤ length (r .list)
+
+  entry-size : (x : Entry) (v : ℕ) → gatesSize (entryGates num x v) ≡ entrySize x
+  unfolding entrySize
+  entry-size (atom a) v = size-nil
+  entry-size (anyOf xs) v = rw (size-gate, or-size, length-map, size-nil, sum-none)
+  entry-size (gap earlier here later) v =
+      simp (size-gate, or-size, length-map, idling-size, size-nil, sum-none)
+
+  entries-size : (xs : List Entry) (v : ℕ) → gatesSize (listGates num xs v) ≡ entriesSize xs
+  unfolding listGates entriesSize
+  entries-size [] v = size-nil
+  entries-size (x ∷ xs) v = rw (gates-append, entry-size x v, entries-size xs (v + added x))
+
+  literals-length : (xs : List Entry) (v : ℕ) → length (listLiterals num xs v) ≡ length xs
+  unfolding listLiterals
+  literals-length [] v = refl
+  literals-length (x ∷ xs) v = ap suc (literals-length xs (v + added x))
+
+  literals-proper : (xs : List Entry) (v : ℕ) → 1 ≤ v → Each Counted xs → Each (λ l. 2 ≤ l) (listLiterals num xs v)
+  unfolding listLiterals
+  literals-proper [] v h p = tt
+  literals-proper (atom a ∷ xs) v h p = (p .0, literals-proper xs (v + 0) (omega arith) (p .1))
+  literals-proper (anyOf ls ∷ xs) v h p = (omega arith, literals-proper xs (v + 1) (omega arith) (p .1))
+  literals-proper (gap es a ls ∷ xs) v h p = (omega arith, literals-proper xs (v + 3) (omega arith) (p .1))
+
+  module _ (w : ℕ) (r : Rule) (v : ℕ) (h : 1 ≤ v) (c : Countable r) where
+    pub rule-size : sizeOf (ruleItems num w r v) ≡ ruleSize w r
+    unfolding ruleItems ruleSize
+    rule-size =
+        let ls = listLiterals num (r .list) v in
+        rw (size-append, entries-size, count-size w r ls (v + allAdded (r .list)) (omega arith) (literals-proper (r .list) v h (c .entries)), literals-length)
+
+    pub rule-weighing : Weighing w (softUnits (ruleItems num w r v))
+    unfolding ruleItems
+    rule-weighing =
+        let ls = listLiterals num (r .list) v in
+        let gs = listGates num (r .list) v in
+        let u = v + allAdded (r .list) in
+        append-weighing w (map gate gs) (countItems w r ls u) (gates-weighing w gs)
+        (count-weighing w r ls u (omega arith) (rw (literals-length (r .list) v) (c .low)))
+
+    pub rule-weights : weights (softUnits (ruleItems num w r v)) ≡ replicate ((ruleSize w r) .units) w
+    unfolding sizeOf sizeAt
+    rule-weights =
+        weighing-weights w (softUnits (ruleItems num w r v)) rule-weighing ∙ ap (λ s. replicate (s .units) w) rule-size
+
+  -- rules one after the other, from the variable v on
+  pub rules-size : (rs : List (ℕ × Rule)) (v : ℕ) → 1 ≤ v → Each (λ r. Countable (r .1)) rs
+      → sizeOf (rulesItems num rs v) ≡ rulesSize rs
+  unfolding rulesItems rulesSize
+  rules-size [] v h c = size-nil
+  rules-size (r ∷ rs) v h c =
+      let u = v + gates (ruleItems num (r .0) (r .1) v) in
+      rw (size-append, rule-size (r .0) (r .1) v h (c .0), rules-size rs u (omega arith) (c .1))
+
+  -- the weights of their soft units, whose literals are no constants
+  pub rules-weights : (rs : List (ℕ × Rule)) (v : ℕ) → 1 ≤ v → Each (λ r. Countable (r .1)) rs
+      → weights (softUnits (rulesItems num rs v)) ≡ rulesWeights rs
+  unfolding rulesItems rulesWeights softUnits
+  rules-weights [] v h c = refl
+  rules-weights (r ∷ rs) v h c =
+      let is = ruleItems num (r .0) (r .1) v in
+      let u = v + gates is in
+      rw
+      (soft-append is (rulesItems num rs u), weights-append (softUnits is), rule-weights (r .0) (r .1) v h (c .0), rules-weights rs u (omega arith) (c .1))
+
+  pub rules-proper : (rs : List (ℕ × Rule)) (v : ℕ) → 1 ≤ v → Each (λ r. Countable (r .1)) rs
+      → Proper (softUnits (rulesItems num rs v))
+  unfolding rulesItems softUnits
+  rules-proper [] v h c = tt
+  rules-proper (r ∷ rs) v h c =
+      let is = ruleItems num (r .0) (r .1) v in
+      let u = v + gates is in
+      let p = weighing-proper (r .0) (softUnits is) (rule-weighing (r .0) (r .1) v h (c .0)) in
+      rw (soft-append is (rulesItems num rs u))
+      (each-append (λ x. 2 ≤ x .1) (softUnits is) (softUnits (rulesItems num rs u)) p (rules-proper rs u (omega arith) (c .1)))
