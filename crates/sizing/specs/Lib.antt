@@ -7,3 +7,4 @@ pub mod Tail
 pub mod Counts
 pub mod Softs
 pub mod Rules
+pub mod KindSizes
