@@ -8,3 +8,4 @@ pub mod Counts
 pub mod Softs
 pub mod Rules
 pub mod KindSizes
+pub mod Sound
