@@ -10,7 +10,7 @@ use Rattle.sizing.specs.declared.Size.{Size}
 use Rattle.sizing.specs.Sums.{equal, none, sum, multiple, none-sum, sum-none, sum-assoc, multiple-zero, multiple-suc, multiple-none}
 use Rattle.sizing.specs.Gates.{variableSize, orSize}
 use Rattle.sizing.specs.Counts.{countSize, length-from}
-use Rattle.sizing.specs.Rules.{entrySize, entriesSize, ruleSize, rulesSize}
+use Rattle.sizing.specs.Rules.{entrySize, entriesSize, ruleSize, rulesSize, entries-append, atoms-size}
 
 -- an idle time of a group of n members: G, H and I
 unfoldable pub gapSize : ℕ → Size
@@ -45,17 +45,6 @@ module _ (T : ℕ) (es : List Event) (gs : List (List ℕ)) (w : ℕ) where
   kindSize (busy r g lo hi) = countSize w lo (min hi (length (groupAt gs g))) true (length (groupAt gs g))
   kindSize (cluster r hs lo hi) = sum (groupsSize orSize gs hs) (listSize lo hi (length hs))
   kindSize (idle r hs lo hi) = sum (groupsSize gapsSize gs hs) (listSize lo hi (gapCount gs hs))
-
-pub entries-append : (xs ys : List Entry) → entriesSize (xs ++ ys) ≡ sum (entriesSize xs) (entriesSize ys)
-unfolding entriesSize
-entries-append [] ys = sym (none-sum (entriesSize ys))
-entries-append (x ∷ xs) ys = rw (entries-append xs ys, sum-assoc)
-
--- atoms need no gates
-atoms-size : {A : Type 0} (f : A → Atom) (xs : List A) → entriesSize (map (λ x. atom (f x)) xs) ≡ none
-unfolding entriesSize entrySize
-atoms-size f [] = refl
-atoms-size f (x ∷ xs) = rw (none-sum, atoms-size f xs)
 
 -- an idle time among n members, the others before or after it
 gap-size : (earlier : List Atom) (here : Atom) (later : List Atom) (n : ℕ) → n ≡ length earlier + suc (length later)

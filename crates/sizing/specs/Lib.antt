@@ -9,3 +9,4 @@ pub mod Softs
 pub mod Rules
 pub mod KindSizes
 pub mod Sound
+pub mod Blocks

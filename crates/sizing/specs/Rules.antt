@@ -26,6 +26,17 @@ unfoldable pub entriesSize : List Entry → Size
 entriesSize [] = none
 entriesSize (x ∷ xs) = sum (entrySize x) (entriesSize xs)
 
+pub entries-append : (xs ys : List Entry) → entriesSize (xs ++ ys) ≡ sum (entriesSize xs) (entriesSize ys)
+unfolding entriesSize
+entries-append [] ys = sym (none-sum (entriesSize ys))
+entries-append (x ∷ xs) ys = rw (entries-append xs ys, sum-assoc)
+
+-- atoms need no gates
+pub atoms-size : {A : Type 0} (f : A → Atom) (xs : List A) → entriesSize (map (λ x. atom (f x)) xs) ≡ none
+unfolding entriesSize entrySize
+atoms-size f [] = refl
+atoms-size f (x ∷ xs) = rw (none-sum, atoms-size f xs)
+
 -- a rule of the weight w; rules with their weights
 unfoldable pub ruleSize : ℕ → Rule → Size
 ruleSize w r = sum (entriesSize (r .list)) (countSize w (r .lo) (r .hi) (r .zeroFree) (length (r .list)))
