@@ -10,3 +10,4 @@ pub mod Rules
 pub mod KindSizes
 pub mod Sound
 pub mod Blocks
+pub mod Whole

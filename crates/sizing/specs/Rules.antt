@@ -1,19 +1,20 @@
 -- The sizes of rules: the gates that the entries of a counted list add, then the counted list.
 use mathlib.Core.Path.{_≡_, refl, sym, ap, _∙_}
+use mathlib.Core.Bool.{Bool, true, false}
 use mathlib.Core.List.{List, [], _∷_, _++_, map}
 use Prim.Native.Nat.{ℕ, zero, suc, _+_, _≤_}
 use native.Mathlib.Omega.{arith}
 use lib.ListN.{length, replicate, length-map}
 use Rattle.scope.specs.Cnf.{pos, gates, softUnits, gate}
 use Rattle.scope.specs.Kinds.{Atom, Entry, atom, anyOf, gap, Rule}
-use Rattle.scope.specs.Formula.{added, allAdded, entryGates, listGates, listLiterals, ruleItems, rulesItems, countItems}
+use Rattle.scope.specs.Formula.{columns, added, allAdded, entryGates, listGates, listLiterals, ruleItems, rulesItems, countItems}
 use Rattle.sizing.specs.Lists.{Each, each-append}
 use Rattle.sizing.specs.declared.Size.{Size}
-use Rattle.sizing.specs.Sums.{none, sum, none-sum, sum-none, sum-assoc}
+use Rattle.sizing.specs.Sums.{none, sum, multiple, none-sum, sum-none, sum-assoc}
 use Rattle.sizing.specs.Measure.{sizeOf, sizeAt, size-nil, size-gate, size-append}
-use Rattle.sizing.specs.Gates.{variableSize, orSize, or-size, idling-size}
-use Rattle.sizing.specs.Rows.{gatesSize, gates-append, Proper, weights}
-use Rattle.sizing.specs.Counts.{countSize, count-size}
+use Rattle.sizing.specs.Gates.{variableSize, orSize, or-size, idling-size, hardUnit, unitSize}
+use Rattle.sizing.specs.Rows.{gatesSize, gates-append, firstRow, laterRow, equalRows, Proper, weights}
+use Rattle.sizing.specs.Counts.{unitsSize, shortsSize, lowSize, countSize, count-size}
 use Rattle.sizing.specs.Softs.{Weighing, weighing-weights, weighing-proper, weights-append, soft-append, append-weighing, gates-weighing, count-weighing}
 
 -- the gates of an entry, of some entries
@@ -49,6 +50,30 @@ rulesSize (r ∷ rs) = sum (ruleSize (r .0) (r .1)) (rulesSize rs)
 unfoldable pub rulesWeights : List (ℕ × Rule) → List ℕ
 rulesWeights [] = []
 rulesWeights (r ∷ rs) = replicate ((ruleSize (r .0) (r .1)) .units) (r .0) ++ rulesWeights rs
+
+-- hard rules have no soft units
+entries-units : (xs : List Entry) → (entriesSize xs) .units ≡ 0
+unfolding entriesSize entrySize none sum orSize
+entries-units [] = refl
+entries-units (atom a ∷ xs) = omega (arith, entries-units xs)
+entries-units (anyOf ls ∷ xs) = omega (arith, entries-units xs)
+entries-units (gap es a ls ∷ xs) = omega (arith, entries-units xs)
+
+rows-units : (cols n w : ℕ) → (equalRows cols n w) .units ≡ 0
+unfolding equalRows none sum multiple firstRow laterRow
+rows-units cols zero w = refl
+rows-units cols (suc n) w = omega arith
+
+low-hard : (lo : ℕ) (zeroFree : Bool) → (lowSize 0 lo zeroFree) .units ≡ 0
+unfolding lowSize shortsSize unitsSize unitSize hardUnit multiple sum
+low-hard lo true = omega arith
+low-hard lo false = omega arith
+
+pub hard-rule : (r : Rule) → (ruleSize 0 r) .units ≡ 0
+unfolding ruleSize countSize unitsSize unitSize hardUnit multiple sum
+hard-rule r =
+    let n = length (r .list) in
+    omega (arith, entries-units (r .list), rows-units (columns 0 (r .hi) n) n 1, low-hard (r .lo) (r .zeroFree))
 
 -- where num gives the literals of atoms
 module _ (num : Atom → ℕ) where
