@@ -103,3 +103,36 @@ count-size w r xs v h p =
     let cols = columns w (r .hi) (length xs) in
     rw
     (size-append, counter-size cols (ones xs) v h (ones-proper xs p), ones-weights, counter-equal, bounds-size w r)
+
+-- the same as numbers, hard and soft
+pub units-hard : (w k : ℕ) → w ≡ 0
+    → unitsSize w k ≡ record { variables = 0; clauses = min 1 k; words = min 1 k; units = 0; weight = 0 }
+unfolding unitsSize unitSize hardUnit multiple
+units-hard zero k e = equal (omega arith)
+units-hard (suc w) k e = let f : ⊥ = omega arith in absurd f
+
+pub units-soft : (w k : ℕ) → 1 ≤ w
+    → unitsSize w k ≡ record { variables = 0; clauses = 0; words = 0; units = k; weight = k * w }
+unfolding unitsSize unitSize softSize multiple
+units-soft zero k h = let f : ⊥ = omega arith in absurd f
+units-soft (suc w) k h = equal (omega arith)
+
+pub shorts-hard : (w k : ℕ) → w ≡ 0
+    → shortsSize w k ≡ record { variables = k; clauses = 4 * k; words = 8 * k; units = 0; weight = 0 }
+unfolding shortsSize unitSize hardUnit multiple sum
+shorts-hard zero k e = equal (omega arith)
+shorts-hard (suc w) k e = let f : ⊥ = omega arith in absurd f
+
+pub shorts-soft : (w k : ℕ) → 1 ≤ w
+    → shortsSize w k ≡ record { variables = k; clauses = 3 * k; words = 7 * k; units = k; weight = k * w }
+unfolding shortsSize unitSize softSize multiple sum
+shorts-soft zero k h = let f : ⊥ = omega arith in absurd f
+shorts-soft (suc w) k h = equal (omega arith)
+
+pub columns-hard : (w hi n : ℕ) → w ≡ 0 → columns w hi n ≡ min n (hi + 1)
+columns-hard zero hi n e = refl
+columns-hard (suc w) hi n e = let f : ⊥ = omega arith in absurd f
+
+pub columns-soft : (w hi n : ℕ) → 1 ≤ w → columns w hi n ≡ n
+columns-soft zero hi n h = let f : ⊥ = omega arith in absurd f
+columns-soft (suc w) hi n h = refl

@@ -11,3 +11,4 @@ pub mod KindSizes
 pub mod Sound
 pub mod Blocks
 pub mod Whole
+pub mod Limits

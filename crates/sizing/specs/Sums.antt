@@ -91,6 +91,10 @@ pub record Within (m : ℕ) (a : Size) : Type 0 where
   pub units : a .units ≤ m
   pub weight : a .weight ≤ m
 
+-- each number of the size is one of 64 bits
+abbrev pub Fits64 : Size → Type 0
+Fits64 a = Within 18446744073709551615 a
+
 pub within-more : {m n : ℕ} {a : Size} → m ≤ n → Within m a → Within n a
 within-more h w = omega arith
 

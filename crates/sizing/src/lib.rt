@@ -1,6 +1,11 @@
-// The sizes of a formula by arithmetic, with no walk over its clauses.
+// The sizes of a formula by arithmetic, with no walk over its clauses: variables, hard clauses, words, soft units and the
+// sum of their weights. specs/ ties each size to the items that it stands for.
+pub mod blocks;
+pub mod counts;
+pub mod rows;
+pub mod sums;
 
-// Variables, hard clauses, words (literals of hard clauses), soft units, and the sum of the soft weights.
+// Variables, hard clauses, words (literals of hard clauses), soft units, and the sum of the soft units' weights.
 pub struct Size {
     pub variables: u64,
     pub clauses: u64,
