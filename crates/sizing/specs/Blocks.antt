@@ -1,6 +1,5 @@
 -- The sizes of the formula's blocks before the constraints: starts, uses and durations.
 use mathlib.Core.Path.{_≡_, refl, sym, ap, _∙_}
-use mathlib.Core.Bool.{false}
 use mathlib.Core.List.{List, [], _∷_, _++_, map, flatMap}
 use Prim.Native.Nat.{ℕ, zero, suc, _+_, _-_, _*_, min, _≤_}
 use native.Mathlib.Omega.{arith}
@@ -15,8 +14,9 @@ use Rattle.sizing.specs.Sums.{equal, none, sum, multiple, none-sum, mult
 use Rattle.sizing.specs.Measure.{clausesSize, sizeOf, size-nil, size-gate, size-hard, size-append}
 use Rattle.sizing.specs.Gates.{orSize, or-size}
 use Rattle.sizing.specs.Rows.{gatesSize, gates-append}
-use Rattle.sizing.specs.Counts.{countSize, length-from}
-use Rattle.sizing.specs.Rules.{ruleSize, rulesSize, atoms-size}
+use Rattle.sizing.specs.Counts.{length-from}
+use Rattle.sizing.specs.Rules.{rulesSize}
+use Rattle.sizing.specs.KindSizes.{listSize, atoms-rule}
 
 -- the clauses of an event's starts at T times; at time 1 the second has a literal less
 unfoldable pub startClauses : ℕ → Size
@@ -38,7 +38,7 @@ usesSize T es (r ∷ rs) = sum (useSize T (length (users r es))) (usesSize T es 
 -- the counted times of some events
 unfoldable pub durationsSize : ℕ → List Event → Size
 durationsSize T [] = none
-durationsSize T (v ∷ vs) = sum (countSize 0 (v .duration) (min (v .duration) T) false T) (durationsSize T vs)
+durationsSize T (v ∷ vs) = sum (listSize 0 (v .duration) (v .duration) T) (durationsSize T vs)
 
 -- lists of one size, one after the other
 same-sizes : {A : Type 0} (f : A → List Item) (s : Size) → ((x : A) → sizeOf (f x) ≡ s) → (xs : List A)
@@ -97,8 +97,8 @@ module _ (i : Instance) where
   uses-size = uses-of (upTo (i .resources))
 
   pub durations-size : (e : ℕ) (vs : List Event) → rulesSize (durationRules i e vs) ≡ durationsSize (i .times) vs
-  unfolding durationRules rulesSize ruleSize durationsSize
+  unfolding durationRules rulesSize durationsSize
   durations-size e [] = refl
   durations-size e (v ∷ vs) =
       rw
-      (atoms-size (Y e) (upTo (i .times)), none-sum, length-map (upTo (i .times)) (λ t. atom (Y e t)), length-from 1 (i .times), durations-size (suc e) vs)
+      (atoms-rule 0 (v .duration) (v .duration) (Y e) (upTo (i .times)), length-from 1 (i .times), durations-size (suc e) vs)

@@ -30,21 +30,28 @@ unfoldable pub gapCount : List (List ℕ) → List ℕ → ℕ
 gapCount gs [] = 0
 gapCount gs (h ∷ hs) = length (groupAt gs h) - 2 + gapCount gs hs
 
+-- a counted list of the weight w with n entries between lo and hi, which is lowered to n; the same for kind 6
+unfoldable pub listSize : ℕ → ℕ → ℕ → ℕ → Size
+listSize w lo hi n = countSize w lo (min hi n) false n
+
+unfoldable pub busySize : ℕ → ℕ → ℕ → ℕ → Size
+busySize w lo hi n = countSize w lo (min hi n) true n
+
+-- at each of T times at most one of n
+unfoldable pub clashSize : ℕ → ℕ → ℕ → Size
+clashSize T w n = multiple T (listSize w 0 1 n)
+
 -- a constraint of the weight w, for T times, the events and the groups of an instance
 module _ (T : ℕ) (es : List Event) (gs : List (List ℕ)) (w : ℕ) where
-  -- a counted list of n entries between lo and hi, which is lowered to n
-  abbrev pub listSize : ℕ → ℕ → ℕ → Size
-  listSize lo hi n = countSize w lo (min hi n) false n
-
   unfoldable pub kindSize : Kind → Size
-  kindSize (clash r) = multiple T (listSize 0 1 (length (users r es)))
-  kindSize (unavailable r g) = listSize 0 0 (length (groupAt gs g))
-  kindSize (preferred e g) = listSize 0 0 (length (outside (groupAt gs g) (upTo T)))
-  kindSize (split e lo hi) = listSize lo hi T
-  kindSize (spread vs g lo hi) = listSize lo hi (length vs * length (groupAt gs g))
-  kindSize (busy r g lo hi) = countSize w lo (min hi (length (groupAt gs g))) true (length (groupAt gs g))
-  kindSize (cluster r hs lo hi) = sum (groupsSize orSize gs hs) (listSize lo hi (length hs))
-  kindSize (idle r hs lo hi) = sum (groupsSize gapsSize gs hs) (listSize lo hi (gapCount gs hs))
+  kindSize (clash r) = clashSize T w (length (users r es))
+  kindSize (unavailable r g) = listSize w 0 0 (length (groupAt gs g))
+  kindSize (preferred e g) = listSize w 0 0 (length (outside (groupAt gs g) (upTo T)))
+  kindSize (split e lo hi) = listSize w lo hi T
+  kindSize (spread vs g lo hi) = listSize w lo hi (length vs * length (groupAt gs g))
+  kindSize (busy r g lo hi) = busySize w lo hi (length (groupAt gs g))
+  kindSize (cluster r hs lo hi) = sum (groupsSize orSize gs hs) (listSize w lo hi (length hs))
+  kindSize (idle r hs lo hi) = sum (groupsSize gapsSize gs hs) (listSize w lo hi (gapCount gs hs))
 
 -- an idle time among n members, the others before or after it
 gap-size : (earlier : List Atom) (here : Atom) (later : List Atom) (n : ℕ) → n ≡ length earlier + suc (length later)
@@ -119,37 +126,40 @@ unfolding flatMap
 spreads-length ts [] = omega arith
 spreads-length ts (e ∷ vs) = rw (length-append, length-map, spreads-length ts vs) (omega arith)
 
--- the counted lists of a clash, one for each time
-clashes-size : (w : ℕ) (us ts : List ℕ)
-    → rulesSize (map (λ r. (w, r)) (map (λ t. between 0 1 (map (λ e. atom (Y e t)) us)) ts))
-    ≡ multiple (length ts) (countSize w 0 (min 1 (length us)) false (length us))
-unfolding rulesSize ruleSize
-clashes-size w us [] = sym (multiple-zero (countSize w 0 (min 1 (length us)) false (length us)))
-clashes-size w us (t ∷ ts) =
-    rw (atoms-size (λ e. Y e t) us, none-sum, length-map us (λ e. atom (Y e t)), clashes-size w us ts, multiple-suc)
-
 -- one rule; a rule over atoms
 one-rule : (w : ℕ) (r : Rule) → rulesSize ((w, r) ∷ []) ≡ ruleSize w r
 unfolding rulesSize
 one-rule w r = sum-none (ruleSize w r)
 
-atoms-rule : {A : Type 0} (w lo hi : ℕ) (f : A → Atom) (xs : List A)
-    → rulesSize ((w, between lo hi (map (λ x. atom (f x)) xs)) ∷ []) ≡ countSize w lo (min hi (length xs)) false (length xs)
-unfolding ruleSize
-atoms-rule w lo hi f xs = rw (one-rule, atoms-size f xs, none-sum, length-map xs (λ x. atom (f x)))
+pub atoms-rule : {A : Type 0} (w lo hi : ℕ) (f : A → Atom) (xs : List A)
+    → ruleSize w (between lo hi (map (λ x. atom (f x)) xs)) ≡ listSize w lo hi (length xs)
+unfolding ruleSize listSize
+atoms-rule w lo hi f xs = rw (atoms-size f xs, none-sum, length-map xs (λ x. atom (f x)))
+
+-- the counted lists of a clash, one for each time
+clashes-size : (w : ℕ) (us ts : List ℕ)
+    → rulesSize (map (λ r. (w, r)) (map (λ t. between 0 1 (map (λ e. atom (Y e t)) us)) ts))
+    ≡ clashSize (length ts) w (length us)
+unfolding rulesSize clashSize
+clashes-size w us [] = sym (multiple-zero (listSize w 0 1 (length us)))
+clashes-size w us (t ∷ ts) = rw (atoms-rule w 0 1 (λ e. Y e t) us, clashes-size w us ts, multiple-suc)
 
 -- the size of a constraint's rules
 pub kind-size : (T : ℕ) (es : List Event) (gs : List (List ℕ)) (w : ℕ) (k : Kind)
     → rulesSize (map (λ r. (w, r)) (rulesOf T es gs k)) ≡ kindSize T es gs w k
 unfolding rulesOf kindSize
 kind-size T es gs w (clash r) = rw (clashes-size w (users r es) (upTo T), length-from 1 T)
-kind-size T es gs w (unavailable r g) = rw (atoms-rule w 0 0 (λ a. a) (usesAt r (groupAt gs g)), length-map)
-kind-size T es gs w (preferred e g) = atoms-rule w 0 0 (Y e) (outside (groupAt gs g) (upTo T))
-kind-size T es gs w (split e lo hi) = rw (atoms-rule w lo hi (S e) (upTo T), length-from 1 T)
+kind-size T es gs w (unavailable r g) = rw (one-rule, atoms-rule w 0 0 (λ a. a) (usesAt r (groupAt gs g)), length-map)
+kind-size T es gs w (preferred e g) = rw (one-rule, atoms-rule w 0 0 (Y e) (outside (groupAt gs g) (upTo T)))
+kind-size T es gs w (split e lo hi) = rw (one-rule, atoms-rule w lo hi (S e) (upTo T), length-from 1 T)
 kind-size T es gs w (spread vs g lo hi) =
-    unfold ruleSize in rw (one-rule, spreads-size (groupAt gs g) vs, none-sum, spreads-length (groupAt gs g) vs)
+    unfold ruleSize listSize in
+    rw (one-rule, spreads-size (groupAt gs g) vs, none-sum, spreads-length (groupAt gs g) vs)
 kind-size T es gs w (busy r g lo hi) =
-    unfold ruleSize in rw (one-rule, atoms-size (λ a. a) (usesAt r (groupAt gs g)), none-sum, length-map, length-map)
+    unfold ruleSize busySize in
+    rw (one-rule, atoms-size (λ a. a) (usesAt r (groupAt gs g)), none-sum, length-map, length-map)
 kind-size T es gs w (cluster r hs lo hi) =
-    unfold ruleSize in rw (one-rule, clusters-size r gs hs, length-map hs (λ g. anyOf (usesAt r (groupAt gs g))))
-kind-size T es gs w (idle r hs lo hi) = unfold ruleSize in rw (one-rule, idles-size r gs hs, idles-length r gs hs)
+    unfold ruleSize listSize in
+    rw (one-rule, clusters-size r gs hs, length-map hs (λ g. anyOf (usesAt r (groupAt gs g))))
+kind-size T es gs w (idle r hs lo hi) =
+    unfold ruleSize listSize in rw (one-rule, idles-size r gs hs, idles-length r gs hs)

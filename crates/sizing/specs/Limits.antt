@@ -12,7 +12,7 @@ use Rattle.sizing.specs.Gates.{orSize, hardUnit, unitSize}
 use Rattle.sizing.specs.Rows.{firstRow, laterRow, equalRows}
 use Rattle.sizing.specs.Tail.{tailAdd}
 use Rattle.sizing.specs.Counts.{unitsSize, shortsSize, lowSize, countSize, units-hard, units-soft, shorts-hard, shorts-soft}
-use Rattle.sizing.specs.KindSizes.{gapSize, gapsSize}
+use Rattle.sizing.specs.KindSizes.{listSize, busySize, clashSize, gapSize, gapsSize}
 
 -- numbers of 32 bits multiplied, and of 63 bits added, have 64
 pub fits-multiple : (k m : ℕ) (a : Size) → k ≤ 4294967295 → m ≤ 4294967295 → Within m a → Fits64 (multiple k a)
@@ -71,6 +71,19 @@ count-within w lo hi free n h j k =
     within-more (omega arith)
     (within-sum 715275 510000 (equalRows cols n 1) (sum (lowSize w lo free) (unitsSize w (n - hi))) rows
     (within-sum 255000 255000 (lowSize w lo free) (unitsSize w (n - hi)) (low-within w lo free h j) high))
+
+pub list-within : (w lo hi n : ℕ) → w ≤ 1000 → lo ≤ 255 → n ≤ 255 → Within 1225275 (listSize w lo hi n)
+unfolding listSize
+list-within w lo hi n h j k = count-within w lo (min hi n) false n h j k
+
+pub busy-within : (w lo hi n : ℕ) → w ≤ 1000 → lo ≤ 255 → n ≤ 255 → Within 1225275 (busySize w lo hi n)
+unfolding busySize
+busy-within w lo hi n h j k = count-within w lo (min hi n) true n h j k
+
+pub clash-within : (T w n : ℕ) → T ≤ 125 → w ≤ 1000 → n ≤ 255 → Within 153159375 (clashSize T w n)
+unfolding clashSize
+clash-within T w n h j k =
+    within-more (omega arith) (within-multiple T 1225275 (listSize w 0 1 n) (list-within w 0 1 n j (omega arith) k))
 
 -- groups of up to 125 members
 pub gaps-within : (n : ℕ) → n ≤ 125 → Within 48000 (gapsSize n)

@@ -1,18 +1,11 @@
-// The blocks of a formula: starts, uses, groups of kinds 7 and 8, and clashes.
+// The blocks of a formula before the constraints, and what stores it needs.
 ghost use mathlib.Core.Path.{_≡_};
-ghost use mathlib.Core.Bool.{false};
-ghost use Prim.Native.Nat.{_≤_, min};
+ghost use Prim.Native.Nat.{_≤_};
 ghost use Rattle.scope.specs.declared.FormulaSize.{FormulaSize};
-ghost use Rattle.sizing.specs.Sums.{multiple};
 ghost use Rattle.sizing.specs.Gates.{orSize};
-ghost use Rattle.sizing.specs.Counts.{countSize};
-ghost use Rattle.sizing.specs.KindSizes.{gapsSize};
 ghost use Rattle.sizing.specs.Blocks.{startsSize, useSize};
 ghost use Rattle.sizing.specs.Whole.{stored};
 use crate::Size;
-use crate::counts::count_size;
-use crate::sums::beyond;
-use crate::sums::lower;
 use crate::sums::multiply;
 use scope::FormulaSize;
 
@@ -51,31 +44,6 @@ pub fn use_size(times: u64, users: u64) -> Size
     ensures { λ r. ⌜ r ≡ useSize times users ⌝ }
 {
     let one = or_size(users);
-    multiply(times, one)
-}
-
-// The idle times of a group of n members.
-pub fn gaps_size(n: u64) -> Size
-    requires { ⌜ n ≤ 125 ⌝ }
-    ensures { λ r. ⌜ r ≡ gapsSize n ⌝ }
-{
-    let inner = beyond(n, 2);
-    Size {
-        variables: inner * 3,
-        clauses: inner * (n + 5),
-        words: inner * (3 * n + 9),
-        units: 0,
-        weight: 0,
-    }
-}
-
-// A clash: at each time at most one of the users of a resource.
-pub fn clash_size(times: u64, weight: u64, users: u64) -> Size
-    requires { ⌜ (times ≤ 125) × (weight ≤ 1000) × (users ≤ 255) ⌝ }
-    ensures { λ r. ⌜ r ≡ multiple times (countSize weight 0 (min 1 users) false users) ⌝ }
-{
-    let hi = lower(1, users);
-    let one = count_size(weight, 0, hi, false, users);
     multiply(times, one)
 }
 

@@ -1,4 +1,4 @@
--- `blocks::gaps_size` meets its contract: the products are small.
+-- `kinds::gaps_size` meets its contract: the products are small.
 -- Assumes nothing.
 use borrow.Author.Needs.{needs}
 use Prim.Native.Nat.{_+_, _*_, _≤_}
@@ -6,8 +6,8 @@ use native.Mathlib.Omega.{arith}
 use native.Mathlib.Nat.{mul-le-mul}
 use Rattle.sizing.specs.Sums.{equal, multiple}
 use Rattle.sizing.specs.KindSizes.{gapSize, gapsSize}
-use Rattle.sizing.proofs.blocks.gaps_size.Statement.{statement}
-use Rattle.sizing.proofs.blocks.gaps_size.Tie as tie
+use Rattle.sizing.proofs.kinds.gaps_size.Statement.{statement}
+use Rattle.sizing.proofs.kinds.gaps_size.Tie as tie
 
 beyond-requires : tie.Need-beyond-requires
 beyond-requires c κs = search needs
