@@ -123,6 +123,9 @@ cases =
     -- 80 01 is 128; 80 00 gives 1
     ∷ shows (numberSaid (number (0x80 ∷ 0x01 ∷ []) 0)) (0 ∷ 128 ∷ 2 ∷ [])
     ∷ shows (numberSaid (number (0x80 ∷ 0x00 ∷ []) 0)) (1 ∷ 0 ∷ [])
+    -- the largest number, and one too large
+    ∷ shows (numberSaid (number (0xFF ∷ 0xFF ∷ 0xFF ∷ 0xFF ∷ 0x0F ∷ []) 0)) (0 ∷ 4294967295 ∷ 5 ∷ [])
+    ∷ shows (numberSaid (number (0x80 ∷ 0x80 ∷ 0x80 ∷ 0x80 ∷ 0x10 ∷ []) 0)) (1 ∷ 0 ∷ [])
     -- timetable 01 01 on A scores infeasibility 0, objective 4; 00 00 gives 12, event 1
     ∷ shows (scoreSaid (scoreOf fileA (1 ∷ 1 ∷ []))) (0 ∷ 0 ∷ 4 ∷ [])
     ∷ shows (scoreSaid (scoreOf fileA (0 ∷ 0 ∷ []))) (12 ∷ 1 ∷ [])
@@ -141,6 +144,9 @@ cases =
     ∷ shows (checkA 3 (0x61 ∷ 0x11 ∷ 0x00 ∷ 0x05 ∷ 0x05 ∷ 0x04 ∷ 0x06 ∷ 0x0E ∷ 0x10 ∷ 0x00 ∷ [])) (16 ∷ 1 ∷ [])
     -- a deleted clause is not used
     ∷ shows (checkA 3 (0x64 ∷ 0x05 ∷ 0x00 ∷ proofA 0x11)) (15 ∷ 2 ∷ [])
+    -- the tail's last variable may stand in an added clause, the next one not
+    ∷ shows (checkA 3 (0x61 ∷ 0x11 ∷ 0x06 ∷ 0x10 ∷ 0x00 ∷ 0x05 ∷ 0x00 ∷ [])) (18 ∷ 1 ∷ [])
+    ∷ shows (checkA 3 (0x61 ∷ 0x11 ∷ 0x06 ∷ 0x12 ∷ 0x00 ∷ 0x05 ∷ 0x00 ∷ [])) (14 ∷ 1 ∷ [])
     -- bytes after the empty clause; a step d without ids; the formula just fits, then one word, row or byte too few
     ∷ shows (checkA 3 (proofA 0x11 ++ 0x00 ∷ [])) (18 ∷ 1 ∷ [])
     ∷ shows (checkA 3 (0x64 ∷ 0x00 ∷ [])) (18 ∷ 1 ∷ [])

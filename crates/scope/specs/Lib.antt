@@ -10,5 +10,7 @@ pub mod Steps
 pub mod PlainRun
 pub mod Operations
 pub mod Answers
+pub mod Spelling
+pub mod Refutation
 pub mod Demands
 pub mod Examples

@@ -1,0 +1,11 @@
+-- Demands 2 and 3 of the definitions.
+use Rattle.scope.specs.Demands.{Demand2, Demand3}
+use Rattle.theory.specs.Match as match
+use Rattle.theory.specs.Bounded.{bounded-model}
+use Rattle.theory.specs.Never as bound
+
+pub demand2 : Demand2
+demand2 = match.demand2
+
+pub demand3 : Demand3
+demand3 = bound.demand3 (λ file i B t cost a. bounded-model file i a B t cost)
