@@ -14,7 +14,7 @@ use Rattle.sizing.specs.Sums.{equal, none, sum, multiple, none-sum, mult
 use Rattle.sizing.specs.Measure.{clausesSize, sizeOf, size-nil, size-gate, size-hard, size-append}
 use Rattle.sizing.specs.Gates.{orSize, or-size}
 use Rattle.sizing.specs.Rows.{gatesSize, gates-append}
-use Rattle.sizing.specs.Counts.{length-from}
+use Rattle.theory.specs.Ranges.{length-from}
 use Rattle.sizing.specs.Rules.{rulesSize}
 use Rattle.sizing.specs.KindSizes.{listSize, atoms-rule}
 

@@ -10,7 +10,8 @@ use borrow.Author.Tests.{leb-true, leb-false, ltb-true, ltb-false}
 use Rattle.scope.specs.Cnf.{opp, Item, hard, soft}
 use Rattle.scope.specs.Kinds.{Rule, from}
 use Rattle.scope.specs.Formula.{columns, ones, unit, lowUnits, highUnits, shortUnits, boundItems, countInto, countItems}
-use Rattle.sizing.specs.Lists.{Each}
+use Rattle.laws.specs.Lists.{All}
+use Rattle.theory.specs.Ranges.{length-from}
 use Rattle.sizing.specs.declared.Size.{Size}
 use Rattle.sizing.specs.Sums.{equal, none, sum, multiple, none-sum, sum-none, sum-assoc, multiple-zero, multiple-suc}
 use Rattle.sizing.specs.Measure.{sizeOf, softSize, size-nil, size-gate, size-soft, size-append}
@@ -39,11 +40,6 @@ lowSize w lo false = unitsSize w lo
 unfoldable pub countSize : ℕ → ℕ → ℕ → Bool → ℕ → Size
 countSize w lo hi zeroFree n =
     sum (equalRows (columns w hi n) n 1) (sum (lowSize w lo zeroFree) (unitsSize w (n - hi)))
-
-pub length-from : (n k : ℕ) → length (from n k) ≡ k
-unfolding from
-length-from n zero = refl
-length-from n (suc k) = ap suc (length-from (suc n) k)
 
 soft-units : (w : ℕ) (f : ℕ → ℕ) (js : List ℕ) → sizeOf (map (λ j. soft w (f j)) js) ≡ multiple (length js) (softSize w)
 soft-units w f [] = rw (size-nil, multiple-zero)
@@ -87,7 +83,7 @@ unfolding boundItems
 bounds-size w r q n v = rw (size-append, low-size w (r .lo) q v (r .zeroFree), high-units)
 
 -- the literals of a counted list, which are no constants, have the weight 1
-ones-proper : (xs : List ℕ) → Each (λ x. 2 ≤ x) xs → Proper (ones xs)
+ones-proper : (xs : List ℕ) → All (λ x. 2 ≤ x) xs → Proper (ones xs)
 ones-proper [] p = tt
 ones-proper (x ∷ xs) p = (p .0, ones-proper xs (p .1))
 
@@ -96,7 +92,7 @@ ones-weights [] = refl
 ones-weights (x ∷ xs) = ap (λ ws. 1 ∷ ws) (ones-weights xs)
 
 -- the size of a counted list's items, which its length alone decides
-pub count-size : (w : ℕ) (r : Rule) (xs : List ℕ) (v : ℕ) → 1 ≤ v → Each (λ x. 2 ≤ x) xs
+pub count-size : (w : ℕ) (r : Rule) (xs : List ℕ) (v : ℕ) → 1 ≤ v → All (λ x. 2 ≤ x) xs
     → sizeOf (countItems w r xs v) ≡ countSize w (r .lo) (r .hi) (r .zeroFree) (length xs)
 unfolding countInto countSize
 count-size w r xs v h p =

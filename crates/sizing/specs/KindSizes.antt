@@ -9,7 +9,8 @@ use Rattle.scope.specs.Kinds.{Event, Kind, clash, unavailable, preferred, split
 use Rattle.sizing.specs.declared.Size.{Size}
 use Rattle.sizing.specs.Sums.{equal, none, sum, multiple, none-sum, sum-none, sum-assoc, multiple-zero, multiple-suc, multiple-none}
 use Rattle.sizing.specs.Gates.{variableSize, orSize}
-use Rattle.sizing.specs.Counts.{countSize, length-from}
+use Rattle.sizing.specs.Counts.{countSize}
+use Rattle.theory.specs.Ranges.{length-from}
 use Rattle.sizing.specs.Rules.{entrySize, entriesSize, ruleSize, rulesSize, entries-append, atoms-size}
 
 -- an idle time of a group of n members: G, H and I

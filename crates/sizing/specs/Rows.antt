@@ -7,7 +7,7 @@ use native.Mathlib.Omega.{arith}
 use lib.ListN.{replicate}
 use Rattle.scope.specs.Cnf.{pos, Gate, cell, gate}
 use Rattle.scope.specs.Formula.{noRow, rowAt, row, counter}
-use Rattle.sizing.specs.Lists.{Each}
+use Rattle.laws.specs.Lists.{All}
 use Rattle.sizing.specs.declared.Size.{Size}
 use Rattle.sizing.specs.Sums.{equal, none, sum, multiple, none-sum, sum-assoc, multiple-zero, multiple-suc}
 use Rattle.sizing.specs.Measure.{sizeOf, gateSize, size-nil, size-gate}
@@ -70,7 +70,7 @@ module _ (w x : ℕ) (hx : 2 ≤ x) where
 
 -- literals with weights that are no constants, and their weights
 abbrev pub Proper : List (ℕ × ℕ) → Type 0
-Proper xs = Each (λ x. 2 ≤ x .1) xs
+Proper xs = All (λ x. 2 ≤ x .1) xs
 
 abbrev pub weights : List (ℕ × ℕ) → List ℕ
 weights xs = map (λ x. x .0) xs

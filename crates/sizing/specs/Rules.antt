@@ -8,7 +8,8 @@ use lib.ListN.{length, replicate, length-map}
 use Rattle.scope.specs.Cnf.{pos, gates, softUnits, gate}
 use Rattle.scope.specs.Kinds.{Atom, Entry, atom, anyOf, gap, Rule}
 use Rattle.scope.specs.Formula.{columns, added, allAdded, entryGates, listGates, listLiterals, ruleItems, rulesItems, countItems}
-use Rattle.sizing.specs.Lists.{Each, each-append}
+use Rattle.laws.specs.Lists.{All, All-append}
+use Rattle.theory.specs.Rules.{Atoms, ValidRule, length-listLiterals}
 use Rattle.sizing.specs.declared.Size.{Size}
 use Rattle.sizing.specs.Sums.{none, sum, multiple, none-sum, sum-none, sum-assoc}
 use Rattle.sizing.specs.Measure.{sizeOf, sizeAt, size-nil, size-gate, size-append}
@@ -77,16 +78,12 @@ hard-rule r =
 
 -- where num gives the literals of atoms
 module _ (num : Atom → ℕ) where
-  -- an entry whose literal is no constant
-  abbrev pub Counted : Entry → Type 0
-  Counted (atom a) = 2 ≤ num a
-  Counted (anyOf xs) = Unit {0}
-  Counted (gap earlier here later) = Unit {0}
+  -- a literal that is no constant, and a rule over such literals whose bounds are within its list
+  abbrev pub Literal : Atom → Type 0
+  Literal a = 2 ≤ num a
 
-  -- a rule over such entries, whose lo is no longer than its list
-  pub record Countable (r : Rule) : Type 0 where
-    pub entries : Each Counted (r .list)
-    pub low : r .lo ≤ length (r .list)
+  abbrev pub Countable : Rule → Type 0
+  Countable r = ValidRule Literal r
 
   entry-size : (x : Entry) (v : ℕ) → gatesSize (entryGates num x v) ≡ entrySize x
   unfolding entrySize
@@ -100,12 +97,7 @@ module _ (num : Atom → ℕ) where
   entries-size [] v = size-nil
   entries-size (x ∷ xs) v = rw (gates-append, entry-size x v, entries-size xs (v + added x))
 
-  literals-length : (xs : List Entry) (v : ℕ) → length (listLiterals num xs v) ≡ length xs
-  unfolding listLiterals
-  literals-length [] v = refl
-  literals-length (x ∷ xs) v = ap suc (literals-length xs (v + added x))
-
-  literals-proper : (xs : List Entry) (v : ℕ) → 1 ≤ v → Each Counted xs → Each (λ l. 2 ≤ l) (listLiterals num xs v)
+  literals-proper : (xs : List Entry) (v : ℕ) → 1 ≤ v → All (Atoms Literal) xs → All (λ l. 2 ≤ l) (listLiterals num xs v)
   unfolding listLiterals
   literals-proper [] v h p = tt
   literals-proper (atom a ∷ xs) v h p = (p .0, literals-proper xs (v + 0) (omega arith) (p .1))
@@ -117,7 +109,7 @@ module _ (num : Atom → ℕ) where
     unfolding ruleItems ruleSize
     rule-size =
         let ls = listLiterals num (r .list) v in
-        rw (size-append, entries-size, count-size w r ls (v + allAdded (r .list)) (omega arith) (literals-proper (r .list) v h (c .entries)), literals-length)
+        rw (size-append, entries-size, count-size w r ls (v + allAdded (r .list)) (omega arith) (literals-proper (r .list) v h (c .atoms)), length-listLiterals num (r .list) v)
 
     pub rule-weighing : Weighing w (softUnits (ruleItems num w r v))
     unfolding ruleItems
@@ -126,7 +118,7 @@ module _ (num : Atom → ℕ) where
         let gs = listGates num (r .list) v in
         let u = v + allAdded (r .list) in
         append-weighing w (map gate gs) (countItems w r ls u) (gates-weighing w gs)
-        (count-weighing w r ls u (omega arith) (rw (literals-length (r .list) v) (c .low)))
+        (count-weighing w r ls u (omega arith) (rw (length-listLiterals num (r .list) v) (omega (arith, c .order, c .reach))))
 
     pub rule-weights : weights (softUnits (ruleItems num w r v)) ≡ replicate ((ruleSize w r) .units) w
     unfolding sizeOf sizeAt
@@ -134,7 +126,7 @@ module _ (num : Atom → ℕ) where
         weighing-weights w (softUnits (ruleItems num w r v)) rule-weighing ∙ ap (λ s. replicate (s .units) w) rule-size
 
   -- rules one after the other, from the variable v on
-  pub rules-size : (rs : List (ℕ × Rule)) (v : ℕ) → 1 ≤ v → Each (λ r. Countable (r .1)) rs
+  pub rules-size : (rs : List (ℕ × Rule)) (v : ℕ) → 1 ≤ v → All (λ r. Countable (r .1)) rs
       → sizeOf (rulesItems num rs v) ≡ rulesSize rs
   unfolding rulesItems rulesSize
   rules-size [] v h c = size-nil
@@ -143,7 +135,7 @@ module _ (num : Atom → ℕ) where
       rw (size-append, rule-size (r .0) (r .1) v h (c .0), rules-size rs u (omega arith) (c .1))
 
   -- the weights of their soft units, whose literals are no constants
-  pub rules-weights : (rs : List (ℕ × Rule)) (v : ℕ) → 1 ≤ v → Each (λ r. Countable (r .1)) rs
+  pub rules-weights : (rs : List (ℕ × Rule)) (v : ℕ) → 1 ≤ v → All (λ r. Countable (r .1)) rs
       → weights (softUnits (rulesItems num rs v)) ≡ rulesWeights rs
   unfolding rulesItems rulesWeights softUnits
   rules-weights [] v h c = refl
@@ -153,7 +145,7 @@ module _ (num : Atom → ℕ) where
       rw
       (soft-append is (rulesItems num rs u), weights-append (softUnits is), rule-weights (r .0) (r .1) v h (c .0), rules-weights rs u (omega arith) (c .1))
 
-  pub rules-proper : (rs : List (ℕ × Rule)) (v : ℕ) → 1 ≤ v → Each (λ r. Countable (r .1)) rs
+  pub rules-proper : (rs : List (ℕ × Rule)) (v : ℕ) → 1 ≤ v → All (λ r. Countable (r .1)) rs
       → Proper (softUnits (rulesItems num rs v))
   unfolding rulesItems softUnits
   rules-proper [] v h c = tt
@@ -162,4 +154,4 @@ module _ (num : Atom → ℕ) where
       let u = v + gates is in
       let p = weighing-proper (r .0) (softUnits is) (rule-weighing (r .0) (r .1) v h (c .0)) in
       rw (soft-append is (rulesItems num rs u))
-      (each-append (λ x. 2 ≤ x .1) (softUnits is) (softUnits (rulesItems num rs u)) p (rules-proper rs u (omega arith) (c .1)))
+      (All-append (λ x. 2 ≤ x .1) (softUnits is) (softUnits (rulesItems num rs u)) p (rules-proper rs u (omega arith) (c .1)))

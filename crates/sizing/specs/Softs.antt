@@ -9,12 +9,12 @@ use lib.Dec.{leb, ltb}
 use Rattle.scope.specs.Cnf.{pos, opp, neg, Gate, Item, gate, hard, soft, softUnits}
 use Rattle.scope.specs.Kinds.{Rule, from}
 use Rattle.scope.specs.Formula.{noRow, rowAt, counter, lastRow, columns, ones, unit, lowUnits, highUnits, shortUnits, boundItems, countInto, countItems}
-use Rattle.sizing.specs.Lists.{Each, each-append}
+use Rattle.laws.specs.Lists.{All, All-append}
 use Rattle.sizing.specs.Rows.{Proper, weights}
 
 -- soft units of the weight w whose literals are no constants
 abbrev pub Weighing : ℕ → List (ℕ × ℕ) → Type 0
-Weighing w us = Each (λ u. (u .0 ≡ w) × (2 ≤ u .1)) us
+Weighing w us = All (λ u. (u .0 ≡ w) × (2 ≤ u .1)) us
 
 pub weighing-weights : (w : ℕ) (us : List (ℕ × ℕ)) → Weighing w us → weights us ≡ replicate (length us) w
 weighing-weights w [] p = refl
@@ -94,7 +94,7 @@ either-weighing w false is js p q = q
 pub append-weighing : (w : ℕ) (is js : List Item) → Weighing w (softUnits is) → Weighing w (softUnits js)
     → Weighing w (softUnits (is ++ js))
 append-weighing w is js p q =
-    rw (soft-append is js) (each-append (λ u. (u .0 ≡ w) × (2 ≤ u .1)) (softUnits is) (softUnits js) p q)
+    rw (soft-append is js) (All-append (λ u. (u .0 ≡ w) × (2 ≤ u .1)) (softUnits is) (softUnits js) p q)
 
 pub gates-weighing : (w : ℕ) (gs : List Gate) → Weighing w (softUnits (map gate gs))
 gates-weighing w gs = rw (soft-gates gs) tt

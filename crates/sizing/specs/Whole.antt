@@ -13,7 +13,8 @@ use Rattle.scope.specs.Text.{sumWeights}
 use Rattle.scope.specs.Formula.{words, num, starts, uses, durationRules, constraintRules, allRules, primary, formula, variables, hardOf, softOf, rulesItems, negated, tail, bounded, boundedVariables, boundedHard}
 use Rattle.scope.specs.Operations.{formulaSize}
 use Rattle.scope.specs.declared.FormulaSize.{FormulaSize}
-use Rattle.sizing.specs.Lists.{Each}
+use Rattle.laws.specs.Lists.{All}
+use Rattle.theory.specs.Accepted.{ValidInstance}
 use Rattle.sizing.specs.declared.Size.{Size}
 use Rattle.sizing.specs.Sums.{equal, none, sum, multiple, none-sum, sum-none, sum-assoc}
 use Rattle.sizing.specs.Measure.{sizeAt, sizeOf, size-any, size-append}
@@ -23,7 +24,7 @@ use Rattle.sizing.specs.Softs.{soft-append, soft-gates}
 use Rattle.sizing.specs.Rules.{Countable, rulesSize, rulesWeights, hard-rule, rules-size, rules-weights, rules-proper}
 use Rattle.sizing.specs.KindSizes.{kindSize, kind-size}
 use Rattle.sizing.specs.Blocks.{startClauses, startsSize, usesSize, durationsSize, starts-size, uses-size, durations-size}
-use Rattle.sizing.specs.Sound.{Sound, rules-countable}
+use Rattle.sizing.specs.Sound.{rules-countable}
 
 -- the size of an instance's formula, by its definitions
 unfoldable pub formulaOf : Instance → Size
@@ -113,7 +114,7 @@ module _ (i : Instance) where
       rw (rules-append, durations-size, constraints-size)
 
   -- the formula's items
-  items-size : Sound i
+  items-size : ValidInstance i
       → sizeOf (formula i)
       ≡ sum (multiple (eventCount i) (startClauses (i .times)))
       (sum (usesSize (i .times) (i .events) (upTo (i .resources)))
@@ -126,7 +127,7 @@ module _ (i : Instance) where
   primarySize = record { variables = primary i; clauses = 0; words = 0; units = 0; weight = 0 }
 
   -- the size of an instance's formula
-  pub whole-size : Sound i → formulaOf i ≡ wholeSize i
+  pub whole-size : ValidInstance i → formulaOf i ≡ wholeSize i
   unfolding formulaOf wholeSize beforeSize startsSize variables hardOf softOf primarySize
   whole-size s =
       let e : sizeAt (primary i + 1) (formula i) ≡ sizeOf (formula i) = size-any (formula i) (primary i + 1) (omega arith) in
@@ -151,12 +152,12 @@ module _ (i : Instance) where
   soft-of =
       rw (soft-append, soft-append, soft-gates, no-softs (starts i) starts-units)
 
-  pub softs-weights : Sound i → weights (softOf i) ≡ rulesWeights (constraintRules i (i .constraints))
+  pub softs-weights : ValidInstance i → weights (softOf i) ≡ rulesWeights (constraintRules i (i .constraints))
   softs-weights s =
       rw
       (soft-of, rules-weights (num i) (allRules i) (primary i + i .resources * i .times + 1) (omega arith) (rules-countable i s), weights-of-append, durations-weights)
 
-  pub softs-proper : Sound i → Proper (softOf i)
+  pub softs-proper : ValidInstance i → Proper (softOf i)
   softs-proper s =
       rw soft-of
       (rules-proper (num i) (allRules i) (primary i + i .resources * i .times + 1) (omega arith) (rules-countable i s))
@@ -175,14 +176,14 @@ module _ (i : Instance) (B : ℕ) where
   unfoldable pub tailOf : Size
   tailOf = tailAfter i (B + 1) none (i .constraints)
 
-  pub tail-of : Sound i → sizeOf (tail B (negated (softOf i)) (variables i + 1)) ≡ tailOf
+  pub tail-of : ValidInstance i → sizeOf (tail B (negated (softOf i)) (variables i + 1)) ≡ tailOf
   unfolding tailOf tailSize
   tail-of s =
       rw
       (tail-size B (negated (softOf i)) (variables i + 1) (omega arith) (negated-proper (softOf i) (softs-proper i s)), negated-weights, softs-weights i s)
       (tail-after i (B + 1) (omega arith) [] (i .constraints))
 
-  bounded-items : Sound i
+  bounded-items : ValidInstance i
       → sum (primarySize i) (sizeAt (primary i + 1) (bounded i B)) ≡ sum (wholeSize i) tailOf
   unfolding bounded wholeSize beforeSize startsSize primarySize
   bounded-items s =
@@ -190,7 +191,7 @@ module _ (i : Instance) (B : ℕ) where
       rw (e, size-append, tail-of s, items-size i s) (simp sum-assoc)
 
   -- the size of the hard clauses and the tail
-  pub bounded-size : Sound i → formulaSize i B ≡ stored (sum (wholeSize i) tailOf)
+  pub bounded-size : ValidInstance i → formulaSize i B ≡ stored (sum (wholeSize i) tailOf)
   unfolding stored
   bounded-size s =
       rw (← bounded-items s) (unfold sum primarySize sizeAt boundedVariables boundedHard in simp zero-add)
