@@ -5,7 +5,7 @@ use mathlib.Core.List.{List, [], _∷_, _++_, map, flatMap}
 use Prim.Native.Nat.{ℕ, zero, suc, _+_, _-_, _*_, min, _≤_}
 use native.Mathlib.Omega.{arith}
 use lib.ListN.{length, length-map, length-append}
-use Rattle.scope.specs.Kinds.{Event, Kind, clash, unavailable, preferred, split, spread, busy, cluster, idle, Atom, Y, S, X, Entry, atom, anyOf, gap, Rule, between, limit, from, upTo, users, outside, groupAt, usesAt, takesAt, startsAt, gapsAfter, gaps, rulesOf}
+use Rattle.scope.specs.Kinds.{Event, Kind, clash, unavailable, preferred, split, spread, busy, cluster, idle, Atom, Y, S, X, Entry, atom, anyOf, gap, Rule, between, limit, from, upTo, users, outside, groupAt, usesAt, takesAt, startsAt, gapsAfter, gaps, rulesOf, longest}
 use Rattle.sizing.specs.declared.Size.{Size}
 use Rattle.sizing.specs.Sums.{equal, none, sum, multiple, none-sum, sum-none, sum-assoc, multiple-zero, multiple-suc, multiple-none}
 use Rattle.sizing.specs.Gates.{variableSize, orSize}
@@ -42,7 +42,19 @@ busySize w lo hi n = countSize w lo (min hi n) true n
 unfoldable pub clashSize : ℕ → ℕ → ℕ → Size
 clashSize T w n = multiple T (listSize w 0 1 n)
 
--- a constraint of the weight w, for T times, the events and the groups of an instance
+-- how long the counted lists of a kind are, for T times, the events and the groups of an instance
+module _ (T : ℕ) (es : List Event) (gs : List (List ℕ)) where
+  unfoldable pub listLength : Kind → ℕ
+  listLength (clash r) = length (users r es)
+  listLength (unavailable r g) = length (groupAt gs g)
+  listLength (preferred e g) = length (outside (groupAt gs g) (upTo T))
+  listLength (split e lo hi) = T
+  listLength (spread vs g lo hi) = length vs * length (groupAt gs g)
+  listLength (busy r g lo hi) = length (groupAt gs g)
+  listLength (cluster r hs lo hi) = length hs
+  listLength (idle r hs lo hi) = gapCount gs hs
+
+-- a constraint of the weight w
 module _ (T : ℕ) (es : List Event) (gs : List (List ℕ)) (w : ℕ) where
   unfoldable pub kindSize : Kind → Size
   kindSize (clash r) = clashSize T w (length (users r es))
@@ -164,3 +176,32 @@ kind-size T es gs w (cluster r hs lo hi) =
     rw (one-rule, clusters-size r gs hs, length-map hs (λ g. anyOf (usesAt r (groupAt gs g))))
 kind-size T es gs w (idle r hs lo hi) =
     unfold ruleSize listSize in rw (one-rule, idles-size r gs hs, idles-length r gs hs)
+
+-- the longest of a clash's counted lists: all are equally long
+clashes-longest : (us ts : List ℕ) → 1 ≤ length ts
+    → longest (map (λ t. between 0 1 (map (λ e. atom (Y e t)) us)) ts) ≡ length us
+unfolding longest
+clashes-longest us [] h = let f : ⊥ = omega arith in absurd f
+clashes-longest us (t ∷ []) h = rw (length-map us (λ e. atom (Y e t))) (omega arith)
+clashes-longest us (t ∷ v ∷ ts) h =
+    let e = clashes-longest us (v ∷ ts) (omega arith) in
+    rw (length-map us (λ e. atom (Y e t)), e) (omega arith)
+
+one-longest : (r : Rule) (n : ℕ) → length (r .list) ≡ n → longest (r ∷ []) ≡ n
+unfolding longest
+one-longest r n e = omega arith
+
+-- the longest counted list of a kind
+pub longest-length : (T : ℕ) (es : List Event) (gs : List (List ℕ)) → 1 ≤ T → (k : Kind)
+    → longest (rulesOf T es gs k) ≡ listLength T es gs k
+unfolding rulesOf listLength
+longest-length T es gs h (clash r) = clashes-longest (users r es) (upTo T) (omega (arith, length-from 1 T))
+longest-length T es gs h (unavailable r g) =
+    one-longest _ _ (length-map (usesAt r (groupAt gs g)) atom ∙ length-map (groupAt gs g) (λ t. X r t))
+longest-length T es gs h (preferred e g) = one-longest _ _ (length-map (outside (groupAt gs g) (upTo T)) (λ t. atom (Y e t)))
+longest-length T es gs h (split e lo hi) = one-longest _ _ (length-map (upTo T) (λ t. atom (S e t)) ∙ length-from 1 T)
+longest-length T es gs h (spread vs g lo hi) = one-longest _ _ (spreads-length (groupAt gs g) vs)
+longest-length T es gs h (busy r g lo hi) =
+    one-longest _ _ (length-map (usesAt r (groupAt gs g)) atom ∙ length-map (groupAt gs g) (λ t. X r t))
+longest-length T es gs h (cluster r hs lo hi) = one-longest _ _ (length-map hs (λ g. anyOf (usesAt r (groupAt gs g))))
+longest-length T es gs h (idle r hs lo hi) = one-longest _ _ (idles-length r gs hs)

@@ -11,3 +11,4 @@ pub mod Sound
 pub mod Blocks
 pub mod Whole
 pub mod Limits
+pub mod WholeLimits

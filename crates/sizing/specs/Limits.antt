@@ -1,17 +1,23 @@
 -- How large sizes are at most, so that none of their sums wraps.
 use mathlib.Core.Path.{_≡_, refl}
 use mathlib.Core.Bool.{Bool, true, false, cond}
+use mathlib.Core.List.{List, [], _∷_}
 use Prim.Native.Nat.{ℕ, zero, suc, _+_, _-_, _*_, min, _≤_}
 use native.Mathlib.Nat.{mul-le-mul}
 use native.Mathlib.Omega.{arith}
+use lib.ListN.{length}
 use lib.Dec.{eqb}
+use Rattle.laws.specs.Lists.{All}
+use Rattle.scope.specs.Kinds.{Event, member, usersFrom, users}
 use Rattle.scope.specs.Formula.{columns}
 use Rattle.sizing.specs.declared.Size.{Size}
-use Rattle.sizing.specs.Sums.{none, sum, multiple, Within, Fits64, within-more, within-sum, within-multiple}
+use Rattle.sizing.specs.Sums.{none, sum, multiple, Within, Fits64, within-more, within-none, within-sum, within-multiple}
 use Rattle.sizing.specs.Gates.{orSize, hardUnit, unitSize}
 use Rattle.sizing.specs.Rows.{firstRow, laterRow, equalRows}
+use Rattle.sizing.specs.Rules.{rows-units}
 use Rattle.sizing.specs.Tail.{tailAdd}
 use Rattle.sizing.specs.Counts.{unitsSize, shortsSize, lowSize, countSize, units-hard, units-soft, shorts-hard, shorts-soft}
+use Rattle.sizing.specs.Blocks.{startClauses, startsSize, useSize, usesSize, durationsSize}
 use Rattle.sizing.specs.KindSizes.{listSize, busySize, clashSize, gapSize, gapsSize}
 
 -- numbers of 32 bits multiplied, and of 63 bits added, have 64
@@ -72,6 +78,22 @@ count-within w lo hi free n h j k =
     (within-sum 715275 510000 (equalRows cols n 1) (sum (lowSize w lo free) (unitsSize w (n - hi))) rows
     (within-sum 255000 255000 (lowSize w lo free) (unitsSize w (n - hi)) (low-within w lo free h j) high))
 
+-- a counted list has no more soft units than entries
+units-most : (w k : ℕ) → (unitsSize w k) .units ≤ k
+units-most zero k = rw (units-hard 0 k refl) (omega arith)
+units-most (suc w) k = rw (units-soft (suc w) k (omega arith)) (omega arith)
+
+low-most : (w lo : ℕ) (free : Bool) → (lowSize w lo free) .units ≤ lo
+unfolding lowSize
+low-most zero lo true = rw (shorts-hard 0 (lo - 1) refl) (omega arith)
+low-most (suc w) lo true = rw (shorts-soft (suc w) (lo - 1) (omega arith)) (omega arith)
+low-most w lo false = units-most w lo
+
+pub count-most : (w lo hi : ℕ) (free : Bool) (n : ℕ) → lo ≤ hi → hi ≤ n → (countSize w lo hi free n) .units ≤ n
+unfolding countSize sum
+count-most w lo hi free n h j =
+    omega (arith, rows-units (columns w hi n) n 1, low-most w lo free, units-most w (n - hi))
+
 pub list-within : (w lo hi n : ℕ) → w ≤ 1000 → lo ≤ 255 → n ≤ 255 → Within 1225275 (listSize w lo hi n)
 unfolding listSize
 list-within w lo hi n h j k = count-within w lo (min hi n) false n h j k
@@ -116,3 +138,40 @@ tail-within m cols s (suc n) w h j v = go (eqb (s .variables) 0)
         within-more (omega (arith, few))
         (within-sum m (suc n * (11 * cols)) s (multiple (suc n) (laterRow cols w)) v
         (within-multiple (suc n) (11 * cols) (laterRow cols w) (later-within cols w)))
+
+-- Y and S of up to 1,024 events at up to 125 times, X of resources, and durations
+pub starts-within : (E T : ℕ) → E ≤ 1024 → T ≤ 125 → Within 640000 (startsSize E T)
+unfolding startsSize startClauses sum multiple
+starts-within E T h j =
+    let k : 5 * T - 1 ≤ 625 = omega arith in
+    omega (arith, mul-le-mul h j, mul-le-mul h k)
+
+users-most : (r e : ℕ) (vs : List Event) → length (usersFrom r e vs) ≤ length vs
+unfolding usersFrom
+users-most r e [] = omega arith
+users-most r e (x ∷ vs) = go (member r (x .resources)) (users-most r (suc e) vs)
+  where
+    go : (b : Bool) → length (usersFrom r (suc e) vs) ≤ length vs
+        → length (cond b (e ∷ usersFrom r (suc e) vs) (usersFrom r (suc e) vs)) ≤ suc (length vs)
+    go true h = omega arith
+    go false h = omega arith
+
+module _ (T : ℕ) (es : List Event) (h : T ≤ 125) where
+  pub uses-within : length es ≤ 1024 → (rs : List ℕ) → Within (length rs * 384125) (usesSize T es rs)
+  unfolding usesSize useSize
+  uses-within k [] = within-none 0
+  uses-within k (r ∷ rs) =
+      let n = length (users r es) in
+      let one = within-multiple T 3073 (orSize n) (or-within n (omega (arith, users-most r 1 es))) in
+      within-more (omega arith)
+      (within-sum (T * 3073) (length rs * 384125) (multiple T (orSize n)) (usesSize T es rs) one (uses-within k rs))
+
+pub durations-within : (T : ℕ) (vs : List Event) → T ≤ 125 → All (λ v. v .duration ≤ T) vs
+    → Within (length vs * 1225275) (durationsSize T vs)
+unfolding durationsSize
+durations-within T [] h a = within-none 0
+durations-within T (v ∷ vs) h a =
+    let d = v .duration in
+    within-more (omega arith)
+    (within-sum 1225275 (length vs * 1225275) (listSize 0 d d T) (durationsSize T vs)
+    (list-within 0 d d T (omega arith) (omega (arith, a .0)) (omega arith)) (durations-within T vs h (a .1)))

@@ -60,7 +60,7 @@ entries-units (atom a ∷ xs) = omega (arith, entries-units xs)
 entries-units (anyOf ls ∷ xs) = omega (arith, entries-units xs)
 entries-units (gap es a ls ∷ xs) = omega (arith, entries-units xs)
 
-rows-units : (cols n w : ℕ) → (equalRows cols n w) .units ≡ 0
+pub rows-units : (cols n w : ℕ) → (equalRows cols n w) .units ≡ 0
 unfolding equalRows none sum multiple firstRow laterRow
 rows-units cols zero w = refl
 rows-units cols (suc n) w = omega arith

@@ -106,6 +106,11 @@ pub within-sum : (m n : ℕ) (a b : Size) → Within m a → Within n b → With
 unfolding sum
 within-sum m n a b v w = omega arith
 
+-- a part is within what the whole is within
+pub within-part : (m : ℕ) (a b : Size) → Within m (sum a b) → Within m a
+unfolding sum
+within-part m a b w = omega arith
+
 pub within-multiple : (k m : ℕ) (a : Size) → Within m a → Within (k * m) (multiple k a)
 unfolding multiple
 within-multiple k m a w =
