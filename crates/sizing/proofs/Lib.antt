@@ -1,0 +1,2 @@
+-- What the proofs of functions share: a result put together from the results of calls.
+pub mod Results

@@ -1,0 +1,73 @@
+-- The sizes of gates: an OR, an idle time, a short count, and the cells of a counter; and of units.
+use mathlib.Core.Path.{_≡_, refl, ap, _∙_}
+use mathlib.Core.List.{List, [], _∷_}
+use Prim.Native.Nat.{ℕ, zero, suc, _+_, _*_, _≤_}
+use native.Mathlib.Omega.{arith}
+use lib.ListN.{length}
+use Rattle.scope.specs.Cnf.{opp, hasTrue, withoutFalse, tidy, Gate, or, cell, idling, short, gateClauses, Item, hard}
+use Rattle.scope.specs.Formula.{words, unit}
+use Rattle.sizing.specs.declared.Size.{Size}
+use Rattle.sizing.specs.Sums.{equal, sum}
+use Rattle.sizing.specs.Measure.{clausesSize, sizeOf, gateSize, softSize, or-clauses, eqb-0, eqb-1, size-hard, size-soft}
+
+-- one variable with so many clauses and words
+abbrev pub variableSize : ℕ → ℕ → Size
+variableSize c w = record { variables = 1; clauses = c; words = w; units = 0; weight = 0 }
+
+-- the OR of n literals
+unfoldable pub orSize : ℕ → Size
+orSize n = variableSize (n + 1) (3 * n + 1)
+
+pub or-size : (ls : List ℕ) → gateSize (or ls) ≡ orSize (length ls)
+unfolding gateSize orSize clausesSize
+or-size ls =
+    let e = or-clauses ls 1 in
+    equal
+    (record { variables = refl; clauses = ap (λ s. s .clauses) e; words = ap (λ s. s .words) e; units = refl; weight = refl })
+
+pub idling-size : (x g h : ℕ) → gateSize (idling x g h) ≡ variableSize 4 10
+unfolding gateSize gateClauses words
+idling-size x g h = refl
+
+pub short-size : (c d : ℕ) → gateSize (short c d) ≡ variableSize 3 7
+unfolding gateSize gateClauses words
+short-size c d = refl
+
+opp-proper : (l : ℕ) → 2 ≤ l → 2 ≤ opp l
+opp-proper l h = omega arith
+
+-- the cell of a literal x under no row, in a column up to x's weight and past it; then the same under a row
+module _ (x : ℕ) (hx : 2 ≤ x) where
+  pub first-low : gateSize (cell x 0 1) ≡ variableSize 2 4
+  unfolding gateSize gateClauses tidy hasTrue withoutFalse words
+  first-low = simp (eqb-0, eqb-1, opp-proper)
+
+  pub first-high : gateSize (cell x 0 0) ≡ variableSize 2 3
+  unfolding gateSize gateClauses tidy hasTrue withoutFalse words
+  first-high = simp (eqb-0, eqb-1, opp-proper)
+
+  module _ (a : ℕ) (ha : 2 ≤ a) where
+    pub later-low : gateSize (cell x a 1) ≡ variableSize 3 7
+    unfolding gateSize gateClauses tidy hasTrue withoutFalse words
+    later-low = simp (eqb-0, eqb-1, opp-proper)
+
+    pub later-high : (b : ℕ) → 2 ≤ b → gateSize (cell x a b) ≡ variableSize 4 11
+    unfolding gateSize gateClauses tidy hasTrue withoutFalse words
+    later-high b hb = simp (eqb-0, eqb-1, opp-proper)
+
+-- a hard unit, and a unit of the weight w
+unfoldable pub hardUnit : Size
+hardUnit = record { variables = 0; clauses = 1; words = 1; units = 0; weight = 0 }
+
+unfoldable pub unitSize : ℕ → Size
+unitSize zero = hardUnit
+unitSize (suc w) = softSize (suc w)
+
+pub hard-unit : (l : ℕ) (is : List Item) → sizeOf (hard (l ∷ []) ∷ is) ≡ sum hardUnit (sizeOf is)
+unfolding clausesSize words hardUnit
+hard-unit l is = size-hard (l ∷ []) is
+
+pub unit-size : (w l : ℕ) (is : List Item) → sizeOf (unit w l ∷ is) ≡ sum (unitSize w) (sizeOf is)
+unfolding unitSize
+unit-size zero l is = hard-unit l is
+unit-size (suc w) l is = size-soft (suc w) l is

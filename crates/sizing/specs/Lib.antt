@@ -1,0 +1,14 @@
+pub mod Sums
+pub mod Measure
+pub mod Gates
+pub mod Rows
+pub mod Tail
+pub mod Counts
+pub mod Softs
+pub mod Rules
+pub mod KindSizes
+pub mod Sound
+pub mod Blocks
+pub mod Whole
+pub mod Limits
+pub mod WholeLimits

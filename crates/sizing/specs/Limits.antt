@@ -1,0 +1,177 @@
+-- How large sizes are at most, so that none of their sums wraps.
+use mathlib.Core.Path.{_≡_, refl}
+use mathlib.Core.Bool.{Bool, true, false, cond}
+use mathlib.Core.List.{List, [], _∷_}
+use Prim.Native.Nat.{ℕ, zero, suc, _+_, _-_, _*_, min, _≤_}
+use native.Mathlib.Nat.{mul-le-mul}
+use native.Mathlib.Omega.{arith}
+use lib.ListN.{length}
+use lib.Dec.{eqb}
+use Rattle.laws.specs.Lists.{All}
+use Rattle.scope.specs.Kinds.{Event, member, usersFrom, users}
+use Rattle.scope.specs.Formula.{columns}
+use Rattle.sizing.specs.declared.Size.{Size}
+use Rattle.sizing.specs.Sums.{none, sum, multiple, Within, Fits64, within-more, within-none, within-sum, within-multiple}
+use Rattle.sizing.specs.Gates.{orSize, hardUnit, unitSize}
+use Rattle.sizing.specs.Rows.{firstRow, laterRow, equalRows}
+use Rattle.sizing.specs.Rules.{rows-units}
+use Rattle.sizing.specs.Tail.{tailAdd}
+use Rattle.sizing.specs.Counts.{unitsSize, shortsSize, lowSize, countSize, units-hard, units-soft, shorts-hard, shorts-soft}
+use Rattle.sizing.specs.Blocks.{startClauses, startsSize, useSize, usesSize, durationsSize}
+use Rattle.sizing.specs.KindSizes.{listSize, busySize, clashSize, gapSize, gapsSize}
+
+-- numbers of 32 bits multiplied, and of 63 bits added, have 64
+pub fits-multiple : (k m : ℕ) (a : Size) → k ≤ 4294967295 → m ≤ 4294967295 → Within m a → Fits64 (multiple k a)
+fits-multiple k m a h j w = within-more (omega (arith, mul-le-mul h j)) (within-multiple k m a w)
+
+pub fits-sum : (a b : Size) → Within 9223372036854775807 a → Within 9223372036854775807 b → Fits64 (sum a b)
+fits-sum a b v w = within-more (omega arith) (within-sum 9223372036854775807 9223372036854775807 a b v w)
+
+pub or-within : (n : ℕ) → n ≤ 1024 → Within 3073 (orSize n)
+unfolding orSize
+or-within n h = omega arith
+
+-- rows
+pub first-within : (cols w : ℕ) → Within (11 * cols) (firstRow cols w)
+unfolding firstRow
+first-within cols w = omega arith
+
+pub later-within : (cols w : ℕ) → Within (11 * cols) (laterRow cols w)
+unfolding laterRow
+later-within cols w = omega arith
+
+pub rows-within : (cols n w : ℕ) → Within (n * (11 * cols)) (equalRows cols n w)
+unfolding equalRows none
+rows-within cols zero w = omega arith
+rows-within cols (suc n) w =
+    within-more (omega arith)
+    (within-sum (11 * cols) (n * (11 * cols)) (firstRow cols w) (multiple n (laterRow cols w)) (first-within cols w)
+    (within-multiple n (11 * cols) (laterRow cols w) (later-within cols w)))
+
+-- counted lists: a counter has at most as many columns as literals
+pub columns-within : (w hi n : ℕ) → columns w hi n ≤ n
+columns-within zero hi n = omega arith
+columns-within (suc w) hi n = omega arith
+
+pub units-within : (w k : ℕ) → w ≤ 1000 → k ≤ 255 → Within 255000 (unitsSize w k)
+units-within zero k h j = rw (units-hard 0 k refl) (omega arith)
+units-within (suc w) k h j = rw (units-soft (suc w) k (omega arith)) (omega (arith, mul-le-mul j h))
+
+pub shorts-within : (w k : ℕ) → w ≤ 1000 → k ≤ 255 → Within 255000 (shortsSize w k)
+shorts-within zero k h j = rw (shorts-hard 0 k refl) (omega arith)
+shorts-within (suc w) k h j = rw (shorts-soft (suc w) k (omega arith)) (omega (arith, mul-le-mul j h))
+
+pub low-within : (w lo : ℕ) (free : Bool) → w ≤ 1000 → lo ≤ 255 → Within 255000 (lowSize w lo free)
+unfolding lowSize
+low-within w lo true h j = shorts-within w (lo - 1) h (omega arith)
+low-within w lo false h j = units-within w lo h j
+
+pub count-within : (w lo hi : ℕ) (free : Bool) (n : ℕ) → w ≤ 1000 → lo ≤ 255 → n ≤ 255
+    → Within 1225275 (countSize w lo hi free n)
+unfolding countSize
+count-within w lo hi free n h j k =
+    let cols = columns w hi n in
+    let c : 11 * cols ≤ 2805 = omega (arith, columns-within w hi n) in
+    let rows : Within 715275 (equalRows cols n 1) = within-more (omega (arith, mul-le-mul k c)) (rows-within cols n 1) in
+    let high = units-within w (n - hi) h (omega arith) in
+    within-more (omega arith)
+    (within-sum 715275 510000 (equalRows cols n 1) (sum (lowSize w lo free) (unitsSize w (n - hi))) rows
+    (within-sum 255000 255000 (lowSize w lo free) (unitsSize w (n - hi)) (low-within w lo free h j) high))
+
+-- a counted list has no more soft units than entries
+units-most : (w k : ℕ) → (unitsSize w k) .units ≤ k
+units-most zero k = rw (units-hard 0 k refl) (omega arith)
+units-most (suc w) k = rw (units-soft (suc w) k (omega arith)) (omega arith)
+
+low-most : (w lo : ℕ) (free : Bool) → (lowSize w lo free) .units ≤ lo
+unfolding lowSize
+low-most zero lo true = rw (shorts-hard 0 (lo - 1) refl) (omega arith)
+low-most (suc w) lo true = rw (shorts-soft (suc w) (lo - 1) (omega arith)) (omega arith)
+low-most w lo false = units-most w lo
+
+pub count-most : (w lo hi : ℕ) (free : Bool) (n : ℕ) → lo ≤ hi → hi ≤ n → (countSize w lo hi free n) .units ≤ n
+unfolding countSize sum
+count-most w lo hi free n h j =
+    omega (arith, rows-units (columns w hi n) n 1, low-most w lo free, units-most w (n - hi))
+
+pub list-within : (w lo hi n : ℕ) → w ≤ 1000 → lo ≤ 255 → n ≤ 255 → Within 1225275 (listSize w lo hi n)
+unfolding listSize
+list-within w lo hi n h j k = count-within w lo (min hi n) false n h j k
+
+pub busy-within : (w lo hi n : ℕ) → w ≤ 1000 → lo ≤ 255 → n ≤ 255 → Within 1225275 (busySize w lo hi n)
+unfolding busySize
+busy-within w lo hi n h j k = count-within w lo (min hi n) true n h j k
+
+pub clash-within : (T w n : ℕ) → T ≤ 125 → w ≤ 1000 → n ≤ 255 → Within 153159375 (clashSize T w n)
+unfolding clashSize
+clash-within T w n h j k =
+    within-more (omega arith) (within-multiple T 1225275 (listSize w 0 1 n) (list-within w 0 1 n j (omega arith) k))
+
+-- groups of up to 125 members
+pub gaps-within : (n : ℕ) → n ≤ 125 → Within 48000 (gapsSize n)
+unfolding gapsSize
+gaps-within n h =
+    let g : Within 384 (gapSize n) = unfold gapSize in omega arith in
+    let k : n - 2 ≤ 125 = omega arith in
+    let j : 384 ≤ 384 = omega arith in
+    within-more (omega (arith, mul-le-mul k j)) (within-multiple (n - 2) 384 (gapSize n) g)
+
+-- the tail grows by at most 2 ^ 31 with each constraint
+pub tail-within : (m cols : ℕ) (s : Size) (n w : ℕ) → cols ≤ 4096 → n ≤ 32768 → Within m s
+    → Within (m + 2147483648) (tailAdd cols s n w)
+unfolding tailAdd
+tail-within m cols s zero w h j v = within-more (omega arith) v
+tail-within m cols s (suc n) w h j v = go (eqb (s .variables) 0)
+  where
+    few : suc n * (11 * cols) ≤ 1476395008
+    few = let c : 11 * cols ≤ 45056 = omega arith in omega (arith, mul-le-mul j c)
+
+    unit : Within 1 hardUnit
+    unit = unfold hardUnit in omega arith
+
+    go : (b : Bool)
+        → Within (m + 2147483648) (cond b (sum (equalRows cols (suc n) w) hardUnit) (sum s (multiple (suc n) (laterRow cols w))))
+    go true =
+        within-more (omega (arith, few))
+        (within-sum (suc n * (11 * cols)) 1 (equalRows cols (suc n) w) hardUnit (rows-within cols (suc n) w) unit)
+    go false =
+        within-more (omega (arith, few))
+        (within-sum m (suc n * (11 * cols)) s (multiple (suc n) (laterRow cols w)) v
+        (within-multiple (suc n) (11 * cols) (laterRow cols w) (later-within cols w)))
+
+-- Y and S of up to 1,024 events at up to 125 times, X of resources, and durations
+pub starts-within : (E T : ℕ) → E ≤ 1024 → T ≤ 125 → Within 640000 (startsSize E T)
+unfolding startsSize startClauses sum multiple
+starts-within E T h j =
+    let k : 5 * T - 1 ≤ 625 = omega arith in
+    omega (arith, mul-le-mul h j, mul-le-mul h k)
+
+users-most : (r e : ℕ) (vs : List Event) → length (usersFrom r e vs) ≤ length vs
+unfolding usersFrom
+users-most r e [] = omega arith
+users-most r e (x ∷ vs) = go (member r (x .resources)) (users-most r (suc e) vs)
+  where
+    go : (b : Bool) → length (usersFrom r (suc e) vs) ≤ length vs
+        → length (cond b (e ∷ usersFrom r (suc e) vs) (usersFrom r (suc e) vs)) ≤ suc (length vs)
+    go true h = omega arith
+    go false h = omega arith
+
+module _ (T : ℕ) (es : List Event) (h : T ≤ 125) where
+  pub uses-within : length es ≤ 1024 → (rs : List ℕ) → Within (length rs * 384125) (usesSize T es rs)
+  unfolding usesSize useSize
+  uses-within k [] = within-none 0
+  uses-within k (r ∷ rs) =
+      let n = length (users r es) in
+      let one = within-multiple T 3073 (orSize n) (or-within n (omega (arith, users-most r 1 es))) in
+      within-more (omega arith)
+      (within-sum (T * 3073) (length rs * 384125) (multiple T (orSize n)) (usesSize T es rs) one (uses-within k rs))
+
+pub durations-within : (T : ℕ) (vs : List Event) → T ≤ 125 → All (λ v. v .duration ≤ T) vs
+    → Within (length vs * 1225275) (durationsSize T vs)
+unfolding durationsSize
+durations-within T [] h a = within-none 0
+durations-within T (v ∷ vs) h a =
+    let d = v .duration in
+    within-more (omega arith)
+    (within-sum 1225275 (length vs * 1225275) (listSize 0 d d T) (durationsSize T vs)
+    (list-within 0 d d T (omega arith) (omega (arith, a .0)) (omega arith)) (durations-within T vs h (a .1)))
