@@ -12,3 +12,4 @@ pub mod Blocks
 pub mod Whole
 pub mod Limits
 pub mod WholeLimits
+pub mod Outside
