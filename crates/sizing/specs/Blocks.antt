@@ -1,16 +1,16 @@
 -- The sizes of the formula's blocks before the constraints: starts, uses and durations.
-use mathlib.Core.Path.{_≡_, refl, sym, ap, _∙_}
-use mathlib.Core.List.{List, [], _∷_, _++_, map, flatMap}
-use Prim.Native.Nat.{ℕ, zero, suc, _+_, _-_, _*_, min, _≤_}
+use mathlib.Core.Path.{_≡_, refl}
+use mathlib.Core.List.{List, [], _∷_, map, flatMap}
+use Prim.Native.Nat.{ℕ, zero, suc, _-_, _*_}
 use native.Mathlib.Omega.{arith}
 use lib.ListN.{length, length-map}
 use Rattle.scope.specs.Cnf.{Item, or}
-use Rattle.scope.specs.Kinds.{Event, Y, atom, between, from, upTo, users, takesAt}
+use Rattle.scope.specs.Kinds.{Event, Y, from, upTo, users}
 use Rattle.scope.specs.Instance.{Instance}
 use Rattle.scope.specs.Score.{eventCount}
 use Rattle.scope.specs.Formula.{words, num, startItems, starts, uses, durationRules}
 use Rattle.sizing.specs.declared.Size.{Size}
-use Rattle.sizing.specs.Sums.{equal, none, sum, multiple, none-sum, multiple-zero, multiple-suc}
+use Rattle.sizing.specs.Sums.{equal, none, sum, multiple, multiple-zero, multiple-suc}
 use Rattle.sizing.specs.Measure.{clausesSize, sizeOf, size-nil, size-gate, size-hard, size-append}
 use Rattle.sizing.specs.Gates.{orSize, or-size}
 use Rattle.sizing.specs.Rows.{gatesSize, gates-append}

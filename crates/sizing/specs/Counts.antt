@@ -1,19 +1,19 @@
 -- The size of a counted list: a counter over its literals, and the units of its bounds.
-use mathlib.Core.Path.{_≡_, refl, sym, ap, _∙_}
+use mathlib.Core.Path.{_≡_, refl, ap}
 use mathlib.Core.Bool.{Bool, true, false, cond}
-use mathlib.Core.List.{List, [], _∷_, _++_, map}
+use mathlib.Core.List.{List, [], _∷_, map}
 use Prim.Native.Nat.{ℕ, zero, suc, _+_, _-_, _*_, min, _≤_}
 use native.Mathlib.Omega.{arith}
 use lib.ListN.{length, replicate}
 use lib.Dec.{leb, ltb}
 use borrow.Author.Tests.{leb-true, leb-false, ltb-true, ltb-false}
-use Rattle.scope.specs.Cnf.{opp, Item, hard, soft}
+use Rattle.scope.specs.Cnf.{opp, hard, soft}
 use Rattle.scope.specs.Kinds.{Rule, from}
-use Rattle.scope.specs.Formula.{columns, ones, unit, lowUnits, highUnits, shortUnits, boundItems, countInto, countItems}
+use Rattle.scope.specs.Formula.{columns, ones, lowUnits, highUnits, shortUnits, boundItems, countInto, countItems}
 use Rattle.laws.specs.Lists.{All}
 use Rattle.theory.specs.Ranges.{length-from}
 use Rattle.sizing.specs.declared.Size.{Size}
-use Rattle.sizing.specs.Sums.{equal, none, sum, multiple, none-sum, sum-none, sum-assoc, multiple-zero, multiple-suc}
+use Rattle.sizing.specs.Sums.{equal, none, sum, multiple, sum-assoc, multiple-zero, multiple-suc}
 use Rattle.sizing.specs.Measure.{sizeOf, softSize, size-nil, size-gate, size-soft, size-append}
 use Rattle.sizing.specs.Gates.{variableSize, short-size, hardUnit, hard-unit, unitSize, unit-size}
 use Rattle.sizing.specs.Rows.{equalRows, Proper, weights, counter-size, counter-equal}

@@ -1,10 +1,10 @@
 -- The sizes of gates: an OR, an idle time, a short count, and the cells of a counter; and of units.
-use mathlib.Core.Path.{_≡_, refl, ap, _∙_}
+use mathlib.Core.Path.{_≡_, refl, ap}
 use mathlib.Core.List.{List, [], _∷_}
 use Prim.Native.Nat.{ℕ, zero, suc, _+_, _*_, _≤_}
 use native.Mathlib.Omega.{arith}
 use lib.ListN.{length}
-use Rattle.scope.specs.Cnf.{opp, hasTrue, withoutFalse, tidy, Gate, or, cell, idling, short, gateClauses, Item, hard}
+use Rattle.scope.specs.Cnf.{opp, hasTrue, withoutFalse, tidy, or, cell, idling, short, gateClauses, Item, hard}
 use Rattle.scope.specs.Formula.{words, unit}
 use Rattle.sizing.specs.declared.Size.{Size}
 use Rattle.sizing.specs.Sums.{equal, sum}

@@ -1,14 +1,14 @@
 -- The size of a constraint by its kind, from the lengths of its counted lists.
-use mathlib.Core.Path.{_≡_, refl, sym, ap, _∙_}
+use mathlib.Core.Path.{_≡_, refl, sym, _∙_}
 use mathlib.Core.Bool.{true, false}
 use mathlib.Core.List.{List, [], _∷_, _++_, map, flatMap}
-use Prim.Native.Nat.{ℕ, zero, suc, _+_, _-_, _*_, min, _≤_}
+use Prim.Native.Nat.{ℕ, suc, _+_, _-_, _*_, min, _≤_}
 use native.Mathlib.Omega.{arith}
 use lib.ListN.{length, length-map, length-append}
-use Rattle.scope.specs.Kinds.{Event, Kind, clash, unavailable, preferred, split, spread, busy, cluster, idle, Atom, Y, S, X, Entry, atom, anyOf, gap, Rule, between, limit, from, upTo, users, outside, groupAt, usesAt, takesAt, startsAt, gapsAfter, gaps, rulesOf, longest}
+use Rattle.scope.specs.Kinds.{Event, Kind, clash, unavailable, preferred, split, spread, busy, cluster, idle, Atom, Y, S, X, atom, anyOf, gap, Rule, between, upTo, users, outside, groupAt, usesAt, startsAt, gapsAfter, gaps, rulesOf, longest}
 use Rattle.sizing.specs.declared.Size.{Size}
-use Rattle.sizing.specs.Sums.{equal, none, sum, multiple, none-sum, sum-none, sum-assoc, multiple-zero, multiple-suc, multiple-none}
-use Rattle.sizing.specs.Gates.{variableSize, orSize}
+use Rattle.sizing.specs.Sums.{equal, none, sum, multiple, none-sum, sum-none, multiple-zero, multiple-suc}
+use Rattle.sizing.specs.Gates.{orSize}
 use Rattle.sizing.specs.Counts.{countSize}
 use Rattle.theory.specs.Ranges.{length-from}
 use Rattle.sizing.specs.Rules.{entrySize, entriesSize, ruleSize, rulesSize, entries-append, atoms-size}

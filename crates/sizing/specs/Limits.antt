@@ -1,5 +1,5 @@
 -- How large sizes are at most, so that none of their sums wraps.
-use mathlib.Core.Path.{_≡_, refl}
+use mathlib.Core.Path.{refl}
 use mathlib.Core.Bool.{Bool, true, false, cond}
 use mathlib.Core.List.{List, [], _∷_}
 use Prim.Native.Nat.{ℕ, zero, suc, _+_, _-_, _*_, min, _≤_}
@@ -12,7 +12,7 @@ use Rattle.scope.specs.Kinds.{Event, member, usersFrom, users}
 use Rattle.scope.specs.Formula.{columns}
 use Rattle.sizing.specs.declared.Size.{Size}
 use Rattle.sizing.specs.Sums.{none, sum, multiple, Within, Fits64, within-more, within-none, within-sum, within-multiple}
-use Rattle.sizing.specs.Gates.{orSize, hardUnit, unitSize}
+use Rattle.sizing.specs.Gates.{orSize, hardUnit}
 use Rattle.sizing.specs.Rows.{firstRow, laterRow, equalRows}
 use Rattle.sizing.specs.Rules.{rows-units}
 use Rattle.sizing.specs.Tail.{tailAdd}

@@ -5,7 +5,7 @@ use mathlib.Core.List.{List, [], _∷_, _++_, map}
 use Prim.Native.Nat.{ℕ, zero, suc, _+_, _≤_}
 use native.Mathlib.Omega.{arith}
 use lib.ListN.{length, replicate, length-map}
-use Rattle.scope.specs.Cnf.{pos, gates, softUnits, gate}
+use Rattle.scope.specs.Cnf.{gates, softUnits, gate}
 use Rattle.scope.specs.Kinds.{Atom, Entry, atom, anyOf, gap, Rule}
 use Rattle.scope.specs.Formula.{columns, added, allAdded, entryGates, listGates, listLiterals, ruleItems, rulesItems, countItems}
 use Rattle.laws.specs.Lists.{All, All-append}

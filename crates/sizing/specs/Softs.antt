@@ -1,14 +1,14 @@
 -- The soft units of a counted list: each has the list's weight, and its literal is no constant.
-use mathlib.Core.Path.{_≡_, refl, sym, ap, ap₂, _∙_}
+use mathlib.Core.Path.{_≡_, refl, ap, ap₂}
 use mathlib.Core.Bool.{Bool, true, false, cond}
 use mathlib.Core.List.{List, [], _∷_, _++_, map}
 use Prim.Native.Nat.{ℕ, zero, suc, _+_, _-_, _*_, _≤_, _<_}
 use native.Mathlib.Omega.{arith}
-use lib.ListN.{length, replicate, length-map}
+use lib.ListN.{length, replicate}
 use lib.Dec.{leb, ltb}
-use Rattle.scope.specs.Cnf.{pos, opp, neg, Gate, Item, gate, hard, soft, softUnits}
+use Rattle.scope.specs.Cnf.{opp, Gate, Item, gate, hard, soft, softUnits}
 use Rattle.scope.specs.Kinds.{Rule, from}
-use Rattle.scope.specs.Formula.{noRow, rowAt, counter, lastRow, columns, ones, unit, lowUnits, highUnits, shortUnits, boundItems, countInto, countItems}
+use Rattle.scope.specs.Formula.{noRow, rowAt, counter, lastRow, columns, ones, lowUnits, highUnits, shortUnits, boundItems, countInto, countItems}
 use Rattle.laws.specs.Lists.{All, All-append}
 use Rattle.sizing.specs.Rows.{Proper, weights}
 

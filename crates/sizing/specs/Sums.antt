@@ -1,6 +1,6 @@
 -- Sizes of formulas: how they add up, how often one is taken, and how large they are at most.
-use mathlib.Core.Path.{_≡_, refl}
-use Prim.Native.Nat.{ℕ, zero, suc, _+_, _*_, _≤_}
+use mathlib.Core.Path.{_≡_}
+use Prim.Native.Nat.{ℕ, suc, _+_, _*_, _≤_}
 use native.Mathlib.Nat.{mul-le-mul-left}
 use native.Mathlib.Omega.{arith}
 use Rattle.sizing.specs.declared.Size.{Size}
@@ -70,18 +70,6 @@ multiple-zero a = equal (omega arith)
 pub multiple-suc : (k : ℕ) (a : Size) → multiple (suc k) a ≡ sum a (multiple k a)
 unfolding sum multiple
 multiple-suc k a = equal (omega arith)
-
-pub multiple-none : (k : ℕ) → multiple k none ≡ none
-unfolding none multiple
-multiple-none k = equal (omega arith)
-
-pub multiple-sum : (k : ℕ) (a b : Size) → multiple k (sum a b) ≡ sum (multiple k a) (multiple k b)
-unfolding sum multiple
-multiple-sum k a b = equal (omega arith)
-
-pub multiple-add : (k n : ℕ) (a : Size) → multiple (k + n) a ≡ sum (multiple k a) (multiple n a)
-unfolding sum multiple
-multiple-add k n a = equal (omega arith)
 
 -- no number of the size is above m
 pub record Within (m : ℕ) (a : Size) : Type 0 where

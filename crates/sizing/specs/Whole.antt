@@ -1,27 +1,26 @@
 -- The size of a whole formula and of its tail, constraint by constraint.
-use mathlib.Core.Path.{_≡_, refl, sym, ap, _∙_}
+use mathlib.Core.Path.{_≡_, refl, sym, ap}
 use mathlib.Core.List.{List, [], _∷_, _++_, map, flatMap, append-nil, append-assoc}
-use Prim.Native.Nat.{ℕ, zero, suc, _+_, _-_, _*_, min, _≤_}
+use Prim.Native.Nat.{ℕ, suc, _+_, _*_, _≤_}
 use native.Mathlib.Nat.{zero-add}
 use native.Mathlib.Omega.{arith}
-use lib.ListN.{length, length-map, replicate, replicate-append-replicate}
-use Rattle.scope.specs.Cnf.{opp, Item, gate, hardClauses, gates, softUnits}
+use lib.ListN.{length, replicate, replicate-append-replicate}
+use Rattle.scope.specs.Cnf.{Item, softUnits}
 use Rattle.scope.specs.Kinds.{Event, Constraint, Rule, between, upTo, takesAt}
 use Rattle.scope.specs.Instance.{Instance}
 use Rattle.scope.specs.Score.{eventCount, rules}
 use Rattle.scope.specs.Text.{sumWeights}
-use Rattle.scope.specs.Formula.{words, num, starts, uses, durationRules, constraintRules, allRules, primary, formula, variables, hardOf, softOf, rulesItems, negated, tail, bounded, boundedVariables, boundedHard}
+use Rattle.scope.specs.Formula.{words, num, starts, durationRules, constraintRules, allRules, primary, formula, variables, hardOf, softOf, rulesItems, negated, tail, bounded, boundedVariables, boundedHard}
 use Rattle.scope.specs.Operations.{formulaSize}
 use Rattle.scope.specs.declared.FormulaSize.{FormulaSize}
-use Rattle.laws.specs.Lists.{All}
 use Rattle.theory.specs.Accepted.{ValidInstance}
 use Rattle.sizing.specs.declared.Size.{Size}
-use Rattle.sizing.specs.Sums.{equal, none, sum, multiple, none-sum, sum-none, sum-assoc}
+use Rattle.sizing.specs.Sums.{equal, none, sum, multiple, none-sum, sum-assoc}
 use Rattle.sizing.specs.Measure.{sizeAt, sizeOf, size-any, size-append}
-use Rattle.sizing.specs.Rows.{gatesSize, Proper, weights}
+use Rattle.sizing.specs.Rows.{Proper, weights}
 use Rattle.sizing.specs.Tail.{tailSize, tail-size, tailAdd, tail-add}
 use Rattle.sizing.specs.Softs.{soft-append, soft-gates}
-use Rattle.sizing.specs.Rules.{Countable, rulesSize, rulesWeights, hard-rule, rules-size, rules-weights, rules-proper}
+use Rattle.sizing.specs.Rules.{rulesSize, rulesWeights, hard-rule, rules-size, rules-weights, rules-proper}
 use Rattle.sizing.specs.KindSizes.{kindSize, kind-size}
 use Rattle.sizing.specs.Blocks.{startClauses, startsSize, usesSize, durationsSize, starts-size, uses-size, durations-size}
 use Rattle.sizing.specs.Sound.{rules-countable}

@@ -1,7 +1,6 @@
 -- `kinds::clash_size` meets its contract.
 -- Assumes nothing.
 use borrow.Author.Needs.{needs}
-use mathlib.Core.Path.{_≡_, refl, sym, ap, _∙_}
 use native.Mathlib.Omega.{arith}
 use Rattle.sizing.specs.Limits.{fits-multiple, list-within}
 use Rattle.sizing.specs.KindSizes.{clashSize}
