@@ -18,6 +18,7 @@ variableSize c w = record { variables = 1; clauses = c; words = w; units = 0; we
 unfoldable pub orSize : ℕ → Size
 orSize n = variableSize (n + 1) (3 * n + 1)
 
+-- the sizes of gates by their kind
 pub or-size : (ls : List ℕ) → gateSize (or ls) ≡ orSize (length ls)
 unfolding gateSize orSize clausesSize
 or-size ls =
@@ -33,6 +34,7 @@ pub short-size : (c d : ℕ) → gateSize (short c d) ≡ variableSize 3 7
 unfolding gateSize gateClauses words
 short-size c d = refl
 
+-- the opposite of a literal from 2 on is one
 opp-proper : (l : ℕ) → 2 ≤ l → 2 ≤ opp l
 opp-proper l h = omega arith
 
@@ -63,6 +65,7 @@ unfoldable pub unitSize : ℕ → Size
 unitSize zero = hardUnit
 unitSize (suc w) = softSize (suc w)
 
+-- items with a unit more
 pub hard-unit : (l : ℕ) (is : List Item) → sizeOf (hard (l ∷ []) ∷ is) ≡ sum hardUnit (sizeOf is)
 unfolding clausesSize words hardUnit
 hard-unit l is = size-hard (l ∷ []) is

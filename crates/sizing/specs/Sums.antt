@@ -51,6 +51,7 @@ multiple k a =
       weight = k * a .weight;
     }
 
+-- nothing more, in any order, and one part more
 pub none-sum : (a : Size) → sum none a ≡ a
 unfolding none sum
 none-sum a = equal (omega arith)
@@ -83,6 +84,7 @@ pub record Within (m : ℕ) (a : Size) : Type 0 where
 abbrev pub Fits64 : Size → Type 0
 Fits64 a = Within 18446744073709551615 a
 
+-- a higher limit, nothing, and parts together
 pub within-more : {m n : ℕ} {a : Size} → m ≤ n → Within m a → Within n a
 within-more h w = omega arith
 
@@ -99,6 +101,7 @@ pub within-part : (m : ℕ) (a b : Size) → Within m (sum a b) → Within m a
 unfolding sum
 within-part m a b w = omega arith
 
+-- many parts
 pub within-multiple : (k m : ℕ) (a : Size) → Within m a → Within (k * m) (multiple k a)
 unfolding multiple
 within-multiple k m a w =
