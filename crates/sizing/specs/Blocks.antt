@@ -1,20 +1,21 @@
 -- The sizes of the formula's blocks before the constraints: starts, uses and durations.
-use mathlib.Core.Path.{_≡_, refl, sym, ap, _∙_}
-use mathlib.Core.List.{List, [], _∷_, _++_, map, flatMap}
-use Prim.Native.Nat.{ℕ, zero, suc, _+_, _-_, _*_, min, _≤_}
+use mathlib.Core.Path.{_≡_, refl}
+use mathlib.Core.Bool.{false}
+use mathlib.Core.List.{List, [], _∷_, map, flatMap}
+use Prim.Native.Nat.{ℕ, zero, suc, _-_, _*_}
 use native.Mathlib.Omega.{arith}
 use lib.ListN.{length, length-map}
 use Rattle.scope.specs.Cnf.{Item, or}
-use Rattle.scope.specs.Kinds.{Event, Y, atom, between, from, upTo, users, takesAt}
+use Rattle.scope.specs.Kinds.{Event, Y, from, upTo, users}
 use Rattle.scope.specs.Instance.{Instance}
 use Rattle.scope.specs.Score.{eventCount}
 use Rattle.scope.specs.Formula.{words, num, startItems, starts, uses, durationRules}
+use Rattle.theory.specs.Ranges.{length-from}
 use Rattle.sizing.specs.declared.Size.{Size}
-use Rattle.sizing.specs.Sums.{equal, none, sum, multiple, none-sum, multiple-zero, multiple-suc}
+use Rattle.sizing.specs.Sums.{equal, none, sum, multiple, multiple-zero, multiple-suc}
 use Rattle.sizing.specs.Measure.{clausesSize, sizeOf, size-nil, size-gate, size-hard, size-append}
 use Rattle.sizing.specs.Gates.{orSize, or-size}
 use Rattle.sizing.specs.Rows.{gatesSize, gates-append}
-use Rattle.theory.specs.Ranges.{length-from}
 use Rattle.sizing.specs.Rules.{rulesSize}
 use Rattle.sizing.specs.KindSizes.{listSize, atoms-rule}
 
@@ -38,7 +39,7 @@ usesSize T es (r ∷ rs) = sum (useSize T (length (users r es))) (usesSize T es 
 -- the counted times of some events
 unfoldable pub durationsSize : ℕ → List Event → Size
 durationsSize T [] = none
-durationsSize T (v ∷ vs) = sum (listSize 0 (v .duration) (v .duration) T) (durationsSize T vs)
+durationsSize T (v ∷ vs) = sum (listSize 0 (v .duration) (v .duration) false T) (durationsSize T vs)
 
 -- lists of one size, one after the other
 same-sizes : {A : Type 0} (f : A → List Item) (s : Size) → ((x : A) → sizeOf (f x) ≡ s) → (xs : List A)
@@ -52,6 +53,7 @@ abbrev startPair : ℕ → Size
 startPair w = record { variables = 0; clauses = 2; words = w; units = 0; weight = 0 }
 
 module _ (i : Instance) where
+  -- at time 1, and at a later time
   first-start : (e : ℕ) → sizeOf (startItems i e 1) ≡ startPair 4
   unfolding clausesSize words sum none
   first-start e = rw (size-hard, size-hard, size-nil)
@@ -71,11 +73,13 @@ module _ (i : Instance) where
   starts-of zero e = size-nil
   starts-of (suc k) e = rw (size-append, first-start e, later-starts e 0 k) (equal (omega arith))
 
+  -- the starts of all events
   pub starts-size : sizeOf (starts i) ≡ multiple (eventCount i) (startClauses (i .times))
   unfolding starts
   starts-size =
+      let block : ℕ → List Item = λ e. flatMap (startItems i e) (upTo (i .times)) in
       rw
-      (same-sizes (λ e. flatMap (startItems i e) (upTo (i .times))) (startClauses (i .times)) (starts-of (i .times)) (upTo (eventCount i)), length-from 1 (eventCount i))
+      (same-sizes block (startClauses (i .times)) (starts-of (i .times)) (upTo (eventCount i)), length-from 1 (eventCount i))
 
   -- X of a resource at some times
   use-size : (us ts : List ℕ) → gatesSize (map (λ t. or (map (λ e. num i (Y e t)) us)) ts) ≡ useSize (length ts) (length us)
@@ -92,10 +96,12 @@ module _ (i : Instance) where
   uses-of (r ∷ rs) =
       rw (gates-append, use-size (users r (i .events)) (upTo (i .times)), length-from 1 (i .times), uses-of rs)
 
+  -- X of all resources
   pub uses-size : gatesSize (uses i) ≡ usesSize (i .times) (i .events) (upTo (i .resources))
   unfolding uses
   uses-size = uses-of (upTo (i .resources))
 
+  -- the rules of durations
   pub durations-size : (e : ℕ) (vs : List Event) → rulesSize (durationRules i e vs) ≡ durationsSize (i .times) vs
   unfolding durationRules rulesSize durationsSize
   durations-size e [] = refl

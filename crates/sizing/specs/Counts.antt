@@ -1,19 +1,19 @@
 -- The size of a counted list: a counter over its literals, and the units of its bounds.
-use mathlib.Core.Path.{_≡_, refl, sym, ap, _∙_}
+use mathlib.Core.Path.{_≡_, refl, ap}
 use mathlib.Core.Bool.{Bool, true, false, cond}
-use mathlib.Core.List.{List, [], _∷_, _++_, map}
+use mathlib.Core.List.{List, [], _∷_, map}
 use Prim.Native.Nat.{ℕ, zero, suc, _+_, _-_, _*_, min, _≤_}
 use native.Mathlib.Omega.{arith}
 use lib.ListN.{length, replicate}
 use lib.Dec.{leb, ltb}
 use borrow.Author.Tests.{leb-true, leb-false, ltb-true, ltb-false}
-use Rattle.scope.specs.Cnf.{opp, Item, hard, soft}
+use Rattle.scope.specs.Cnf.{opp, hard, soft}
 use Rattle.scope.specs.Kinds.{Rule, from}
-use Rattle.scope.specs.Formula.{columns, ones, unit, lowUnits, highUnits, shortUnits, boundItems, countInto, countItems}
+use Rattle.scope.specs.Formula.{columns, ones, lowUnits, highUnits, shortUnits, boundItems, countInto, countItems}
 use Rattle.laws.specs.Lists.{All}
 use Rattle.theory.specs.Ranges.{length-from}
 use Rattle.sizing.specs.declared.Size.{Size}
-use Rattle.sizing.specs.Sums.{equal, none, sum, multiple, none-sum, sum-none, sum-assoc, multiple-zero, multiple-suc}
+use Rattle.sizing.specs.Sums.{equal, none, sum, multiple, sum-assoc, multiple-zero, multiple-suc}
 use Rattle.sizing.specs.Measure.{sizeOf, softSize, size-nil, size-gate, size-soft, size-append}
 use Rattle.sizing.specs.Gates.{variableSize, short-size, hardUnit, hard-unit, unitSize, unit-size}
 use Rattle.sizing.specs.Rows.{equalRows, Proper, weights, counter-size, counter-equal}
@@ -41,6 +41,7 @@ unfoldable pub countSize : ℕ → ℕ → ℕ → Bool → ℕ → Size
 countSize w lo hi zeroFree n =
     sum (equalRows (columns w hi n) n 1) (sum (lowSize w lo zeroFree) (unitsSize w (n - hi)))
 
+-- soft units of one weight
 soft-units : (w : ℕ) (f : ℕ → ℕ) (js : List ℕ) → sizeOf (map (λ j. soft w (f j)) js) ≡ multiple (length js) (softSize w)
 soft-units w f [] = rw (size-nil, multiple-zero)
 soft-units w f (j ∷ js) = rw (size-soft, soft-units w f js, multiple-suc)
@@ -52,6 +53,7 @@ unfolding unitsSize unitSize hardUnit multiple none sum
 one-unit l k true h z = rw (hard-unit, size-nil) (equal (omega (arith, h refl)))
 one-unit l k false h z = rw size-nil (equal (omega (arith, z refl)))
 
+-- the units of the low part, of the high part, and of kind 6's low part
 pub low-units : (w : ℕ) (q : ℕ → ℕ) (lo : ℕ) → sizeOf (lowUnits w q lo) ≡ unitsSize w lo
 unfolding lowUnits unitsSize unitSize
 low-units zero q lo = one-unit (q lo) lo (leb 1 lo) (leb-true 1 lo) (λ e. omega (arith, leb-false 1 lo e))
@@ -97,10 +99,10 @@ pub count-size : (w : ℕ) (r : Rule) (xs : List ℕ) (v : ℕ) → 1 ≤ v → 
 unfolding countInto countSize
 count-size w r xs v h p =
     let cols = columns w (r .hi) (length xs) in
-    rw
-    (size-append, counter-size cols (ones xs) v h (ones-proper xs p), ones-weights, counter-equal, bounds-size w r)
+    let rows = counter-size cols (ones xs) v h (ones-proper xs p) in
+    rw (size-append, rows, ones-weights, counter-equal, bounds-size w r)
 
--- the same as numbers, hard and soft
+-- the units, kind 6's low part and the columns as numbers, hard and soft
 pub units-hard : (w k : ℕ) → w ≡ 0
     → unitsSize w k ≡ record { variables = 0; clauses = min 1 k; words = min 1 k; units = 0; weight = 0 }
 unfolding unitsSize unitSize hardUnit multiple

@@ -1,10 +1,10 @@
 -- The sizes of gates: an OR, an idle time, a short count, and the cells of a counter; and of units.
-use mathlib.Core.Path.{_≡_, refl, ap, _∙_}
+use mathlib.Core.Path.{_≡_, refl, ap}
 use mathlib.Core.List.{List, [], _∷_}
 use Prim.Native.Nat.{ℕ, zero, suc, _+_, _*_, _≤_}
 use native.Mathlib.Omega.{arith}
 use lib.ListN.{length}
-use Rattle.scope.specs.Cnf.{opp, hasTrue, withoutFalse, tidy, Gate, or, cell, idling, short, gateClauses, Item, hard}
+use Rattle.scope.specs.Cnf.{opp, hasTrue, withoutFalse, tidy, or, cell, idling, short, gateClauses, Item, hard}
 use Rattle.scope.specs.Formula.{words, unit}
 use Rattle.sizing.specs.declared.Size.{Size}
 use Rattle.sizing.specs.Sums.{equal, sum}
@@ -18,6 +18,7 @@ variableSize c w = record { variables = 1; clauses = c; words = w; units = 0; we
 unfoldable pub orSize : ℕ → Size
 orSize n = variableSize (n + 1) (3 * n + 1)
 
+-- the sizes of gates by their kind
 pub or-size : (ls : List ℕ) → gateSize (or ls) ≡ orSize (length ls)
 unfolding gateSize orSize clausesSize
 or-size ls =
@@ -33,6 +34,7 @@ pub short-size : (c d : ℕ) → gateSize (short c d) ≡ variableSize 3 7
 unfolding gateSize gateClauses words
 short-size c d = refl
 
+-- the opposite of a literal from 2 on is one
 opp-proper : (l : ℕ) → 2 ≤ l → 2 ≤ opp l
 opp-proper l h = omega arith
 
@@ -63,6 +65,7 @@ unfoldable pub unitSize : ℕ → Size
 unitSize zero = hardUnit
 unitSize (suc w) = softSize (suc w)
 
+-- items with a unit more
 pub hard-unit : (l : ℕ) (is : List Item) → sizeOf (hard (l ∷ []) ∷ is) ≡ sum hardUnit (sizeOf is)
 unfolding clausesSize words hardUnit
 hard-unit l is = size-hard (l ∷ []) is

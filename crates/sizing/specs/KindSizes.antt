@@ -1,16 +1,16 @@
 -- The size of a constraint by its kind, from the lengths of its counted lists.
-use mathlib.Core.Path.{_≡_, refl, sym, ap, _∙_}
-use mathlib.Core.Bool.{true, false}
+use mathlib.Core.Path.{_≡_, refl, sym, _∙_}
+use mathlib.Core.Bool.{Bool, true, false}
 use mathlib.Core.List.{List, [], _∷_, _++_, map, flatMap}
-use Prim.Native.Nat.{ℕ, zero, suc, _+_, _-_, _*_, min, _≤_}
+use Prim.Native.Nat.{ℕ, suc, _+_, _-_, _*_, min, _≤_}
 use native.Mathlib.Omega.{arith}
 use lib.ListN.{length, length-map, length-append}
-use Rattle.scope.specs.Kinds.{Event, Kind, clash, unavailable, preferred, split, spread, busy, cluster, idle, Atom, Y, S, X, Entry, atom, anyOf, gap, Rule, between, limit, from, upTo, users, outside, groupAt, usesAt, takesAt, startsAt, gapsAfter, gaps, rulesOf, longest}
-use Rattle.sizing.specs.declared.Size.{Size}
-use Rattle.sizing.specs.Sums.{equal, none, sum, multiple, none-sum, sum-none, sum-assoc, multiple-zero, multiple-suc, multiple-none}
-use Rattle.sizing.specs.Gates.{variableSize, orSize}
-use Rattle.sizing.specs.Counts.{countSize}
+use Rattle.scope.specs.Kinds.{Event, Kind, clash, unavailable, preferred, split, spread, busy, cluster, idle, Atom, Y, S, X, atom, anyOf, gap, Rule, between, upTo, users, outside, groupAt, usesAt, startsAt, gapsAfter, gaps, rulesOf, longest}
 use Rattle.theory.specs.Ranges.{length-from}
+use Rattle.sizing.specs.declared.Size.{Size}
+use Rattle.sizing.specs.Sums.{equal, none, sum, multiple, none-sum, sum-none, multiple-zero, multiple-suc}
+use Rattle.sizing.specs.Gates.{orSize}
+use Rattle.sizing.specs.Counts.{countSize}
 use Rattle.sizing.specs.Rules.{entrySize, entriesSize, ruleSize, rulesSize, entries-append, atoms-size}
 
 -- an idle time of a group of n members: G, H and I
@@ -31,16 +31,14 @@ unfoldable pub gapCount : List (List ℕ) → List ℕ → ℕ
 gapCount gs [] = 0
 gapCount gs (h ∷ hs) = length (groupAt gs h) - 2 + gapCount gs hs
 
--- a counted list of the weight w with n entries between lo and hi, which is lowered to n; the same for kind 6
-unfoldable pub listSize : ℕ → ℕ → ℕ → ℕ → Size
-listSize w lo hi n = countSize w lo (min hi n) false n
-
-unfoldable pub busySize : ℕ → ℕ → ℕ → ℕ → Size
-busySize w lo hi n = countSize w lo (min hi n) true n
+-- a counted list of the weight w with n entries between lo and hi as written, which is lowered to n; for kind 6 a count of
+-- 0 is free
+unfoldable pub listSize : ℕ → ℕ → ℕ → Bool → ℕ → Size
+listSize w lo hi free n = countSize w lo (min hi n) free n
 
 -- at each of T times at most one of n
 unfoldable pub clashSize : ℕ → ℕ → ℕ → Size
-clashSize T w n = multiple T (listSize w 0 1 n)
+clashSize T w n = multiple T (listSize w 0 1 false n)
 
 -- how long the counted lists of a kind are, for T times, the events and the groups of an instance
 module _ (T : ℕ) (es : List Event) (gs : List (List ℕ)) where
@@ -58,13 +56,13 @@ module _ (T : ℕ) (es : List Event) (gs : List (List ℕ)) where
 module _ (T : ℕ) (es : List Event) (gs : List (List ℕ)) (w : ℕ) where
   unfoldable pub kindSize : Kind → Size
   kindSize (clash r) = clashSize T w (length (users r es))
-  kindSize (unavailable r g) = listSize w 0 0 (length (groupAt gs g))
-  kindSize (preferred e g) = listSize w 0 0 (length (outside (groupAt gs g) (upTo T)))
-  kindSize (split e lo hi) = listSize w lo hi T
-  kindSize (spread vs g lo hi) = listSize w lo hi (length vs * length (groupAt gs g))
-  kindSize (busy r g lo hi) = busySize w lo hi (length (groupAt gs g))
-  kindSize (cluster r hs lo hi) = sum (groupsSize orSize gs hs) (listSize w lo hi (length hs))
-  kindSize (idle r hs lo hi) = sum (groupsSize gapsSize gs hs) (listSize w lo hi (gapCount gs hs))
+  kindSize (unavailable r g) = listSize w 0 0 false (length (groupAt gs g))
+  kindSize (preferred e g) = listSize w 0 0 false (length (outside (groupAt gs g) (upTo T)))
+  kindSize (split e lo hi) = listSize w lo hi false T
+  kindSize (spread vs g lo hi) = listSize w lo hi false (length vs * length (groupAt gs g))
+  kindSize (busy r g lo hi) = listSize w lo hi true (length (groupAt gs g))
+  kindSize (cluster r hs lo hi) = sum (groupsSize orSize gs hs) (listSize w lo hi false (length hs))
+  kindSize (idle r hs lo hi) = sum (groupsSize gapsSize gs hs) (listSize w lo hi false (gapCount gs hs))
 
 -- an idle time among n members, the others before or after it
 gap-size : (earlier : List Atom) (here : Atom) (later : List Atom) (n : ℕ) → n ≡ length earlier + suc (length later)
@@ -145,7 +143,7 @@ unfolding rulesSize
 one-rule w r = sum-none (ruleSize w r)
 
 pub atoms-rule : {A : Type 0} (w lo hi : ℕ) (f : A → Atom) (xs : List A)
-    → ruleSize w (between lo hi (map (λ x. atom (f x)) xs)) ≡ listSize w lo hi (length xs)
+    → ruleSize w (between lo hi (map (λ x. atom (f x)) xs)) ≡ listSize w lo hi false (length xs)
 unfolding ruleSize listSize
 atoms-rule w lo hi f xs = rw (atoms-size f xs, none-sum, length-map xs (λ x. atom (f x)))
 
@@ -154,7 +152,7 @@ clashes-size : (w : ℕ) (us ts : List ℕ)
     → rulesSize (map (λ r. (w, r)) (map (λ t. between 0 1 (map (λ e. atom (Y e t)) us)) ts))
     ≡ clashSize (length ts) w (length us)
 unfolding rulesSize clashSize
-clashes-size w us [] = sym (multiple-zero (listSize w 0 1 (length us)))
+clashes-size w us [] = sym (multiple-zero (listSize w 0 1 false (length us)))
 clashes-size w us (t ∷ ts) = rw (atoms-rule w 0 1 (λ e. Y e t) us, clashes-size w us ts, multiple-suc)
 
 -- the size of a constraint's rules
@@ -169,7 +167,7 @@ kind-size T es gs w (spread vs g lo hi) =
     unfold ruleSize listSize in
     rw (one-rule, spreads-size (groupAt gs g) vs, none-sum, spreads-length (groupAt gs g) vs)
 kind-size T es gs w (busy r g lo hi) =
-    unfold ruleSize busySize in
+    unfold ruleSize listSize in
     rw (one-rule, atoms-size (λ a. a) (usesAt r (groupAt gs g)), none-sum, length-map, length-map)
 kind-size T es gs w (cluster r hs lo hi) =
     unfold ruleSize listSize in

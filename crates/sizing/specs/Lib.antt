@@ -7,8 +7,9 @@ pub mod Counts
 pub mod Softs
 pub mod Rules
 pub mod KindSizes
-pub mod Sound
+pub mod Countable
 pub mod Blocks
 pub mod Whole
 pub mod Limits
 pub mod WholeLimits
+pub mod Outside

@@ -1,5 +1,5 @@
 -- How large sizes are at most, so that none of their sums wraps.
-use mathlib.Core.Path.{_≡_, refl}
+use mathlib.Core.Path.{refl}
 use mathlib.Core.Bool.{Bool, true, false, cond}
 use mathlib.Core.List.{List, [], _∷_}
 use Prim.Native.Nat.{ℕ, zero, suc, _+_, _-_, _*_, min, _≤_}
@@ -12,13 +12,13 @@ use Rattle.scope.specs.Kinds.{Event, member, usersFrom, users}
 use Rattle.scope.specs.Formula.{columns}
 use Rattle.sizing.specs.declared.Size.{Size}
 use Rattle.sizing.specs.Sums.{none, sum, multiple, Within, Fits64, within-more, within-none, within-sum, within-multiple}
-use Rattle.sizing.specs.Gates.{orSize, hardUnit, unitSize}
+use Rattle.sizing.specs.Gates.{orSize, hardUnit}
 use Rattle.sizing.specs.Rows.{firstRow, laterRow, equalRows}
 use Rattle.sizing.specs.Rules.{rows-units}
 use Rattle.sizing.specs.Tail.{tailAdd}
 use Rattle.sizing.specs.Counts.{unitsSize, shortsSize, lowSize, countSize, units-hard, units-soft, shorts-hard, shorts-soft}
 use Rattle.sizing.specs.Blocks.{startClauses, startsSize, useSize, usesSize, durationsSize}
-use Rattle.sizing.specs.KindSizes.{listSize, busySize, clashSize, gapSize, gapsSize}
+use Rattle.sizing.specs.KindSizes.{listSize, clashSize, gapSize, gapsSize}
 
 -- numbers of 32 bits multiplied, and of 63 bits added, have 64
 pub fits-multiple : (k m : ℕ) (a : Size) → k ≤ 4294967295 → m ≤ 4294967295 → Within m a → Fits64 (multiple k a)
@@ -27,6 +27,7 @@ fits-multiple k m a h j w = within-more (omega (arith, mul-le-mul h j)) (within-
 pub fits-sum : (a b : Size) → Within 9223372036854775807 a → Within 9223372036854775807 b → Fits64 (sum a b)
 fits-sum a b v w = within-more (omega arith) (within-sum 9223372036854775807 9223372036854775807 a b v w)
 
+-- an OR
 pub or-within : (n : ℕ) → n ≤ 1024 → Within 3073 (orSize n)
 unfolding orSize
 or-within n h = omega arith
@@ -53,6 +54,7 @@ pub columns-within : (w hi n : ℕ) → columns w hi n ≤ n
 columns-within zero hi n = omega arith
 columns-within (suc w) hi n = omega arith
 
+-- the units of bounds
 pub units-within : (w k : ℕ) → w ≤ 1000 → k ≤ 255 → Within 255000 (unitsSize w k)
 units-within zero k h j = rw (units-hard 0 k refl) (omega arith)
 units-within (suc w) k h j = rw (units-soft (suc w) k (omega arith)) (omega (arith, mul-le-mul j h))
@@ -66,6 +68,7 @@ unfolding lowSize
 low-within w lo true h j = shorts-within w (lo - 1) h (omega arith)
 low-within w lo false h j = units-within w lo h j
 
+-- a counted list
 pub count-within : (w lo hi : ℕ) (free : Bool) (n : ℕ) → w ≤ 1000 → lo ≤ 255 → n ≤ 255
     → Within 1225275 (countSize w lo hi free n)
 unfolding countSize
@@ -89,23 +92,26 @@ low-most zero lo true = rw (shorts-hard 0 (lo - 1) refl) (omega arith)
 low-most (suc w) lo true = rw (shorts-soft (suc w) (lo - 1) (omega arith)) (omega arith)
 low-most w lo false = units-most w lo
 
-pub count-most : (w lo hi : ℕ) (free : Bool) (n : ℕ) → lo ≤ hi → hi ≤ n → (countSize w lo hi free n) .units ≤ n
+count-most : (w lo hi : ℕ) (free : Bool) (n : ℕ) → lo ≤ hi → hi ≤ n → (countSize w lo hi free n) .units ≤ n
 unfolding countSize sum
 count-most w lo hi free n h j =
     omega (arith, rows-units (columns w hi n) n 1, low-most w lo free, units-most w (n - hi))
 
-pub list-within : (w lo hi n : ℕ) → w ≤ 1000 → lo ≤ 255 → n ≤ 255 → Within 1225275 (listSize w lo hi n)
+-- the same with hi as written
+pub list-within : (w lo hi : ℕ) (free : Bool) (n : ℕ) → w ≤ 1000 → lo ≤ 255 → n ≤ 255
+    → Within 1225275 (listSize w lo hi free n)
 unfolding listSize
-list-within w lo hi n h j k = count-within w lo (min hi n) false n h j k
+list-within w lo hi free n h j k = count-within w lo (min hi n) free n h j k
 
-pub busy-within : (w lo hi n : ℕ) → w ≤ 1000 → lo ≤ 255 → n ≤ 255 → Within 1225275 (busySize w lo hi n)
-unfolding busySize
-busy-within w lo hi n h j k = count-within w lo (min hi n) true n h j k
+pub list-most : (w lo hi : ℕ) (free : Bool) (n : ℕ) → lo ≤ hi → lo ≤ n → (listSize w lo hi free n) .units ≤ n
+unfolding listSize
+list-most w lo hi free n h l = count-most w lo (min hi n) free n (omega arith) (omega arith)
 
+-- a clash's lists
 pub clash-within : (T w n : ℕ) → T ≤ 125 → w ≤ 1000 → n ≤ 255 → Within 153159375 (clashSize T w n)
 unfolding clashSize
 clash-within T w n h j k =
-    within-more (omega arith) (within-multiple T 1225275 (listSize w 0 1 n) (list-within w 0 1 n j (omega arith) k))
+    within-more (omega arith) (within-multiple T 1225275 (listSize w 0 1 false n) (list-within w 0 1 false n j (omega arith) k))
 
 -- groups of up to 125 members
 pub gaps-within : (n : ℕ) → n ≤ 125 → Within 48000 (gapsSize n)
@@ -173,5 +179,5 @@ durations-within T [] h a = within-none 0
 durations-within T (v ∷ vs) h a =
     let d = v .duration in
     within-more (omega arith)
-    (within-sum 1225275 (length vs * 1225275) (listSize 0 d d T) (durationsSize T vs)
-    (list-within 0 d d T (omega arith) (omega (arith, a .0)) (omega arith)) (durations-within T vs h (a .1)))
+    (within-sum 1225275 (length vs * 1225275) (listSize 0 d d false T) (durationsSize T vs)
+    (list-within 0 d d false T (omega arith) (omega (arith, a .0)) (omega arith)) (durations-within T vs h (a .1)))

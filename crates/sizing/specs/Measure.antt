@@ -3,7 +3,7 @@
 use mathlib.Core.Path.{_≡_, refl, sym, ap, _∙_}
 use mathlib.Core.Bool.{Bool, true, false, cond}
 use mathlib.Core.List.{List, [], _∷_, _++_}
-use Prim.Native.Nat.{ℕ, zero, suc, _+_, _*_, _≤_}
+use Prim.Native.Nat.{ℕ, suc, _+_, _*_, _≤_}
 use native.Mathlib.Omega.{arith}
 use lib.ListN.{length, length-append}
 use lib.Dec.{eqb}
@@ -41,6 +41,7 @@ gateSize g =
 unfoldable pub softSize : ℕ → Size
 softSize w = record { variables = 0; clauses = 0; words = 0; units = 1; weight = w }
 
+-- clauses one after the other
 pub words-append : (cs ds : List (List ℕ)) → words (cs ++ ds) ≡ words cs + words ds
 unfolding words
 words-append [] ds = omega arith
@@ -85,6 +86,7 @@ tidy-last c l m h k = rw (hasTrue-last c l h, hasTrue-last c m k) (go (hasTrue c
     go true = refl
     go false = rw (withoutFalse-last c l h, withoutFalse-last c m k)
 
+-- the implications of an OR
 implied-length : (ls : List ℕ) (o : ℕ) → length (implied ls o) ≡ length ls
 unfolding implied
 implied-length [] o = refl
@@ -109,19 +111,23 @@ gate-any (or ls) o h = or-clauses ls o ∙ sym (or-clauses ls 1)
 gate-any (cell x a b) o h =
     let p : 2 ≤ pos o = omega arith in
     let n : 2 ≤ neg o = omega arith in
-    let two : 2 ≤ 2 = omega arith in
-    let three : 2 ≤ 3 = omega arith in
-    simp (clauses-append, tidy-last (opp a ∷ []) (pos o) 2 p two, tidy-last (opp x ∷ opp b ∷ []) (pos o) 2 p two, tidy-last (x ∷ a ∷ []) (neg o) 3 n three, tidy-last (b ∷ a ∷ []) (neg o) 3 n three)
+    let first = tidy-last (opp a ∷ []) (pos o) 2 p (omega arith) in
+    let second = tidy-last (opp x ∷ opp b ∷ []) (pos o) 2 p (omega arith) in
+    let third = tidy-last (x ∷ a ∷ []) (neg o) 3 n (omega arith) in
+    let fourth = tidy-last (b ∷ a ∷ []) (neg o) 3 n (omega arith) in
+    simp (clauses-append, first, second, third, fourth)
 gate-any (idling x g k) o h = unfold clausesSize words in refl
 gate-any (short c d) o h = unfold clausesSize words in refl
 
+-- the hard clauses of items come to as much from any variable on
 hard-any : (is : List Item) (n m : ℕ) → 1 ≤ n → 1 ≤ m → clausesSize (hardClauses n is) ≡ clausesSize (hardClauses m is)
 unfolding hardClauses
 hard-any [] n m h k = refl
 hard-any (gate g ∷ is) n m h k =
     let e = hard-any is (suc n) (suc m) (omega arith) (omega arith) in
-    rw
-    (clauses-append (gateClauses g n) (hardClauses (suc n) is), clauses-append (gateClauses g m) (hardClauses (suc m) is), gate-any g n h, gate-any g m k, e)
+    let left = clauses-append (gateClauses g n) (hardClauses (suc n) is) in
+    let right = clauses-append (gateClauses g m) (hardClauses (suc m) is) in
+    rw (left, right, gate-any g n h, gate-any g m k, e)
 hard-any (hard c ∷ is) n m h k =
     rw (clauses-append (c ∷ []) (hardClauses n is), clauses-append (c ∷ []) (hardClauses m is), hard-any is n m h k)
 hard-any (soft w l ∷ is) n m h k = hard-any is n m h k
@@ -134,11 +140,12 @@ size-any is n h =
     equal
     (record { variables = refl; clauses = ap (λ s. s .clauses) e; words = ap (λ s. s .words) e; units = refl; weight = refl })
 
+-- the size of no items
 pub size-nil : sizeOf [] ≡ none
 unfolding sizeOf sizeAt hardClauses softUnits words sumWeights none
 size-nil = refl
 
--- the size of an item more
+-- the size of items with a gate, a hard clause or a soft unit more
 pub size-gate : (g : Gate) (is : List Item) → sizeOf (gate g ∷ is) ≡ sum (gateSize g) (sizeOf is)
 unfolding sizeOf sizeAt gateSize sum hardClauses softUnits
 size-gate g is =

@@ -1,5 +1,5 @@
 -- The sizes of a counter's rows and of a counter, from the weights of their literals and the number of columns.
-use mathlib.Core.Path.{_≡_, refl, sym, ap, _∙_}
+use mathlib.Core.Path.{_≡_, refl, sym, _∙_}
 use mathlib.Core.List.{List, [], _∷_, _++_, map}
 use Prim.Native.Nat.{ℕ, zero, suc, _+_, _-_, _*_, min, _≤_}
 use native.Mathlib.Nat.{sub-zero}
@@ -17,6 +17,7 @@ use Rattle.sizing.specs.Gates.{variableSize, first-low, first-high, late
 abbrev pub gatesSize : List Gate → Size
 gatesSize gs = sizeOf (map gate gs)
 
+-- gates one after the other
 pub gates-append : (gs hs : List Gate) → gatesSize (gs ++ hs) ≡ sum (gatesSize gs) (gatesSize hs)
 gates-append [] hs = rw (size-nil, none-sum)
 gates-append (g ∷ gs) hs = simp (size-gate, gates-append gs hs, sum-assoc)
@@ -26,10 +27,12 @@ unfoldable pub firstRow : ℕ → ℕ → Size
 firstRow cols w = record { variables = cols; clauses = 2 * cols; words = 3 * cols + min cols w; units = 0; weight = 0 }
 
 unfoldable pub laterRow : ℕ → ℕ → Size
-laterRow cols w = record { variables = cols; clauses = 3 * cols + (cols - w); words = 7 * cols + 4 * (cols - w); units = 0; weight = 0 }
+laterRow cols w =
+    record { variables = cols; clauses = 3 * cols + (cols - w); words = 7 * cols + 4 * (cols - w); units = 0; weight = 0 }
 
 -- where x is the literal, which is no constant
 module _ (w x : ℕ) (hx : 2 ≤ x) where
+  -- the cell of column i + 1 under no row
   first-cell : (i : ℕ) → gateSize (cell x (noRow (suc i)) (noRow (suc i - w))) ≡ variableSize 2 (3 + min 1 (w - i))
   first-cell i = go (suc i - w) refl
     where
@@ -43,6 +46,7 @@ module _ (w x : ℕ) (hx : 2 ≤ x) where
   first-from i zero = rw size-nil (equal (omega arith))
   first-from i (suc k) = rw (size-gate, first-cell i, first-from (suc i) k) (equal (omega arith))
 
+  -- the first row
   pub first-row : (cols : ℕ) → gatesSize (row noRow w x 1 cols) ≡ firstRow cols w
   first-row cols = rw (sub-zero w) at (first-from 0 cols)
 
@@ -65,6 +69,7 @@ module _ (w x : ℕ) (hx : 2 ≤ x) where
     later-from i zero = rw size-nil (equal (omega arith))
     later-from i (suc k) = rw (size-gate, later-cell i, later-from (suc i) k) (equal (omega arith))
 
+    -- a later row
     pub later-row : (cols : ℕ) → gatesSize (row (rowAt v) w x 1 cols) ≡ laterRow cols w
     later-row cols = rw (sub-zero w) at (later-from 0 cols)
 
@@ -91,9 +96,10 @@ module _ (cols : ℕ) where
   unfolding counter laterRows
   later-rows [] u v hu hv p = size-nil
   later-rows (x ∷ xs) u v hu hv p =
-      rw
-      (gates-append, later-row (x .0) (x .1) (p .0) u hu cols, later-rows xs v (v + cols) hv (omega arith) (p .1))
+      let rest = later-rows xs v (v + cols) hv (omega arith) (p .1) in
+      rw (gates-append, later-row (x .0) (x .1) (p .0) u hu cols, rest)
 
+  -- a counter
   pub counter-size : (xs : List (ℕ × ℕ)) (v : ℕ) → 1 ≤ v → Proper xs
       → gatesSize (counter noRow xs cols v) ≡ counterSize cols (weights xs)
   unfolding counter counterSize

@@ -5,7 +5,7 @@ use mathlib.Core.List.{List, [], _∷_, _++_, map}
 use Prim.Native.Nat.{ℕ, zero, suc, _+_, _≤_}
 use native.Mathlib.Omega.{arith}
 use lib.ListN.{length, replicate, length-map}
-use Rattle.scope.specs.Cnf.{pos, gates, softUnits, gate}
+use Rattle.scope.specs.Cnf.{gates, softUnits, gate}
 use Rattle.scope.specs.Kinds.{Atom, Entry, atom, anyOf, gap, Rule}
 use Rattle.scope.specs.Formula.{columns, added, allAdded, entryGates, listGates, listLiterals, ruleItems, rulesItems, countItems}
 use Rattle.laws.specs.Lists.{All, All-append}
@@ -28,6 +28,7 @@ unfoldable pub entriesSize : List Entry → Size
 entriesSize [] = none
 entriesSize (x ∷ xs) = sum (entrySize x) (entriesSize xs)
 
+-- entries one after the other
 pub entries-append : (xs ys : List Entry) → entriesSize (xs ++ ys) ≡ sum (entriesSize xs) (entriesSize ys)
 unfolding entriesSize
 entries-append [] ys = sym (none-sum (entriesSize ys))
@@ -105,11 +106,14 @@ module _ (num : Atom → ℕ) where
   literals-proper (gap es a ls ∷ xs) v h p = (omega arith, literals-proper xs (v + 3) (omega arith) (p .1))
 
   module _ (w : ℕ) (r : Rule) (v : ℕ) (h : 1 ≤ v) (c : Countable r) where
+    -- a rule's items, and its soft units
     pub rule-size : sizeOf (ruleItems num w r v) ≡ ruleSize w r
     unfolding ruleItems ruleSize
     rule-size =
         let ls = listLiterals num (r .list) v in
-        rw (size-append, entries-size, count-size w r ls (v + allAdded (r .list)) (omega arith) (literals-proper (r .list) v h (c .atoms)), length-listLiterals num (r .list) v)
+        let p = literals-proper (r .list) v h (c .atoms) in
+        let count = count-size w r ls (v + allAdded (r .list)) (omega arith) p in
+        rw (size-append, entries-size, count, length-listLiterals num (r .list) v)
 
     pub rule-weighing : Weighing w (softUnits (ruleItems num w r v))
     unfolding ruleItems
@@ -142,8 +146,9 @@ module _ (num : Atom → ℕ) where
   rules-weights (r ∷ rs) v h c =
       let is = ruleItems num (r .0) (r .1) v in
       let u = v + gates is in
-      rw
-      (soft-append is (rulesItems num rs u), weights-append (softUnits is), rule-weights (r .0) (r .1) v h (c .0), rules-weights rs u (omega arith) (c .1))
+      let first = rule-weights (r .0) (r .1) v h (c .0) in
+      let rest = rules-weights rs u (omega arith) (c .1) in
+      rw (soft-append is (rulesItems num rs u), weights-append (softUnits is), first, rest)
 
   pub rules-proper : (rs : List (ℕ × Rule)) (v : ℕ) → 1 ≤ v → All (λ r. Countable (r .1)) rs
       → Proper (softUnits (rulesItems num rs v))

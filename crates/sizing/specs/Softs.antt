@@ -1,14 +1,14 @@
 -- The soft units of a counted list: each has the list's weight, and its literal is no constant.
-use mathlib.Core.Path.{_≡_, refl, sym, ap, ap₂, _∙_}
+use mathlib.Core.Path.{_≡_, refl, ap, ap₂}
 use mathlib.Core.Bool.{Bool, true, false, cond}
 use mathlib.Core.List.{List, [], _∷_, _++_, map}
 use Prim.Native.Nat.{ℕ, zero, suc, _+_, _-_, _*_, _≤_, _<_}
 use native.Mathlib.Omega.{arith}
-use lib.ListN.{length, replicate, length-map}
+use lib.ListN.{length, replicate}
 use lib.Dec.{leb, ltb}
-use Rattle.scope.specs.Cnf.{pos, opp, neg, Gate, Item, gate, hard, soft, softUnits}
+use Rattle.scope.specs.Cnf.{opp, Gate, Item, gate, hard, soft, softUnits}
 use Rattle.scope.specs.Kinds.{Rule, from}
-use Rattle.scope.specs.Formula.{noRow, rowAt, counter, lastRow, columns, ones, unit, lowUnits, highUnits, shortUnits, boundItems, countInto, countItems}
+use Rattle.scope.specs.Formula.{noRow, rowAt, counter, lastRow, columns, ones, lowUnits, highUnits, shortUnits, boundItems, countInto, countItems}
 use Rattle.laws.specs.Lists.{All, All-append}
 use Rattle.sizing.specs.Rows.{Proper, weights}
 
@@ -16,6 +16,7 @@ use Rattle.sizing.specs.Rows.{Proper, weights}
 abbrev pub Weighing : ℕ → List (ℕ × ℕ) → Type 0
 Weighing w us = All (λ u. (u .0 ≡ w) × (2 ≤ u .1)) us
 
+-- their weights, and their literals
 pub weighing-weights : (w : ℕ) (us : List (ℕ × ℕ)) → Weighing w us → weights us ≡ replicate (length us) w
 weighing-weights w [] p = refl
 weighing-weights w (u ∷ us) p = ap₂ (λ x xs. x ∷ xs) (p .0 .0) (weighing-weights w us (p .1))
@@ -24,6 +25,7 @@ pub weighing-proper : (w : ℕ) (us : List (ℕ × ℕ)) → Weighing w us → P
 weighing-proper w [] p = tt
 weighing-proper w (u ∷ us) p = (p .0 .1, weighing-proper w us (p .1))
 
+-- soft units one after the other; gates have none
 pub weights-append : (us vs : List (ℕ × ℕ)) → weights (us ++ vs) ≡ weights us ++ weights vs
 weights-append [] vs = refl
 weights-append (u ∷ us) vs = ap (λ ws. u .0 ∷ ws) (weights-append us vs)
@@ -54,6 +56,7 @@ unfolding softUnits
 cond-weighing w c true = tt
 cond-weighing w c false = tt
 
+-- the low part, the high part, and kind 6's low part
 low-weighing : (w : ℕ) (q : ℕ → ℕ) (lo : ℕ) → ((i : ℕ) → 1 ≤ i → i < 1 + lo → 2 ≤ q i) → Weighing w (softUnits (lowUnits w q lo))
 unfolding lowUnits
 low-weighing zero q lo h = cond-weighing 0 (q lo ∷ []) (leb 1 lo)

@@ -1,6 +1,6 @@
 -- Sizes of formulas: how they add up, how often one is taken, and how large they are at most.
-use mathlib.Core.Path.{_≡_, refl}
-use Prim.Native.Nat.{ℕ, zero, suc, _+_, _*_, _≤_}
+use mathlib.Core.Path.{_≡_}
+use Prim.Native.Nat.{ℕ, suc, _+_, _*_, _≤_}
 use native.Mathlib.Nat.{mul-le-mul-left}
 use native.Mathlib.Omega.{arith}
 use Rattle.sizing.specs.declared.Size.{Size}
@@ -51,6 +51,7 @@ multiple k a =
       weight = k * a .weight;
     }
 
+-- nothing more, in any order, and one part more
 pub none-sum : (a : Size) → sum none a ≡ a
 unfolding none sum
 none-sum a = equal (omega arith)
@@ -71,18 +72,6 @@ pub multiple-suc : (k : ℕ) (a : Size) → multiple (suc k) a ≡ sum a (multip
 unfolding sum multiple
 multiple-suc k a = equal (omega arith)
 
-pub multiple-none : (k : ℕ) → multiple k none ≡ none
-unfolding none multiple
-multiple-none k = equal (omega arith)
-
-pub multiple-sum : (k : ℕ) (a b : Size) → multiple k (sum a b) ≡ sum (multiple k a) (multiple k b)
-unfolding sum multiple
-multiple-sum k a b = equal (omega arith)
-
-pub multiple-add : (k n : ℕ) (a : Size) → multiple (k + n) a ≡ sum (multiple k a) (multiple n a)
-unfolding sum multiple
-multiple-add k n a = equal (omega arith)
-
 -- no number of the size is above m
 pub record Within (m : ℕ) (a : Size) : Type 0 where
   pub variables : a .variables ≤ m
@@ -95,6 +84,7 @@ pub record Within (m : ℕ) (a : Size) : Type 0 where
 abbrev pub Fits64 : Size → Type 0
 Fits64 a = Within 18446744073709551615 a
 
+-- a higher limit, nothing, and parts together
 pub within-more : {m n : ℕ} {a : Size} → m ≤ n → Within m a → Within n a
 within-more h w = omega arith
 
@@ -111,6 +101,7 @@ pub within-part : (m : ℕ) (a b : Size) → Within m (sum a b) → Within m a
 unfolding sum
 within-part m a b w = omega arith
 
+-- many parts
 pub within-multiple : (k m : ℕ) (a : Size) → Within m a → Within (k * m) (multiple k a)
 unfolding multiple
 within-multiple k m a w =

@@ -1,5 +1,5 @@
 -- The size of the tail, from the weights of the soft units in their order.
-use mathlib.Core.Path.{_≡_, refl, sym, ap, _∙_}
+use mathlib.Core.Path.{_≡_, sym}
 use mathlib.Core.Bool.{cond}
 use mathlib.Core.List.{List, [], _∷_, _++_, append-nil}
 use Prim.Native.Nat.{ℕ, zero, suc, _+_, _≤_}
@@ -19,6 +19,7 @@ unfoldable pub tailSize : ℕ → List ℕ → Size
 tailSize cols [] = none
 tailSize cols (w ∷ ws) = sum (counterSize cols (w ∷ ws)) hardUnit
 
+-- the tail's items
 pub tail-size : (B : ℕ) (us : List (ℕ × ℕ)) (v : ℕ) → 1 ≤ v → Proper us
     → sizeOf (tail B us v) ≡ tailSize (B + 1) (weights us)
 unfolding tail tailSize
@@ -31,6 +32,7 @@ tailAdd cols s zero w = s
 tailAdd cols s (suc n) w =
     cond (eqb (s .variables) 0) (sum (equalRows cols (suc n) w) hardUnit) (sum s (multiple (suc n) (laterRow cols w)))
 
+-- rows one after the other
 later-append : (cols : ℕ) (ws vs : List ℕ) → laterRows cols (ws ++ vs) ≡ sum (laterRows cols ws) (laterRows cols vs)
 unfolding laterRows
 later-append cols [] vs = sym (none-sum (laterRows cols vs))
@@ -45,6 +47,7 @@ sum-swap : (f l u m : Size) → sum (sum (sum f l) u) m ≡ sum (sum f (sum l m)
 unfolding sum
 sum-swap f l u m = equal (omega arith)
 
+-- it is the tail over the weights so far and those n
 pub tail-add : (cols : ℕ) (ws : List ℕ) (n w : ℕ) → 1 ≤ cols
     → tailAdd cols (tailSize cols ws) n w ≡ tailSize cols (ws ++ replicate n w)
 unfolding tailAdd

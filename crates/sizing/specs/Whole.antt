@@ -1,30 +1,30 @@
 -- The size of a whole formula and of its tail, constraint by constraint.
-use mathlib.Core.Path.{_≡_, refl, sym, ap, _∙_}
+use mathlib.Core.Path.{_≡_, refl, sym, ap}
 use mathlib.Core.List.{List, [], _∷_, _++_, map, flatMap, append-nil, append-assoc}
-use Prim.Native.Nat.{ℕ, zero, suc, _+_, _-_, _*_, min, _≤_}
+use Prim.Native.Nat.{ℕ, suc, _+_, _≤_}
 use native.Mathlib.Nat.{zero-add}
 use native.Mathlib.Omega.{arith}
-use lib.ListN.{length, length-map, replicate, replicate-append-replicate}
-use Rattle.scope.specs.Cnf.{opp, Item, gate, hardClauses, gates, softUnits}
+use lib.ListN.{length, replicate, replicate-append-replicate}
+use Rattle.scope.specs.Cnf.{Item, softUnits}
 use Rattle.scope.specs.Kinds.{Event, Constraint, Rule, between, upTo, takesAt}
 use Rattle.scope.specs.Instance.{Instance}
 use Rattle.scope.specs.Score.{eventCount, rules}
 use Rattle.scope.specs.Text.{sumWeights}
-use Rattle.scope.specs.Formula.{words, num, starts, uses, durationRules, constraintRules, allRules, primary, formula, variables, hardOf, softOf, rulesItems, negated, tail, bounded, boundedVariables, boundedHard}
+use Rattle.scope.specs.Formula.{words, num, starts, durationRules, constraintRules, allRules, primary, formula, variables, hardOf, softOf, rulesItems, negated, tail, bounded, boundedVariables, boundedHard}
 use Rattle.scope.specs.Operations.{formulaSize}
 use Rattle.scope.specs.declared.FormulaSize.{FormulaSize}
-use Rattle.laws.specs.Lists.{All}
 use Rattle.theory.specs.Accepted.{ValidInstance}
+use Rattle.theory.specs.Variables.{atomsEnd}
 use Rattle.sizing.specs.declared.Size.{Size}
-use Rattle.sizing.specs.Sums.{equal, none, sum, multiple, none-sum, sum-none, sum-assoc}
+use Rattle.sizing.specs.Sums.{equal, none, sum, multiple, none-sum, sum-assoc}
 use Rattle.sizing.specs.Measure.{sizeAt, sizeOf, size-any, size-append}
-use Rattle.sizing.specs.Rows.{gatesSize, Proper, weights}
+use Rattle.sizing.specs.Rows.{Proper, weights}
 use Rattle.sizing.specs.Tail.{tailSize, tail-size, tailAdd, tail-add}
 use Rattle.sizing.specs.Softs.{soft-append, soft-gates}
-use Rattle.sizing.specs.Rules.{Countable, rulesSize, rulesWeights, hard-rule, rules-size, rules-weights, rules-proper}
+use Rattle.sizing.specs.Rules.{rulesSize, rulesWeights, hard-rule, rules-size, rules-weights, rules-proper}
 use Rattle.sizing.specs.KindSizes.{kindSize, kind-size}
 use Rattle.sizing.specs.Blocks.{startClauses, startsSize, usesSize, durationsSize, starts-size, uses-size, durations-size}
-use Rattle.sizing.specs.Sound.{rules-countable}
+use Rattle.sizing.specs.Countable.{rules-countable}
 
 -- the size of an instance's formula, by its definitions
 unfoldable pub formulaOf : Instance → Size
@@ -64,6 +64,7 @@ module _ (i : Instance) where
   tailAfter cols s [] = s
   tailAfter cols s (c ∷ cs) = tailAfter cols (tailAdd cols s ((constraintSize c) .units) (c .weight)) cs
 
+-- rules one after the other
 pub rules-append : (rs qs : List (ℕ × Rule)) → rulesSize (rs ++ qs) ≡ sum (rulesSize rs) (rulesSize qs)
 unfolding rulesSize
 rules-append [] qs = sym (none-sum (rulesSize qs))
@@ -82,6 +83,7 @@ one-weight w [] = refl
 one-weight w (r ∷ rs) = rw (one-weight w rs, replicate-append-replicate)
 
 module _ (i : Instance) where
+  -- the rules of constraints
   constraint-size : (c : Constraint) → rulesSize (map (λ r. (c .weight, r)) (rules i c)) ≡ constraintSize i c
   constraint-size c = kind-size (i .times) (i .events) (i .groups) (c .weight) (c .kind)
 
@@ -99,8 +101,10 @@ module _ (i : Instance) where
   tail-after cols h ws (c ∷ cs) =
       let e = one-weight (c .weight) (rules i c) in
       let n = (constraintSize i c) .units in
+      let us = replicate n (c .weight) in
+      let rest = tail-after cols h (ws ++ us) cs in
       rw
-      (weights-of-append (map (λ r. (c .weight, r)) (rules i c)), e, constraint-size c, ← append-assoc ws (replicate n (c .weight)), tail-after cols h (ws ++ replicate n (c .weight)) cs, ← tail-add cols ws n (c .weight) h)
+      (weights-of-append (map (λ r. (c .weight, r)) (rules i c)), e, constraint-size c, ← append-assoc ws us, rest, ← tail-add cols ws n (c .weight) h)
 
   -- hard rules have no soft units
   durations-weights : (e : ℕ) (vs : List Event) → rulesWeights (durationRules i e vs) ≡ []
@@ -109,6 +113,7 @@ module _ (i : Instance) where
   durations-weights e (v ∷ vs) =
       rw (hard-rule (between (v .duration) (v .duration) (takesAt e (upTo (i .times)))), durations-weights (suc e) vs)
 
+  -- all rules
   rules-of-size : rulesSize (allRules i) ≡ sum (durationsSize (i .times) (i .events)) (constraintsSize i (i .constraints))
   rules-of-size =
       rw (rules-append, durations-size, constraints-size)
@@ -120,7 +125,9 @@ module _ (i : Instance) where
       (sum (usesSize (i .times) (i .events) (upTo (i .resources)))
       (sum (durationsSize (i .times) (i .events)) (constraintsSize i (i .constraints))))
   unfolding formula
-  items-size s = rw (size-append, size-append, starts-size, uses-size, rules-size (num i) (allRules i) (primary i + i .resources * i .times + 1) (omega arith) (rules-countable i s), rules-of-size, sum-assoc)
+  items-size s =
+      let rest = rules-size (num i) (allRules i) (atomsEnd i) (omega arith) (rules-countable i s) in
+      rw (size-append, size-append, starts-size, uses-size, rest, rules-of-size, sum-assoc)
 
   -- the variables Y and S
   primarySize : Size
@@ -147,21 +154,23 @@ module _ (i : Instance) where
   unfolding startClauses multiple
   starts-units = rw starts-size (omega arith)
 
-  soft-of : softOf i ≡ softUnits (rulesItems (num i) (allRules i) (primary i + i .resources * i .times + 1))
+  soft-of : softOf i ≡ softUnits (rulesItems (num i) (allRules i) (atomsEnd i))
   unfolding softOf formula
   soft-of =
       rw (soft-append, soft-append, soft-gates, no-softs (starts i) starts-units)
 
+  -- the weights of the formula's soft units, whose literals are no constants
   pub softs-weights : ValidInstance i → weights (softOf i) ≡ rulesWeights (constraintRules i (i .constraints))
   softs-weights s =
-      rw
-      (soft-of, rules-weights (num i) (allRules i) (primary i + i .resources * i .times + 1) (omega arith) (rules-countable i s), weights-of-append, durations-weights)
+      let w = rules-weights (num i) (allRules i) (atomsEnd i) (omega arith) (rules-countable i s) in
+      rw (soft-of, w, weights-of-append, durations-weights)
 
   pub softs-proper : ValidInstance i → Proper (softOf i)
   softs-proper s =
       rw soft-of
-      (rules-proper (num i) (allRules i) (primary i + i .resources * i .times + 1) (omega arith) (rules-countable i s))
+      (rules-proper (num i) (allRules i) (atomsEnd i) (omega arith) (rules-countable i s))
 
+-- negated soft units
 negated-weights : (us : List (ℕ × ℕ)) → weights (negated us) ≡ weights us
 negated-weights [] = refl
 negated-weights (u ∷ us) = ap (λ ws. u .0 ∷ ws) (negated-weights us)
@@ -176,13 +185,15 @@ module _ (i : Instance) (B : ℕ) where
   unfoldable pub tailOf : Size
   tailOf = tailAfter i (B + 1) none (i .constraints)
 
+  -- the tail's items
   pub tail-of : ValidInstance i → sizeOf (tail B (negated (softOf i)) (variables i + 1)) ≡ tailOf
   unfolding tailOf tailSize
   tail-of s =
-      rw
-      (tail-size B (negated (softOf i)) (variables i + 1) (omega arith) (negated-proper (softOf i) (softs-proper i s)), negated-weights, softs-weights i s)
+      let p = negated-proper (softOf i) (softs-proper i s) in
+      rw (tail-size B (negated (softOf i)) (variables i + 1) (omega arith) p, negated-weights, softs-weights i s)
       (tail-after i (B + 1) (omega arith) [] (i .constraints))
 
+  -- the variables Y and S, the formula's items and the tail's
   bounded-items : ValidInstance i
       → sum (primarySize i) (sizeAt (primary i + 1) (bounded i B)) ≡ sum (wholeSize i) tailOf
   unfolding bounded wholeSize beforeSize startsSize primarySize

@@ -2,10 +2,10 @@
 use mathlib.Core.Path.{_≡_, refl}
 use mathlib.Core.Bool.{true, false}
 use mathlib.Core.List.{List, [], _∷_}
-use Prim.Native.Nat.{ℕ, zero, suc, _+_, _-_, _*_, min, max, _≤_}
+use Prim.Native.Nat.{ℕ, _+_, _-_, _*_, _≤_}
 use native.Mathlib.Nat.{mul-le-mul}
 use native.Mathlib.Omega.{arith}
-use lib.ListN.{length, length-map}
+use lib.ListN.{length}
 use Rattle.laws.specs.Lists.{All, All-weaken, All-everywhere}
 use Rattle.scope.specs.Kinds.{Event, Kind, clash, unavailable, preferred, split, spread, busy, cluster, idle, Constraint, upTo, users, outside, groupAt, lowOf, highOf}
 use Rattle.scope.specs.Instance.{Instance}
@@ -15,10 +15,10 @@ use Rattle.sizing.specs.declared.Size.{Size}
 use Rattle.sizing.specs.Sums.{none, sum, multiple, Within, within-more, within-none, within-sum, within-multiple}
 use Rattle.sizing.specs.Gates.{orSize}
 use Rattle.sizing.specs.Tail.{tailAdd}
-use Rattle.sizing.specs.KindSizes.{listSize, busySize, clashSize, gapSize, gapsSize, groupsSize, gapCount, listLength, longest-length, kindSize}
+use Rattle.sizing.specs.KindSizes.{listSize, clashSize, gapSize, gapsSize, groupsSize, gapCount, listLength, longest-length, kindSize}
 use Rattle.sizing.specs.Blocks.{startsSize, usesSize, durationsSize}
 use Rattle.sizing.specs.Whole.{constraintSize, constraintsSize, beforeSize, wholeSize, tailAfter, tailOf}
-use Rattle.sizing.specs.Limits.{count-most, list-within, busy-within, clash-within, tail-within, starts-within, uses-within, durations-within}
+use Rattle.sizing.specs.Limits.{list-within, list-most, clash-within, tail-within, starts-within, uses-within, durations-within}
 
 -- no group has more members than there are times
 group-lengths : (T : ℕ) (gs : List (List ℕ)) → All (Ascending 0 T) gs → (h : ℕ) → length (groupAt gs h) ≤ T
@@ -61,31 +61,22 @@ gaps-units : (n : ℕ) → (gapsSize n) .units ≡ 0
 unfolding gapsSize gapSize multiple
 gaps-units n = omega arith
 
--- a counted list's, as many as its entries at most
-list-units : (w lo hi n : ℕ) → lo ≤ hi → lo ≤ n → (listSize w lo hi n) .units ≤ n
-unfolding listSize
-list-units w lo hi n h l = count-most w lo (min hi n) false n (omega arith) (omega arith)
-
-busy-units : (w lo hi n : ℕ) → lo ≤ hi → lo ≤ n → (busySize w lo hi n) .units ≤ n
-unfolding busySize
-busy-units w lo hi n h l = count-most w lo (min hi n) true n (omega arith) (omega arith)
-
 -- a constraint's soft units
 kind-units : (T : ℕ) (es : List Event) (gs : List (List ℕ)) (w : ℕ) (k : Kind) → T ≤ 125 → listLength T es gs k ≤ 255
     → lowOf k ≤ highOf k → lowOf k ≤ listLength T es gs k → (kindSize T es gs w k) .units ≤ 31875
 unfolding kindSize listLength clashSize multiple sum
-kind-units T es gs w (clash r) h n b l = omega (arith, mul-le-mul h (list-units w 0 1 (length (users r es)) b l), mul-le-mul h n)
-kind-units T es gs w (unavailable r g) h n b l = omega (arith, list-units w 0 0 (length (groupAt gs g)) b l)
+kind-units T es gs w (clash r) h n b l = omega (arith, mul-le-mul h (list-most w 0 1 false (length (users r es)) b l), mul-le-mul h n)
+kind-units T es gs w (unavailable r g) h n b l = omega (arith, list-most w 0 0 false (length (groupAt gs g)) b l)
 kind-units T es gs w (preferred e g) h n b l =
-    omega (arith, list-units w 0 0 (length (outside (groupAt gs g) (upTo T))) b l)
-kind-units T es gs w (split e lo hi) h n b l = omega (arith, list-units w lo hi T b l)
+    omega (arith, list-most w 0 0 false (length (outside (groupAt gs g) (upTo T))) b l)
+kind-units T es gs w (split e lo hi) h n b l = omega (arith, list-most w lo hi false T b l)
 kind-units T es gs w (spread vs g lo hi) h n b l =
-    omega (arith, list-units w lo hi (length vs * length (groupAt gs g)) b l)
-kind-units T es gs w (busy r g lo hi) h n b l = omega (arith, busy-units w lo hi (length (groupAt gs g)) b l)
+    omega (arith, list-most w lo hi false (length vs * length (groupAt gs g)) b l)
+kind-units T es gs w (busy r g lo hi) h n b l = omega (arith, list-most w lo hi true (length (groupAt gs g)) b l)
 kind-units T es gs w (cluster r hs lo hi) h n b l =
-    omega (arith, groups-units orSize or-units gs hs, list-units w lo hi (length hs) b l)
+    omega (arith, groups-units orSize or-units gs hs, list-most w lo hi false (length hs) b l)
 kind-units T es gs w (idle r hs lo hi) h n b l =
-    omega (arith, groups-units gapsSize gaps-units gs hs, list-units w lo hi (gapCount gs hs) b l)
+    omega (arith, groups-units gapsSize gaps-units gs hs, list-most w lo hi false (gapCount gs hs) b l)
 
 -- a constraint's size
 module _ (i : Instance) (v : ValidInstance i) where
@@ -97,20 +88,20 @@ module _ (i : Instance) (v : ValidInstance i) where
       → Within 268435456 (kindSize (i .times) (i .events) (i .groups) x k)
   unfolding kindSize listLength
   kind-within x (clash r) h n l = within-more (omega arith) (clash-within (i .times) x _ (v .times .high) h n)
-  kind-within x (unavailable r g) h n l = within-more (omega arith) (list-within x 0 0 _ h (omega arith) n)
-  kind-within x (preferred e g) h n l = within-more (omega arith) (list-within x 0 0 _ h (omega arith) n)
-  kind-within x (split e lo hi) h n l = within-more (omega arith) (list-within x lo hi _ h (omega arith) n)
-  kind-within x (spread vs g lo hi) h n l = within-more (omega arith) (list-within x lo hi _ h (omega arith) n)
-  kind-within x (busy r g lo hi) h n l = within-more (omega arith) (busy-within x lo hi _ h (omega arith) n)
+  kind-within x (unavailable r g) h n l = within-more (omega arith) (list-within x 0 0 false _ h (omega arith) n)
+  kind-within x (preferred e g) h n l = within-more (omega arith) (list-within x 0 0 false _ h (omega arith) n)
+  kind-within x (split e lo hi) h n l = within-more (omega arith) (list-within x lo hi false _ h (omega arith) n)
+  kind-within x (spread vs g lo hi) h n l = within-more (omega arith) (list-within x lo hi false _ h (omega arith) n)
+  kind-within x (busy r g lo hi) h n l = within-more (omega arith) (list-within x lo hi true _ h (omega arith) n)
   kind-within x (cluster r hs lo hi) h n l =
       within-more (omega arith)
-      (within-sum (length hs * 376) 1225275 (groupsSize orSize (i .groups) hs) (listSize x lo hi (length hs))
-      (clusters-within (i .groups) short-groups hs) (list-within x lo hi _ h (omega arith) n))
+      (within-sum (length hs * 376) 1225275 (groupsSize orSize (i .groups) hs) (listSize x lo hi false (length hs))
+      (clusters-within (i .groups) short-groups hs) (list-within x lo hi false _ h (omega arith) n))
   kind-within x (idle r hs lo hi) h n l =
       within-more (omega arith)
       (within-sum (gapCount (i .groups) hs * 384) 1225275 (groupsSize gapsSize (i .groups) hs)
-      (listSize x lo hi (gapCount (i .groups) hs)) (idles-within (i .groups) short-groups hs)
-      (list-within x lo hi _ h (omega arith) n))
+      (listSize x lo hi false (gapCount (i .groups) hs)) (idles-within (i .groups) short-groups hs)
+      (list-within x lo hi false _ h (omega arith) n))
 
   module _ (c : Constraint) (w : ValidConstraint (i .times) (i .resources) (i .events) (i .groups) c) where
     -- the length of its counted lists

@@ -1,6 +1,6 @@
 // Counted lists: a counter over their literals and the units of their bounds.
 ghost use mathlib.Core.Path.{_≡_};
-ghost use Prim.Native.Nat.{_≤_, min};
+ghost use Prim.Native.Nat.{_≤_};
 ghost use Rattle.scope.specs.Formula.{columns};
 ghost use Rattle.sizing.specs.Counts.{unitsSize, shortsSize, lowSize, countSize};
 use crate::Size;

@@ -1,6 +1,6 @@
 -- `blocks::or_size` meets its contract.
 -- Assumes nothing.
-use mathlib.Core.Path.{_≡_, refl, sym, ap, _∙_}
+use mathlib.Core.Path.{refl}
 use native.Mathlib.Omega.{arith}
 use Rattle.sizing.specs.Gates.{orSize}
 use Rattle.sizing.proofs.blocks.or_size.Statement.{statement}

@@ -1,6 +1,6 @@
 -- `blocks::stored_size` meets its contract.
 -- Assumes nothing.
-use mathlib.Core.Path.{_≡_, refl, sym, ap, _∙_}
+use mathlib.Core.Path.{refl}
 use Rattle.sizing.specs.Whole.{stored}
 use Rattle.sizing.proofs.blocks.stored_size.Statement.{statement}
 use Rattle.sizing.proofs.blocks.stored_size.Tie as tie

@@ -1,7 +1,7 @@
 -- `blocks::use_size` meets its contract.
 -- Assumes nothing.
 use borrow.Author.Needs.{needs}
-use mathlib.Core.Path.{_≡_, refl, sym, ap, _∙_}
+use mathlib.Core.Path.{ap, _∙_}
 use native.Mathlib.Omega.{arith}
 use Rattle.sizing.specs.Sums.{multiple}
 use Rattle.sizing.specs.Limits.{fits-multiple, or-within}

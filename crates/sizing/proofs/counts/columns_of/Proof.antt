@@ -1,7 +1,7 @@
 -- `counts::columns_of` meets its contract: by whether the weight is 0.
 -- Assumes nothing.
 use borrow.Author.Needs.{needs}
-use mathlib.Core.Path.{_≡_, refl, sym, ap, _∙_}
+use mathlib.Core.Path.{sym, _∙_}
 use native.Mathlib.Omega.{arith}
 use Rattle.sizing.specs.Counts.{columns-hard, columns-soft}
 use Rattle.sizing.proofs.counts.columns_of.Statement.{statement}

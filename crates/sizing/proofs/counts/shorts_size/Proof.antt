@@ -1,10 +1,8 @@
 -- `counts::shorts_size` meets its contract: by whether the weight is 0.
 -- Assumes nothing.
-use mathlib.Core.Path.{_≡_, refl, sym, ap, _∙_}
-use Prim.Native.Nat.{_≤_, _*_}
+use mathlib.Core.Path.{sym}
 use native.Mathlib.Nat.{mul-le-mul}
 use native.Mathlib.Omega.{arith}
-use Rattle.sizing.specs.Sums.{equal}
 use Rattle.sizing.specs.Counts.{shorts-hard, shorts-soft}
 use Rattle.sizing.proofs.counts.shorts_size.Statement.{statement}
 use Rattle.sizing.proofs.counts.shorts_size.Tie as tie

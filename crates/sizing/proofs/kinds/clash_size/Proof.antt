@@ -1,7 +1,6 @@
 -- `kinds::clash_size` meets its contract.
 -- Assumes nothing.
 use borrow.Author.Needs.{needs}
-use mathlib.Core.Path.{_≡_, refl, sym, ap, _∙_}
 use native.Mathlib.Omega.{arith}
 use Rattle.sizing.specs.Limits.{fits-multiple, list-within}
 use Rattle.sizing.specs.KindSizes.{clashSize}
@@ -12,7 +11,7 @@ list-size-requires : tie.Need-list-size-requires
 list-size-requires c κs = search needs
 
 multiply-requires : tie.Need-multiply-requires
-multiply-requires c κs = fits-multiple _ 1225275 _ (omega arith) (omega arith) (rw (c .list-size .ensures) (list-within _ _ _ _ (omega arith) (omega arith) (omega arith)))
+multiply-requires c κs = fits-multiple _ 1225275 _ (omega arith) (omega arith) (rw (c .list-size .ensures) (list-within _ _ _ _ _ (omega arith) (omega arith) (omega arith)))
 
 returns : tie.Need-returns
 unfolding clashSize

@@ -1,6 +1,6 @@
 -- `rows::hard_unit` meets its contract.
 -- Assumes nothing.
-use mathlib.Core.Path.{_≡_, refl, sym, ap, _∙_}
+use mathlib.Core.Path.{refl}
 use Rattle.sizing.specs.Gates.{hardUnit}
 use Rattle.sizing.proofs.rows.hard_unit.Statement.{statement}
 use Rattle.sizing.proofs.rows.hard_unit.Tie as tie

@@ -1,6 +1,6 @@
 -- `sums::multiply` meets its contract: no product wraps, since the whole fits.
 -- Assumes nothing.
-use mathlib.Core.Path.{_≡_, refl, sym, ap, _∙_}
+use mathlib.Core.Path.{refl}
 use native.Mathlib.Omega.{arith}
 use Rattle.sizing.specs.Sums.{multiple}
 use Rattle.sizing.proofs.sums.multiply.Statement.{statement}

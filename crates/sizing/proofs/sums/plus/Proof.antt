@@ -1,6 +1,5 @@
 -- `sums::plus` meets its contract: no sum wraps, since the whole fits.
 -- Assumes nothing.
-use borrow.Author.Needs.{needs}
 use mathlib.Core.Path.{refl}
 use native.Mathlib.Omega.{arith}
 use Rattle.sizing.specs.Sums.{sum}

@@ -1,5 +1,4 @@
 -- The rules of an accepted instance are countable: no literal of theirs is a constant.
-use Prim.Native.Nat.{ℕ, _≤_}
 use native.Mathlib.Omega.{arith}
 use Rattle.laws.specs.Lists.{All}
 use Rattle.scope.specs.Kinds.{Atom, Y, S, X}
