@@ -8,6 +8,8 @@ use lib.ListN.{length, drop}
 use native.Mathlib.Omega.{arith}
 use borrow.Author.Tests.{leb-true}
 use Rattle.scope.specs.Parsed.{Parsed, got, refused, andThen, unless, repeat}
+use Rattle.scope.specs.Parsed.{answered, refusal}
+use Rattle.scope.specs.Operations.{readOf}
 use Rattle.scope.specs.Number.{limited}
 use Rattle.scope.specs.Kinds.{Event, Kind, Constraint, rulesOf, longest, lowOf, highOf}
 use Rattle.scope.specs.Instance.{Counts, Instance, countsOf, ended, constraintAt, parse}
@@ -220,3 +222,23 @@ module _ {s d te tg : List ℕ} {h : Head} (a : Accepted s d te tg h) where
   accepted-next {i} {at} l x {c} {next} w k e t =
       let r = walk-read w k l x e t in
       record { whole = r .whole; walk = r .walk; valid = each-head (rw (r .whole) at (each-drop i (a .valid))) }
+
+-- what the operation of reading answers for it
+pub accepted-answer : {s d te tg : List ℕ} {h : Head}
+    → Accepted s d te tg h
+    → answered
+    (record {
+      times = h .times;
+      events = h .events;
+      resources = h .resources;
+      groups = h .groups;
+      constraints = h .constraints;
+    })
+    ≡ readOf s
+unfolding readOf
+accepted-answer {s} {d} {te} {tg} {h} a =
+    rw (a .parsed, a .count, length-events d te (h .events), length-rows tg (h .groups))
+
+pub refused-answer : (s : List ℕ) {k v : ℕ} → refused k v ≡ parse s → refusal k v ≡ readOf s
+unfolding readOf
+refused-answer s e = rw (← e)
