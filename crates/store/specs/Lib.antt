@@ -1,0 +1,4 @@
+pub mod Marks
+pub mod Clauses
+pub mod Rows
+pub mod Directory
