@@ -1,4 +1,6 @@
 pub mod Marks
 pub mod Clauses
 pub mod Rows
+pub mod Live
 pub mod Directory
+pub mod Marked

@@ -3,6 +3,7 @@ use crate::marks::mark_of;
 use crate::marks::put_mark;
 ghost use mathlib.Core.Path.{_≡_};
 ghost use Prim.Native.Nat.{_+_, min};
+ghost use lib.ListN.{length, replicate};
 ghost use Rattle.scope.specs.Steps.{alsoOpen, alsoLiteral, standing, falsified};
 ghost use Rattle.store.specs.Marks.{marksOf};
 ghost use Rattle.store.specs.Clauses.{part, stands, Wiped, inClause};
@@ -89,6 +90,17 @@ pub fn wipe_clause(marks: &mut [u8], words: &[u32], first: usize, len: usize)
         let l = words[i];
         let v = wide(l / 2);
         put_mark(marks, v, 0);
+        i += 1;
+    }
+}
+
+// Every word is 0.
+pub fn clear_words(words: &mut [u32])
+    ensures { λ _. ⌜ now (words .exit) ≡ replicate (length (now (words .entry))) 0 ⌝ }
+{
+    let mut i = 0;
+    while i < words.len() {
+        words[i] = 0;
         i += 1;
     }
 }

@@ -5,6 +5,7 @@ ghost use Prim.Native.Nat.{_*_, _+_, _≤_, _<_};
 ghost use lib.ListN.{length, replicate};
 ghost use Rattle.store.specs.Rows.{Started, Narrowed, Finds, Dies, Appends};
 ghost use Rattle.store.specs.Directory.{rowsOf, capacity};
+ghost use Rattle.store.specs.Marked.{Built};
 
 pub struct Row {
     pub id: usize,
@@ -147,6 +148,35 @@ pub fn append(rows: &mut [usize], n: usize, row: Row)
         rows[k + 2] = row.len;
         rows[k + 3] = row.live;
     }
+}
+
+// The rows of the clauses in the first total words, where each clause's last word is marked by 2^31; the words are then as
+// they were before they were marked. The clauses have the ids 1, 2, .. in turn. How many they are.
+pub fn build_directory(words: &mut [u32], rows: &mut [usize], total: usize) -> usize
+    ensures { λ r. ⌜ Built (now (words .entry)) (now (words .exit)) (capacity (now (rows .entry))) (rowsOf (now (rows .exit))) total r ⌝ }
+{
+    let end = least(total, words.len());
+    let mut n = 0;
+    let mut first = 0;
+    let mut i = 0;
+    while i < end {
+        let w = words[i];
+        let next = i + 1;
+        if 2147483648 <= w {
+            words[i] = w - 2147483648;
+            let row = Row {
+                id: n + 1,
+                first,
+                len: next - first,
+                live: 1,
+            };
+            append(rows, n, row);
+            n += 1;
+            first = next;
+        }
+        i = next;
+    }
+    n
 }
 
 // Every row is 0.

@@ -1,5 +1,6 @@
 // The marks of variables: one byte for each, variable v at byte v - 1. A mark past the bytes is open, and is not set.
 ghost use mathlib.Core.Path.{_≡_};
+ghost use lib.ListN.{length, replicate};
 ghost use Rattle.store.specs.Marks.{marksOf, putMark};
 
 // The mark of a variable.
@@ -28,4 +29,15 @@ pub fn put_mark(marks: &mut [u8], v: usize, mark: u8)
         return;
     }
     marks[i] = mark;
+}
+
+// Every byte is 0.
+pub fn clear_bytes(bytes: &mut [u8])
+    ensures { λ _. ⌜ now (bytes .exit) ≡ replicate (length (now (bytes .entry))) 0 ⌝ }
+{
+    let mut i = 0;
+    while i < bytes.len() {
+        bytes[i] = 0;
+        i += 1;
+    }
 }
