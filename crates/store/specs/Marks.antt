@@ -4,7 +4,7 @@ use mathlib.Core.Bool.{Bool, true, false, cond}
 use mathlib.Core.List.{List}
 use Prim.Native.Nat.{ℕ, zero, suc, _-_, _≤_, _<_}
 use native.Mathlib.Omega.{arith}
-use lib.ListN.{length, getD, set, List·getD-eq-default}
+use lib.ListN.{length, getD, set, length-set, List·getD-eq-default}
 use lib.Dec.{eqb, ltb}
 use lib.Seq.{set-out, getD-set-same, getD-set-other}
 use borrow.Author.Tests.{eqb-true, eqb-false, ne-eqb, ltb-true, ltb-false}
@@ -69,3 +69,7 @@ mark-opened ms (suc v) (suc u) = by (eqb (suc v) (suc u)) refl
     by : (t : Bool) → eqb (suc v) (suc u) ≡ t → getD (set ms v 0) u 0 ≡ cond t 0 (getD ms u 0)
     by true t = same (omega (arith, eqb-true (suc v) (suc u) t)) (ltb v (length ms)) refl
     by false t = getD-set-other ms v u 0 0 (λ e. eqb-false (suc v) (suc u) t (ap suc (sym e)))
+
+pub put-length : (ms : List ℕ) (v x : ℕ) → length (putMark ms v x) ≡ length ms
+put-length ms zero x = refl
+put-length ms (suc v) x = length-set ms v x

@@ -1,0 +1,2 @@
+pub mod ReadingTurns
+pub mod StepReading

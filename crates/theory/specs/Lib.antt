@@ -1,0 +1,12 @@
+pub mod Cases
+pub mod Tokens
+pub mod Front
+pub mod Spelt
+pub mod Sound
+pub mod Exact
+pub mod Check
+pub mod Demand3
+pub mod Words
+pub mod Formed
+pub mod Hinted
+pub mod InWords
