@@ -1,2 +1,3 @@
 pub mod ReadingTurns
 pub mod StepReading
+pub mod Copying

@@ -19,13 +19,7 @@ use Rattle.bound.specs.declared.steps.Numbers.the-variants.{End, Cut}
 use Rattle.bound.specs.declared.steps.Literals.{Literals}
 use Rattle.bound.specs.declared.steps.Literals.the-variants as found
 use Rattle.bound.specs.Reading.{tokensAt, numbersAt, Listed, Passes, ends, cut, literalOk, LiteralsAt, ReadsLiterals, reads, bad-literals}
-use Rattle.bound.specs.Listing.{list-cut, list-more, list-end, listed-more}
-
--- what a first number and those after it are
-consed : {n : ℕ} (x : steps.Numbers) {ls : List ℕ} {ts : Tokens} → before n x ≡ upTo0 ls ts
-    → (ns : List ℕ) × (x ≡ upTo0 ns ts) × (ls ≡ n ∷ ns)
-consed (upTo0 ns us) e = (ns, (cc), (cc))
-consed steps.cut e = impossible (cc)
+use Rattle.bound.specs.Listing.{list-cut, list-more, list-end, listed-more, consed}
 
 module _ (s : List ℕ) (at n next : ℕ) (e : number s at ≡ got n next) where
   pub passes-end : n ≡ 0 → Passes s at (End next)

@@ -1,3 +1,4 @@
 pub mod Reading
 pub mod Listing
 pub mod Machine
+pub mod Check

@@ -58,6 +58,12 @@ module _ (s : List ℕ) (at n next : ℕ) (e : number s at ≡ got n next) where
       let t = tokens-got s at n next e in
       record { listed = list-more h ∙ ap (before n) (l .listed); ahead = omega (arith, t .forward, l .ahead); inside = l .inside }
 
+-- what a first number and those after it are
+pub consed : {n : ℕ} (x : steps.Numbers) {ls : List ℕ} {ts : Tokens} → before n x ≡ upTo0 ls ts
+    → (ns : List ℕ) × (x ≡ upTo0 ns ts) × (ls ≡ n ∷ ns)
+consed (upTo0 ns us) e = (ns, (cc), (cc))
+consed steps.cut e = impossible (cc)
+
 -- what stands at an offset where a list of numbers does
 pub data FirstOf (s : List ℕ) (at : ℕ) (end : ℕ) : List ℕ → Type 0 where
   zero-first : number s at ≡ got 0 end → FirstOf s at end []
