@@ -1,3 +1,4 @@
 pub mod ReadingTurns
 pub mod StepReading
 pub mod Copying
+pub mod Falling

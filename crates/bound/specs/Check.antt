@@ -32,11 +32,15 @@ begun rows words =
 abbrev pub withPhase : Check → Phase → Check
 withPhase c p = record { phase = p; tally = c .tally; clause = c .clause }
 
--- the clause at hand follows, and what comes after its step stands at an offset
-unfoldable pub judged : Check → ℕ → ℕ → ℕ → ℕ → Check
-judged c at bytes words rows =
-    cond (eqb (c .clause .size) 0) (withPhase c (cond (ltb at bytes) (Refused 18) Proved))
-    (withPhase c (cond (leb (c .tally .words + c .clause .size) words && leb (c .tally .rows + 1) rows) Keep (Refused 17)))
+-- the clause at hand follows, and what comes after its step stands at an offset: the empty clause ends the proof, another is
+-- kept if it fits
+unfoldable pub verdict : Check → ℕ → ℕ → ℕ → ℕ → Phase
+verdict c at bytes words rows =
+    cond (eqb (c .clause .size) 0) (cond (ltb at bytes) (Refused 18) Proved)
+    (cond (leb (c .tally .words + c .clause .size) words && leb (c .tally .rows + 1) rows) Keep (Refused 17))
+
+abbrev pub judged : Check → ℕ → ℕ → ℕ → ℕ → Check
+judged c at bytes words rows = withPhase c (verdict c at bytes words rows)
 
 -- the row of the clause at hand
 abbrev pub rowOf : Check → Row

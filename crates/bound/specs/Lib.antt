@@ -2,3 +2,4 @@ pub mod Reading
 pub mod Listing
 pub mod Machine
 pub mod Check
+pub mod Run

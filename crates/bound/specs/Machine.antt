@@ -1,8 +1,7 @@
 -- The machine that judges a proof: what each turn makes of it.
 use mathlib.Core.Path.{_≡_, refl}
-use mathlib.Core.Bool.{Bool, true, false}
 use mathlib.Core.List.{List}
-use Prim.Native.Nat.{ℕ, zero, suc, _+_, _/_, _%_}
+use Prim.Native.Nat.{ℕ, zero, suc, _+_, _/_, _%_, _≤_}
 use native.Mathlib.Omega.{arith}
 use Rattle.scope.specs.Parsed.{got, refused}
 use Rattle.scope.specs.Number.{number}
@@ -57,26 +56,38 @@ unfolding walked
 walked-early zero next h = absurd (h refl)
 walked-early (suc id) next h = refl
 
--- the phases in which an id is wanted: to look at its clause, or to delete it
-abbrev pub looking : Phase → Bool
-looking Next = false
-looking Walk = true
-looking Followed = false
-looking Keep = false
-looking Wipe = true
-looking Delete = false
-looking Proved = false
-looking (Refused k) = false
+-- the turn that a machine waits for: a clause is looked at (0); one is deleted (1); one is kept (2); one is judged (3);
+-- a step is read (4); none is left (5)
+abbrev pub turnOf : Phase → ℕ
+turnOf Next = 4
+turnOf Walk = 0
+turnOf Followed = 3
+turnOf Keep = 2
+turnOf Wipe = 0
+turnOf Delete = 1
+turnOf Proved = 5
+turnOf (Refused k) = 5
 
-abbrev pub deleting : Phase → Bool
-deleting Next = false
-deleting Walk = false
-deleting Followed = false
-deleting Keep = false
-deleting Wipe = false
-deleting Delete = true
-deleting Proved = false
-deleting (Refused k) = false
+-- the phase of a turn that no other phase waits for
+abbrev pub phaseOf : ℕ → Phase
+phaseOf zero = Walk
+phaseOf (suc zero) = Delete
+phaseOf (suc (suc zero)) = Keep
+phaseOf (suc (suc (suc zero))) = Followed
+phaseOf (suc (suc (suc (suc n)))) = Next
+
+pub turn-phase : (p : Phase) {n : ℕ} → turnOf p ≡ n → 1 ≤ n → n ≤ 4 → p ≡ phaseOf n
+turn-phase p e l h = rw (← e) (go p (omega arith) (omega arith))
+  where
+    go : (p : Phase) → 1 ≤ turnOf p → turnOf p ≤ 4 → p ≡ phaseOf (turnOf p)
+    go Next l h = refl
+    go Walk l h = absurd (omega arith)
+    go Followed l h = refl
+    go Keep l h = refl
+    go Wipe l h = absurd (omega arith)
+    go Delete l h = refl
+    go Proved l h = absurd (omega arith)
+    go (Refused k) l h = absurd (omega arith)
 
 -- one turn with the row of the id that was wanted
 pub data Advances (s : List ℕ) (m : Machine) (row : Row) (ws ms : List ℕ) (r : Machine) (ms′ : List ℕ) : Type 0 where
@@ -89,4 +100,4 @@ pub data Advances (s : List ℕ) (m : Machine) (row : Row) (ws ms : List ℕ) (r
       → Wiped (inClause (rowClause row ws)) ms ms′ → Advances s m row ws ms r ms′
   deletes : (id next : ℕ) → (row .live ≡ 0 → ⊥) → number s (m .at) ≡ got id next → m .phase ≡ Delete → r ≡ onward Delete Next id next
       → ms′ ≡ ms → Advances s m row ws ms r ms′
-  idle : looking (m .phase) ≡ false → deleting (m .phase) ≡ false → Advances s m row ws ms r ms′
+  idle : 2 ≤ turnOf (m .phase) → Advances s m row ws ms r ms′

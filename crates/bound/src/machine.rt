@@ -12,7 +12,7 @@ ghost use mathlib.Core.Path.{_≡_};
 ghost use Rattle.scope.specs.Steps.{standing, falsified};
 ghost use Rattle.store.specs.Marks.{marksOf};
 ghost use Rattle.store.specs.Live.{rowClause};
-ghost use Rattle.bound.specs.Machine.{stopped, onward, walked, walkedMarks, Advances};
+ghost use Rattle.bound.specs.Machine.{turnOf, stopped, onward, walked, walkedMarks, Advances};
 
 // What is to be done next.
 pub enum Phase {
@@ -34,11 +34,41 @@ pub enum Phase {
     Refused(u8),
 }
 
+// The turns of a check: a clause is looked at; one is deleted; one is kept; one is judged; a step is read; none is left.
+pub const LOOK: u8 = 0;
+
+pub const DELETE: u8 = 1;
+
+pub const KEEP: u8 = 2;
+
+pub const JUDGE: u8 = 3;
+
+pub const READ: u8 = 4;
+
+pub const END: u8 = 5;
+
 // A phase, where the next number of the proof stands, and the id that is wanted.
 pub struct Machine {
     pub phase: Phase,
     pub at: usize,
     pub want: usize,
+}
+
+// The turn that a machine waits for.
+pub fn turn_of(m: Machine) -> u8
+    ensures { λ r. ⌜ r ≡ turnOf (m .phase) ⌝ }
+{
+    let phase = m.phase;
+    match phase {
+        Phase::Walk => LOOK,
+        Phase::Wipe => LOOK,
+        Phase::Delete => DELETE,
+        Phase::Keep => KEEP,
+        Phase::Followed => JUDGE,
+        Phase::Next => READ,
+        Phase::Proved => END,
+        Phase::Refused(_) => END,
+    }
 }
 
 // No id is wanted.

@@ -1,7 +1,7 @@
 use native.Mathlib.Omega.{arith}
 use borrow.Author.Tests.{eq-eqb, ne-eqb, lt-ltb, le-ltb, le-leb, lt-leb}
 use Prim.Native.Nat.{_+_}
-use Rattle.bound.specs.Check.{judged}
+use Rattle.bound.specs.Check.{verdict}
 use borrow.Author.Needs.{needs}
 use Rattle.bound.proofs.check.judge.Statement.{statement}
 use Rattle.bound.proofs.check.judge.Tie as tie
@@ -10,21 +10,21 @@ in-phase-requires : tie.Need-in-phase-requires
 in-phase-requires c κs = search needs
 
 returns : tie.Need-returns
-unfolding judged
+unfolding verdict
 returns c = let a = c .before .before .before .before .before .before .args in rw (eq-eqb (a .c .clause .size) 0 (c .before .before .if1 .taken), lt-ltb (a .at) (a .bytes) (c .before .if2 .taken)) (c .in-phase .ensures)
 
 in-phase-requires-2 : tie.Need-in-phase-requires-2
 in-phase-requires-2 c κs = search needs
 
 returns-2 : tie.Need-returns-2
-unfolding judged
+unfolding verdict
 returns-2 c = let a = c .before .before .before .before .before .before .args in rw (eq-eqb (a .c .clause .size) 0 (c .before .before .if1 .taken), le-ltb (a .at) (a .bytes) (c .before .if2 .left)) (c .in-phase2 .ensures)
 
 in-phase-requires-3 : tie.Need-in-phase-requires-3
 in-phase-requires-3 c κs = search needs
 
 returns-3 : tie.Need-returns-3
-unfolding judged
+unfolding verdict
 returns-3 c =
     let a = c .before .before .before .before .before .before .before .args in
     rw (ne-eqb (a .c .clause .size) 0 (c .before .before .before .if1 .left), lt-leb (a .c .tally .words + a .c .clause .size) (a .words) (omega arith)) (c .in-phase3 .ensures)
@@ -33,7 +33,7 @@ in-phase-requires-4 : tie.Need-in-phase-requires-4
 in-phase-requires-4 c κs = search needs
 
 returns-4 : tie.Need-returns-4
-unfolding judged
+unfolding verdict
 returns-4 c =
     let a = c .before .before .before .before .before .before .before .before .before .before .args in
     rw (ne-eqb (a .c .clause .size) 0 (c .before .before .before .before .before .before .if1 .left), lt-leb (a .c .tally .words + a .c .clause .size) (a .words) (omega arith)) (c .in-phase4 .ensures)
@@ -42,7 +42,7 @@ in-phase-requires-5 : tie.Need-in-phase-requires-5
 in-phase-requires-5 c κs = search needs
 
 returns-5 : tie.Need-returns-5
-unfolding judged
+unfolding verdict
 returns-5 c =
     let a = c .before .before .before .before .before .before .before .before .before .before .before .before .args in
     rw (
@@ -55,7 +55,7 @@ in-phase-requires-6 : tie.Need-in-phase-requires-6
 in-phase-requires-6 c κs = search needs
 
 returns-6 : tie.Need-returns-6
-unfolding judged
+unfolding verdict
 returns-6 c =
     let a = c .before .before .before .before .before .before .before .before .before .before .before .before .args in
     rw (

@@ -1,7 +1,8 @@
+use native.Mathlib.Omega.{arith}
 use mathlib.Core.Path.{_≡_, refl, sym, ap, _∙_}
 use Rattle.scope.specs.Parsed.{got}
 use Rattle.scope.specs.Number.{number}
-use Rattle.bound.specs.Machine.{looking, deleting, gone, broken, walks, wipes, deletes, idle}
+use Rattle.bound.specs.Machine.{gone, broken, walks, wipes, deletes, idle}
 use Rattle.bound.specs.Listing.{value-at, no-value-at}
 use borrow.Author.Needs.{needs}
 use Rattle.bound.proofs.machine.advance.Statement.{statement}
@@ -91,19 +92,19 @@ returns-5 c =
     deletes _ _ (c .before .before .before .before .before .before .before .if1 .left) (read (c .before .before .before)) (c .before .enum-told4 .given .1) (c .step-on2 .ensures) refl
 
 returns-6 : tie.Need-returns-6
-returns-6 c = let e = c .enum-told5 .given .1 in idle (rw e) (rw e)
+returns-6 c = let e = c .enum-told5 .given .1 in idle (rw e (omega arith))
 
 returns-7 : tie.Need-returns-7
-returns-7 c = let e = c .enum-told6 .given .1 in idle (rw e) (rw e)
+returns-7 c = let e = c .enum-told6 .given .1 in idle (rw e (omega arith))
 
 returns-8 : tie.Need-returns-8
-returns-8 c = let e = c .enum-told7 .given .1 in idle (rw e) (rw e)
+returns-8 c = let e = c .enum-told7 .given .1 in idle (rw e (omega arith))
 
 returns-9 : tie.Need-returns-9
-returns-9 c = let e = c .enum-told8 .given .1 in idle (rw e) (rw e)
+returns-9 c = let e = c .enum-told8 .given .1 in idle (rw e (omega arith))
 
 returns-10 : tie.Need-returns-10
-returns-10 c = let e = c .enum-told9 .given .1 in idle (rw e) (rw e)
+returns-10 c = let e = c .enum-told9 .given .1 in idle (rw e (omega arith))
 
 pub advance-spec : {M : Type 1} → statement M
 advance-spec =
