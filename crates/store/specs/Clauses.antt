@@ -34,7 +34,7 @@ inClause (l ∷ ls) v = eqb (l / 2) v || inClause ls v
 pub record Wiped (p : ℕ → Bool) (ms ms′ : List ℕ) : Type 0 where
   pub wiped : (v : ℕ) → marksOf ms′ v ≡ cond (p v) 0 (marksOf ms v)
 
-drop-take : (ws : List ℕ) (first len : ℕ) → drop first (take (first + len) ws) ≡ take len (drop first ws)
+pub drop-take : (ws : List ℕ) (first len : ℕ) → drop first (take (first + len) ws) ≡ take len (drop first ws)
 drop-take ws zero len = let e : 0 + len ≡ len = omega arith in rw e
 drop-take [] (suc first) len = let e : suc first + len ≡ suc (first + len) = omega arith in rw e (sym (nil len))
   where

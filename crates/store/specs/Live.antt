@@ -45,7 +45,7 @@ row-found R ws (suc n) r id up h e = go (row-found R ws n r id (fewer up)) (ltb 
         let p : r ≡ n = omega (arith, ltb-false r n t) in
         rw (eq-eqb (R n .id) id (ap (λ i. R i .id) (sym p) ∙ e), p)
 
-row-missing : (R : ℕ → Row) (ws : List ℕ) (n id : ℕ) → ((k : ℕ) → k < n → R k .id ≡ id → ⊥) → liveRows R ws n id ≡ none
+pub row-missing : (R : ℕ → Row) (ws : List ℕ) (n id : ℕ) → ((k : ℕ) → k < n → R k .id ≡ id → ⊥) → liveRows R ws n id ≡ none
 unfolding liveRows
 row-missing R ws zero id h = refl
 row-missing R ws (suc n) id h =
@@ -64,10 +64,10 @@ eqb-sym a b = go (eqb a b) refl
     go false e = sym (ne-eqb b a (λ p. eqb-false a b e (sym p)))
 
 -- one value is put
-put-same : {A : Type 0} (f : ℕ → A) (i : ℕ) (x : A) → put f i x i ≡ x
+pub put-same : {A : Type 0} (f : ℕ → A) (i : ℕ) (x : A) → put f i x i ≡ x
 put-same f i x = rw (eq-eqb i i refl)
 
-put-other : {A : Type 0} (f : ℕ → A) (i j : ℕ) (x : A) → (j ≡ i → ⊥) → put f i x j ≡ f j
+pub put-other : {A : Type 0} (f : ℕ → A) (i j : ℕ) (x : A) → (j ≡ i → ⊥) → put f i x j ≡ f j
 put-other f i j x h = rw (ne-eqb j i h)
 
 -- rows and words that hold the same clauses in the first n rows
@@ -103,7 +103,7 @@ module _ (R : ℕ → Row) (i : ℕ) where
   abbrev R′ : ℕ → Row
   R′ = put R i (dying (R i))
 
-  same-id : (k : ℕ) → R′ k .id ≡ R k .id
+  pub same-id : (k : ℕ) → R′ k .id ≡ R k .id
   same-id k = go (eqb k i) refl
     where
       go : (t : Bool) → eqb k i ≡ t → cond t (dying (R i)) (R k) .id ≡ R k .id
