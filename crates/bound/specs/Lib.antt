@@ -5,3 +5,5 @@ pub mod Check
 pub mod Run
 pub mod Falling
 pub mod Hints
+pub mod Fine
+pub mod LookMeans

@@ -64,7 +64,18 @@ pub consed : {n : ℕ} (x : steps.Numbers) {ls : List ℕ} {ts : Tokens} → bef
 consed (upTo0 ns us) e = (ns, (cc), (cc))
 consed steps.cut e = impossible (cc)
 
--- what stands at an offset where a list of numbers does
-pub data FirstOf (s : List ℕ) (at : ℕ) (end : ℕ) : List ℕ → Type 0 where
-  zero-first : number s at ≡ got 0 end → FirstOf s at end []
-  one-first : {n next : ℕ} {ns : List ℕ} → number s at ≡ got n next → (n ≡ 0 → ⊥) → Listed s next ns end → FirstOf s at end (n ∷ ns)
+-- the ids that are left where an id was read before next
+pub data Ahead (s : List ℕ) (next id : ℕ) (after : Tokens) : List ℕ → Type 0 where
+  last-id : id ≡ 0 → tokensAt s next ≡ after → Ahead s next id after []
+  more-ids : (id ≡ 0 → ⊥) → (left : List ℕ) → numbersAt s next ≡ upTo0 left after → Ahead s next id after (id ∷ left)
+
+pub ids-ahead : (s : List ℕ) (at id next : ℕ) (left : List ℕ) (after : Tokens) → number s at ≡ got id next → numbersAt s at ≡ upTo0 left after
+    → Ahead s next id after left
+ids-ahead s at zero next left after e h =
+    let l = list-end s at zero next e refl .listed in
+    let z : [] ≡ left = cc in
+    let t : tokensAt s next ≡ after = cc in
+    rw (← z) (last-id refl t)
+ids-ahead s at (suc id) next left after e h =
+    let c = consed (numbersAt s next) (sym (list-more s at (suc id) next e (λ z. omega arith)) ∙ h) in
+    rw (c .2) (more-ids (λ z. omega arith) (c .0) (c .1))
