@@ -16,7 +16,7 @@ use Rattle.bound.specs.declared.machine.Phase.{Phase}
 use Rattle.bound.specs.declared.machine.Phase.the-variants.{Next, Walk, Followed, Keep, Wipe, Delete, Proved, Refused}
 use Rattle.bound.specs.declared.machine.Machine.{Machine}
 use Rattle.bound.specs.declared.check.Tally.{Tally}
-use Rattle.bound.specs.declared.check.Check.{Check}
+use Rattle.bound.specs.declared.steps.Clause.{Clause}
 use Rattle.bound.specs.Reading.{tokensAt, numbersAt}
 use Rattle.bound.specs.Run.{World}
 use Rattle.bound.specs.Hints.{inHints, AllLive}
@@ -26,99 +26,99 @@ abbrev pub stateOf : ℕ → Tally → Live → State
 stateOf steps t L = record { live = L; highest = t .highest; wordsUsed = t .words; rowsUsed = t .rows; steps = steps }
 
 -- the live clauses
-abbrev pub liveIn : Check → (ℕ → Row) → List ℕ → Live
-liveIn c R ws = liveRows R ws (c .tally .rows)
+abbrev pub liveIn : Tally → (ℕ → Row) → List ℕ → Live
+liveIn tally R ws = liveRows R ws (tally .rows)
 
 -- the stores
-pub record Base (lim : Limits) (c : Check) (R : ℕ → Row) (ws ms : List ℕ) : Type 0 where
-  pub holding : Holding (lim .lastVariable) (lim .rowsLent) R ws (c .tally .rows) (c .tally .words) (c .tally .highest)
+pub record Base (lim : Limits) (tally : Tally) (R : ℕ → Row) (ws ms : List ℕ) : Type 0 where
+  pub holding : Holding (lim .lastVariable) (lim .rowsLent) R ws (tally .rows) (tally .words) (tally .highest)
   pub lent : length ws ≡ lim .wordsLent
   pub marked : lim .lastVariable ≤ length ms
 
 -- a step that was read: those before it are done, what comes after it, and how many steps more can be taken
-pub record InStep (s : List ℕ) (c : Check) : Type 0 where
+pub record InStep (s : List ℕ) (tally : Tally) (clause : Clause) : Type 0 where
   pub done : ℕ
-  pub counts : c .tally .steps ≡ done + 1
-  pub early : c .tally .steps ≤ c .clause .hints
+  pub counts : tally .steps ≡ done + 1
+  pub early : tally .steps ≤ clause .hints
   pub after : Tokens
   pub fuel : ℕ
-  pub enough : length s - c .clause .hints < fuel
+  pub enough : length s - clause .hints < fuel
 
 -- what such a step's outcome comes to
-abbrev pub ending : {s : List ℕ} (lim : Limits) {c : Check} → InStep s c → Outcome → Answer ℕ
+abbrev pub ending : {s : List ℕ} (lim : Limits) {tally : Tally} {clause : Clause} → InStep s tally clause → Outcome → Answer ℕ
 ending lim i x = byOutcome x (i .done + 1) (i .after) (λ st. run (i .fuel) lim st (i .after))
 
 -- a step that adds a clause: the marks of variables that no hint touches are those of its literals
-pub record Adding (s : List ℕ) (lim : Limits) (c : Check) (R : ℕ → Row) (ws ms : List ℕ) : Type 0 where
-  pub base : Base lim c R ws ms
-  pub step : InStep s c
+pub record Adding (s : List ℕ) (lim : Limits) (tally : Tally) (clause : Clause) (R : ℕ → Row) (ws ms : List ℕ) : Type 0 where
+  pub base : Base lim tally R ws ms
+  pub step : InStep s tally clause
   pub literals : List ℕ
   pub hints : List ℕ
   pub middle : Tokens
-  pub literals-at : numbersAt s (c .clause .literals) ≡ upTo0 literals middle
-  pub hints-at : numbersAt s (c .clause .hints) ≡ upTo0 hints (step .after)
-  pub size : length literals ≡ c .clause .size
-  pub fresh : c .tally .highest < c .clause .id
+  pub literals-at : numbersAt s (clause .literals) ≡ upTo0 literals middle
+  pub hints-at : numbersAt s (clause .hints) ≡ upTo0 hints (step .after)
+  pub size : length literals ≡ clause .size
+  pub fresh : tally .highest < clause .id
   pub good : literalsOk (lim .lastVariable) allOpen literals ≡ true
-  pub outside : (v : ℕ) → inHints (liveIn c R ws) hints v ≡ false → marksOf ms v ≡ allFalse allOpen literals v
+  pub outside : (v : ℕ) → inHints (liveIn tally R ws) hints v ≡ false → marksOf ms v ≡ allFalse allOpen literals v
 
 -- the state before such a step
-abbrev pub before : {s : List ℕ} {lim : Limits} {c : Check} {R : ℕ → Row} {ws ms : List ℕ} → Adding s lim c R ws ms → State
-before {c = c} {R = R} {ws = ws} a = stateOf (a .step .done) (c .tally) (liveIn c R ws)
+abbrev pub before : {s : List ℕ} {lim : Limits} {tally : Tally} {clause : Clause} {R : ℕ → Row} {ws ms : List ℕ} → Adding s lim tally clause R ws ms → State
+before {tally = tally} {R = R} {ws = ws} a = stateOf (a .step .done) tally (liveIn tally R ws)
 
 -- by the phase
-module _ (s : List ℕ) (lim : Limits) (A : Answer ℕ) (c : Check) (R : ℕ → Row) (ws ms : List ℕ) where
+module _ (s : List ℕ) (lim : Limits) (A : Answer ℕ) (tally : Tally) (clause : Clause) (R : ℕ → Row) (ws ms : List ℕ) where
   -- a step is to be read
   pub record Reading (at : ℕ) : Type 0 where
-    pub base : Base lim c R ws ms
+    pub base : Base lim tally R ws ms
     pub unmarked : marksOf ms ≡ allOpen
-    pub early : c .tally .steps ≤ at
+    pub early : tally .steps ≤ at
     pub fuel : ℕ
     pub enough : length s - at < fuel
-    pub answer : A ≡ run fuel lim (stateOf (c .tally .steps) (c .tally) (liveIn c R ws)) (tokensAt s at)
+    pub answer : A ≡ run fuel lim (stateOf (tally .steps) tally (liveIn tally R ws)) (tokensAt s at)
 
   -- hints are left: h, and then those at an offset
   pub record Walking (h at : ℕ) : Type 0 where
-    pub adding : Adding s lim c R ws ms
+    pub adding : Adding s lim tally clause R ws ms
     pub left : List ℕ
     pub left-at : numbersAt s at ≡ upTo0 left (adding .step .after)
-    pub among : (v : ℕ) → inHints (liveIn c R ws) (adding .hints) v ≡ false → inHints (liveIn c R ws) (h ∷ left) v ≡ false
-    pub live : AllLive (liveIn c R ws) (h ∷ left) → AllLive (liveIn c R ws) (adding .hints)
-    pub answer : A ≡ ending lim (adding .step) (byShown (hintsShow (liveIn c R ws) (marksOf ms) (h ∷ left)) lim (before adding) (c .clause .id) (adding .literals))
+    pub among : (v : ℕ) → inHints (liveIn tally R ws) (adding .hints) v ≡ false → inHints (liveIn tally R ws) (h ∷ left) v ≡ false
+    pub live : AllLive (liveIn tally R ws) (h ∷ left) → AllLive (liveIn tally R ws) (adding .hints)
+    pub answer : A ≡ ending lim (adding .step) (byShown (hintsShow (liveIn tally R ws) (marksOf ms) (h ∷ left)) lim (before adding) (clause .id) (adding .literals))
 
   -- the clause follows
   pub record Following (at : ℕ) : Type 0 where
-    pub adding : Adding s lim c R ws ms
-    pub live : AllLive (liveIn c R ws) (adding .hints)
+    pub adding : Adding s lim tally clause R ws ms
+    pub live : AllLive (liveIn tally R ws) (adding .hints)
     pub after-at : tokensAt s at ≡ adding .step .after
-    pub answer : A ≡ ending lim (adding .step) (byShown follows lim (before adding) (c .clause .id) (adding .literals))
+    pub answer : A ≡ ending lim (adding .step) (byShown follows lim (before adding) (clause .id) (adding .literals))
 
   -- it fits
   pub record Keeping : Type 0 where
-    pub adding : Adding s lim c R ws ms
-    pub live : AllLive (liveIn c R ws) (adding .hints)
-    pub words-fit : c .tally .words + length (adding .literals) ≤ lim .wordsLent
-    pub rows-fit : c .tally .rows + 1 ≤ lim .rowsLent
-    pub answer : A ≡ run (adding .step .fuel) lim (withClause (before adding) (c .clause .id) (adding .literals)) (adding .step .after)
+    pub adding : Adding s lim tally clause R ws ms
+    pub live : AllLive (liveIn tally R ws) (adding .hints)
+    pub words-fit : tally .words + length (adding .literals) ≤ lim .wordsLent
+    pub rows-fit : tally .rows + 1 ≤ lim .rowsLent
+    pub answer : A ≡ run (adding .step .fuel) lim (withClause (before adding) (clause .id) (adding .literals)) (adding .step .after)
 
   -- the clauses of h, and then of the ids at an offset, are to be wiped
   pub record Wiping (h at : ℕ) : Type 0 where
-    pub base : Base lim c R ws ms
-    pub step : InStep s c
+    pub base : Base lim tally R ws ms
+    pub step : InStep s tally clause
     pub left : List ℕ
     pub left-at : numbersAt s at ≡ upTo0 left (step .after)
-    pub live : AllLive (liveIn c R ws) (h ∷ left)
-    pub outside : (v : ℕ) → inHints (liveIn c R ws) (h ∷ left) v ≡ false → marksOf ms v ≡ 0
-    pub answer : A ≡ run (step .fuel) lim (stateOf (step .done + 1) (c .tally) (liveIn c R ws)) (step .after)
+    pub live : AllLive (liveIn tally R ws) (h ∷ left)
+    pub outside : (v : ℕ) → inHints (liveIn tally R ws) (h ∷ left) v ≡ false → marksOf ms v ≡ 0
+    pub answer : A ≡ run (step .fuel) lim (stateOf (step .done + 1) tally (liveIn tally R ws)) (step .after)
 
   -- h, and then the ids at an offset, are to be deleted
   pub record Deleting (h at : ℕ) : Type 0 where
-    pub base : Base lim c R ws ms
+    pub base : Base lim tally R ws ms
     pub unmarked : marksOf ms ≡ allOpen
-    pub step : InStep s c
+    pub step : InStep s tally clause
     pub left : List ℕ
     pub left-at : numbersAt s at ≡ upTo0 left (step .after)
-    pub answer : A ≡ ending lim step (byDeleted (stateOf (step .done) (c .tally) (liveIn c R ws)) (deleted (liveIn c R ws) (h ∷ left)))
+    pub answer : A ≡ ending lim step (byDeleted (stateOf (step .done) tally (liveIn tally R ws)) (deleted (liveIn tally R ws) (h ∷ left)))
 
   abbrev pub FineIn : Phase → ℕ → ℕ → Type 0
   FineIn Next at want = Reading at
@@ -127,11 +127,11 @@ module _ (s : List ℕ) (lim : Limits) (A : Answer ℕ) (c : Check) (R : ℕ →
   FineIn Keep at want = Keeping
   FineIn Wipe at want = Wiping want at
   FineIn Delete at want = Deleting want at
-  FineIn Proved at want = A ≡ answered (c .tally .steps)
-  FineIn (Refused k) at want = A ≡ refusal k (c .tally .steps)
+  FineIn Proved at want = A ≡ answered (tally .steps)
+  FineIn (Refused k) at want = A ≡ refusal k (tally .steps)
 
   abbrev pub FineAt : Machine → Type 0
   FineAt m = FineIn (m .phase) (m .at) (m .want)
 
 abbrev pub Fine : List ℕ → Limits → Answer ℕ → World → Type 0
-Fine s lim A w = FineAt s lim A (w .check) (w .rows) (w .words) (w .marks) (w .machine)
+Fine s lim A w = FineAt s lim A (w .check .tally) (w .check .clause) (w .rows) (w .words) (w .marks) (w .machine)

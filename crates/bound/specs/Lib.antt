@@ -7,3 +7,5 @@ pub mod Falling
 pub mod Hints
 pub mod Fine
 pub mod LookMeans
+pub mod StepMeans
+pub mod ReadMeans
