@@ -9,3 +9,4 @@ pub mod Fine
 pub mod LookMeans
 pub mod StepMeans
 pub mod ReadMeans
+pub mod Meaning

@@ -118,8 +118,8 @@ module _ (s : List ℕ) (lim : Limits) (A : Answer ℕ) (c : Check) (R : ℕ →
             among = λ v f. or-false (inHint (liveIn (c .tally) R ws h) v) (inHints (liveIn (c .tally) R ws) (id ∷ rest) v) (rw q at (w .among v f)) .1;
             live = λ a. w .live (unit, rw q a);
             answer =
-              answer-by (steps.oneOpen l) d (id ∷ rest) q
-              ∙ ap
+                answer-by (steps.oneOpen l) d (id ∷ rest) q
+                ∙ ap
                 (λ m. ending lim (w .adding .step) (byShown (hintsShow (liveIn (c .tally) R ws) m (id ∷ rest)) lim (before (w .adding)) (c .clause .id) (w .adding .literals)))
                 (sym made-true);
           })
@@ -132,6 +132,7 @@ module _ (s : List ℕ) (lim : Limits) (A : Answer ℕ) (c : Check) (R : ℕ →
       where
         there : Ahead s next id (w .adding .step .after) (w .left)
         there = ids-ahead s at id next (w .left) (w .adding .step .after) n (w .left-at)
+
         go : (x : Standing) → standing (marksOf ms) steps.falsified cl ≡ x → FineAt s lim A (c .tally) (c .clause) R ws (walkedMarks x ms) (walked x id next)
         go steps.falsified d = all-false id next d (w .left) refl there
         go (steps.oneOpen l) d = one-open l d good id next (w .left) refl there
@@ -159,6 +160,7 @@ module _ (s : List ℕ) (lim : Limits) (A : Answer ℕ) (c : Check) (R : ℕ →
       where
         k : at < next
         k = number-got s at n .ahead
+
         go : (left : List ℕ) → w .left ≡ left → Ahead s next id (w .step .after) left → FineAt s lim A (c .tally) (c .clause) R ws ms′ (onward Wipe Next id next)
         go left q (last-id z t) =
             rw (onward-end Wipe Next id next z)

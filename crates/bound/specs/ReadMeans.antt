@@ -144,6 +144,7 @@ module _ (s : List ℕ) (lim : Limits) (A : Answer ℕ) (c : Check) (R : ℕ →
                 live = λ x. rw q x;
                 answer = answer-adds (id ∷ rest) q;
               })
+
           go : (x : Parsed ℕ) → number s (k .hints) ≡ x → FineAt s lim A (counted (c .tally)) k R ws ms′ (firstId Walk (Refused 16) (k .hints) x)
           go (got id next) e = by id next (a .hints) refl (ids-ahead s (k .hints) id next (a .hints) (tokensAt s (a .next)) e (a .hints-stand .listed))
           go (refused j o) e = let x = list-cut s (k .hints) j o e in let y = a .hints-stand .listed in impossible (cc)
@@ -187,6 +188,7 @@ module _ (s : List ℕ) (lim : Limits) (A : Answer ℕ) (c : Check) (R : ℕ →
                 left-at = t;
                 answer = answer-deletes (id ∷ rest) q;
               })
+
           go : (x : Parsed ℕ) → number s from ≡ x → FineAt s lim A (counted (c .tally)) ids-clause R ws ms (firstId Delete Next from x)
           go (got id next) e = by id next (number-got s from e .ahead) (d .ids) refl (ids-ahead s from id next (d .ids) (tokensAt s (d .next)) e (d .stand .listed))
           go (refused j o) e = let x = list-cut s from j o e in let y = d .stand .listed in impossible (cc)
@@ -200,6 +202,7 @@ step-read s lim A c R ws ms at r ms′ w short long (takes x h rs q) = rw q (by 
   where
     clean : Open (lim .lastVariable) ms
     clean = (w .base .marked, w .unmarked)
+
     by : (x : Read) → ReadsStep (readStep (tokensAt s at)) s at (c .tally .highest) (lim .lastVariable) ms ms′ x
         → FineAt s lim A (stepped c x .tally) (stepped c x .clause) R ws ms′ (entered s (stepped c x))
     by x (adds k a i f) = step-adds s lim A c R ws ms at w h short k a ms′ long (f clean)

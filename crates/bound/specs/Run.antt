@@ -1,7 +1,7 @@
 -- The run of a check: what the machine and the stores become, turn by turn. It says nothing of what a turn means.
 use mathlib.Core.Path.{_≡_}
 use mathlib.Core.List.{List}
-use Prim.Native.Nat.{ℕ, _<_, _≤_, _^_}
+use Prim.Native.Nat.{ℕ, _≤_}
 use lib.ListN.{length}
 use Rattle.scope.specs.declared.CheckAnswer.{CheckAnswer}
 use Rattle.store.specs.declared.directory.Row.{Row}
@@ -12,7 +12,7 @@ use Rattle.bound.specs.declared.machine.Phase.the-variants.{Next, Walk, 
 use Rattle.bound.specs.declared.machine.Machine.{Machine}
 use Rattle.bound.specs.declared.check.Check.{Check}
 use Rattle.bound.specs.Machine.{turnOf, stopped, Advances}
-use Rattle.bound.specs.Check.{begun, judged, rowOf, keptAs, Copies, entered, TakesStep}
+use Rattle.bound.specs.Check.{begun, judged, rowOf, largest, keptAs, Copies, entered, TakesStep}
 
 -- the answer of a check that has ended, after so many steps
 abbrev pub answerOf : ℕ → Phase → CheckAnswer
@@ -50,7 +50,7 @@ pub data Turn (s : List ℕ) (last cap : ℕ) (w v : World) : Type 0 where
 
 pub data Ran (s : List ℕ) (last cap : ℕ) (w : World) : World → Type 0 where
   none : Ran s last cap w w
-  more : (v u : World) → Ran s last cap w v → Turn s last cap v u → Ran s last cap w u
+  more : (v u : World) → Ran s last cap w v → Turn s last cap v u → length (u .marks) ≡ length (v .marks) → Ran s last cap w u
 
 abbrev pub world : Check → Machine → (ℕ → Row) → List ℕ → List ℕ → World
 world c m R ws ms = record { check = c; machine = m; rows = R; words = ws; marks = ms }
@@ -59,10 +59,12 @@ world c m R ws ms = record { check = c; machine = m; rows = R; words = ws; marks
 abbrev pub ready : ℕ → ℕ → (ℕ → Row) → List ℕ → List ℕ → World
 ready n used R ws ms = world (begun n used) (stopped Next 0) R ws ms
 
--- a check that was driven to its end
+-- a check that was driven to its end; no store is longer than a word of the machine can say
 pub record Driven (s : List ℕ) (last cap n used : ℕ) (R : ℕ → Row) (ws ms : List ℕ) (r : CheckAnswer) : Type 0 where
   pub end : World
   pub ran : Ran s last cap (ready n used R ws ms) end
   pub over : 5 ≤ turnOf (end .machine .phase)
   pub answer : r ≡ answerOf (end .check .tally .steps) (end .machine .phase)
-  pub short : length s < 2 ^ 64
+  pub few-bytes : length s ≤ largest
+  pub few-words : length ws ≤ largest
+  pub few-rows : cap ≤ largest

@@ -85,6 +85,7 @@ module _ (s : List ℕ) (lim : Limits) (A : Answer ℕ) (c : Check) (R : ℕ →
       where
         k : at < next
         k = number-got s at n .ahead
+
         go : (left : List ℕ) → w .left ≡ left → Ahead s next id (w .step .after) left → FineAt s lim A (c .tally) (c .clause) R′ ws ms (onward Delete Next id next)
         go left q (last-id z t) =
             rw (onward-end Delete Next id next z)
@@ -105,8 +106,8 @@ module _ (s : List ℕ) (lim : Limits) (A : Answer ℕ) (c : Check) (R : ℕ →
               left = rest;
               left-at = t;
               answer =
-                w .answer
-                ∙ rw (e, q, now-live) (ap (ending lim (w .step)) (not-by-live (w .step .done) (c .tally) (liveIn (c .tally) R ws) (put (liveIn (c .tally) R ws) h none) (deleted (put (liveIn (c .tally) R ws) h none) (id ∷ rest))));
+                  w .answer
+                  ∙ rw (e, q, now-live) (ap (ending lim (w .step)) (not-by-live (w .step .done) (c .tally) (liveIn (c .tally) R ws) (put (liveIn (c .tally) R ws) h none) (deleted (put (liveIn (c .tally) R ws) h none) (id ∷ rest))));
             })
 
   -- a clause is kept
@@ -155,9 +156,9 @@ module _ (s : List ℕ) (lim : Limits) (A : Answer ℕ) (c : Check) (R : ℕ →
         let L′ = put (liveIn (c .tally) R ws) (c .clause .id) (some (w .adding .literals)) in
         let p = or-false (inHint (L′ (c .clause .id)) v) (inHints L′ (w .adding .hints) v) f in
         let a : inClause (w .adding .literals) v ≡ false =
-            rw (put-same (liveIn (c .tally) R ws) (c .clause .id) (some (w .adding .literals))) at (p .0) in
+        rw (put-same (liveIn (c .tally) R ws) (c .clause .id) (some (w .adding .literals))) at (p .0) in
         let b : inHints (liveIn (c .tally) R ws) (w .adding .hints) v ≡ false =
-            sym (hints-same (liveIn (c .tally) R ws) L′ hint-kept (w .adding .hints) v (w .live)) ∙ p .1 in
+        sym (hints-same (liveIn (c .tally) R ws) L′ hint-kept (w .adding .hints) v (w .live)) ∙ p .1 in
         w .adding .outside v b ∙ outside-false (w .adding .literals) allOpen v a
 
     -- the counts do not run over
@@ -172,20 +173,20 @@ module _ (s : List ℕ) (lim : Limits) (A : Answer ℕ) (c : Check) (R : ℕ →
       clause-kept =
           record {
             base =
-              record {
-                holding = rw (kept-count, kept-used) kept-holding;
-                lent = length-sets ws (c .tally .words) (w .adding .literals) ∙ w .adding .base .lent;
-                marked = w .adding .base .marked;
-              };
+                record {
+                  holding = rw (kept-count, kept-used) kept-holding;
+                  lent = length-sets ws (c .tally .words) (w .adding .literals) ∙ w .adding .base .lent;
+                  marked = w .adding .base .marked;
+                };
             step =
-              record {
-                done = w .adding .step .done;
-                counts = w .adding .step .counts;
-                early = w .adding .step .early;
-                after = w .adding .step .after;
-                fuel = w .adding .step .fuel;
-                enough = w .adding .step .enough;
-              };
+                record {
+                  done = w .adding .step .done;
+                  counts = w .adding .step .counts;
+                  early = w .adding .step .early;
+                  after = w .adding .step .after;
+                  fuel = w .adding .step .fuel;
+                  enough = w .adding .step .enough;
+                };
             left = w .adding .hints;
             left-at = w .adding .hints-at;
             live = rw (kept-count, kept-live) (rw (put-same (liveIn (c .tally) R ws) (c .clause .id) (some (w .adding .literals))) tt, live-same (liveIn (c .tally) R ws) _ hint-kept (w .adding .hints) (w .live));
@@ -229,8 +230,8 @@ module _ (s : List ℕ) (lim : Limits) (A : Answer ℕ) (c : Check) (R : ℕ →
       where
         go : (cl : List ℕ) → w .adding .literals ≡ cl
             → Judged
-              (cond (eqb (c .clause .size) 0) (cond (ltb at (length s)) (Refused 18) Proved)
-              (cond (leb (c .tally .words + c .clause .size) (length ws) && leb (c .tally .rows + 1) (lim .rowsLent)) Keep (Refused 17)))
+            (cond (eqb (c .clause .size) 0) (cond (ltb at (length s)) (Refused 18) Proved)
+            (cond (leb (c .tally .words + c .clause .size) (length ws) && leb (c .tally .rows + 1) (lim .rowsLent)) Keep (Refused 17)))
         go [] q =
             let z : c .clause .size ≡ 0 = sym (w .adding .size) ∙ ap length q in
             rw (eq-eqb (c .clause .size) 0 z) (empty-judged q (ltb at (length s)) refl)

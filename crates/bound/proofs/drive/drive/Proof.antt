@@ -93,7 +93,7 @@ loop-less c = falls (c .before .before .before .before .before .before .before .
 loop-again : tie.Need-loop-again Inv-loop μ-loop
 loop-again c =
     let i = c .before .before .before .before .before .before .before .before .before .before .before .loop .inv in
-    (more _ _ (i .0) (looked c), falls (c .before .before .before .before .before .before .before .before .before .before .before) _ (looked c) .0, i .2, i .3, c .before .before .advance .kept .1 .1 .1 .1 .0 ∙ i .4)
+    (more _ _ (i .0) (looked c) (c .before .before .advance .kept .1 .1 .1 .1 .0), falls (c .before .before .before .before .before .before .before .before .before .before .before) _ (looked c) .0, i .2, i .3, c .before .before .advance .kept .1 .1 .1 .1 .0 ∙ i .4)
 
 find-requires-2 : tie.Need-find-requires-2 Inv-loop μ-loop
 find-requires-2 c κs = search needs
@@ -110,7 +110,7 @@ loop-less-2 c = falls (c .before .before .before .before .before .before .before
 loop-again-2 : tie.Need-loop-again-2 Inv-loop μ-loop
 loop-again-2 c =
     let i = c .before .before .before .before .before .before .before .before .before .before .before .before .before .before .before .before .loop .inv in
-    (more _ _ (i .0) (deleted c), falls (c .before .before .before .before .before .before .before .before .before .before .before .before .before .before .before .before) _ (deleted c) .0, c .before .before .before .before .before .before .before .mark-dead .kept .0 ∙ i .2, i .3, c .before .before .advance2 .kept .1 .1 .1 .1 .0 ∙ i .4)
+    (more _ _ (i .0) (deleted c) (c .before .before .advance2 .kept .1 .1 .1 .1 .0), falls (c .before .before .before .before .before .before .before .before .before .before .before .before .before .before .before .before) _ (deleted c) .0, c .before .before .before .before .before .before .before .mark-dead .kept .0 ∙ i .2, i .3, c .before .before .advance2 .kept .1 .1 .1 .1 .0 ∙ i .4)
 
 row-of-requires : tie.Need-row-of-requires Inv-loop μ-loop
 row-of-requires c κs = search needs
@@ -130,7 +130,7 @@ loop-less-3 c = falls (c .before .before .before .before .before .before .before
 loop-again-3 : tie.Need-loop-again-3 Inv-loop μ-loop
 loop-again-3 c =
     let i = c .before .before .before .before .before .before .before .before .before .before .before .before .before .before .before .loop .inv in
-    (more _ _ (i .0) (kept c), falls (c .before .before .before .before .before .before .before .before .before .before .before .before .before .before .before) _ (kept c) .0, c .before .before .before .before .before .before .before .append .kept .0 ∙ i .2, c .before .before .before .keep .kept .1 .1 .0 ∙ i .3, i .4)
+    (more _ _ (i .0) (kept c) refl, falls (c .before .before .before .before .before .before .before .before .before .before .before .before .before .before .before) _ (kept c) .0, c .before .before .before .before .before .before .before .append .kept .0 ∙ i .2, c .before .before .before .keep .kept .1 .1 .0 ∙ i .3, i .4)
 
 judge-requires : tie.Need-judge-requires Inv-loop μ-loop
 judge-requires c κs = search needs
@@ -142,7 +142,7 @@ loop-less-4 : tie.Need-loop-less-4 Inv-loop μ-loop
 loop-less-4 c = falls (c .before .before .before .before .before .before .before .before) _ (judged c) .1
 
 loop-again-4 : tie.Need-loop-again-4 Inv-loop μ-loop
-loop-again-4 c = let i = c .before .before .before .before .before .before .before .before .loop .inv in (more _ _ (i .0) (judged c), falls (c .before .before .before .before .before .before .before .before) _ (judged c) .0, i .2, i .3, i .4)
+loop-again-4 c = let i = c .before .before .before .before .before .before .before .before .loop .inv in (more _ _ (i .0) (judged c) refl, falls (c .before .before .before .before .before .before .before .before) _ (judged c) .0, i .2, i .3, i .4)
 
 next-step-requires : tie.Need-next-step-requires Inv-loop μ-loop
 next-step-requires c κs = search needs
@@ -156,7 +156,7 @@ loop-less-5 c = falls (c .before .before .before .before .before .before .before
 loop-again-5 : tie.Need-loop-again-5 Inv-loop μ-loop
 loop-again-5 c =
     let i = c .before .before .before .before .before .before .before .before .before .before .before .before .loop .inv in
-    (more _ _ (i .0) (stepped c), falls (c .before .before .before .before .before .before .before .before .before .before .before .before) _ (stepped c) .0, i .2, i .3, c .before .before .before .next-step .kept .1 .1 .1 .1 .0 ∙ i .4)
+    (more _ _ (i .0) (stepped c) (c .before .before .before .next-step .kept .1 .1 .1 .1 .0), falls (c .before .before .before .before .before .before .before .before .before .before .before .before) _ (stepped c) .0, i .2, i .3, c .before .before .before .next-step .kept .1 .1 .1 .1 .0 ∙ i .4)
 
 answer-requires : tie.Need-answer-requires Inv-loop μ-loop
 answer-requires c κs = search needs
@@ -177,7 +177,9 @@ returns c =
       ran = c .before .before .before .before .before .before .before .before .loop .inv .0;
       over = ended c;
       answer = c .answer .ensures;
-      short = c .before .before .before .before .before .before .before .before .before .before .before .before .before .before .before .good .0 .0;
+      few-bytes = omega (arith, c .before .before .before .before .before .before .before .before .before .before .before .before .before .before .before .good .0 .0);
+      few-words = omega (arith, c .before .before .before .before .before .before .before .before .before .before .before .before .before .before .before .good .1 .0 .0);
+      few-rows = omega (arith, c .before .before .before .before .before .before .before .before .before .before .before .before .before .before .before .good .1 .1 .0 .0);
     }
 
 pub drive-spec : {M : Type 1} → statement M
