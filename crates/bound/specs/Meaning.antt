@@ -19,7 +19,9 @@ use Rattle.store.specs.declared.directory.Probe.{Probe}
 use Rattle.store.specs.Marks.{marksOf}
 use Rattle.store.specs.Rows.{noRow, dying, Found, hit, miss, Finds, Dies}
 use Rattle.store.specs.Live.{held, rowClause, liveRows, live-found}
-use Rattle.store.specs.Holding.{Holding, found-good}
+use Rattle.store.specs.Holding.{Holding, Good, found-good}
+use Rattle.store.specs.Marked.{BuiltFor}
+use Rattle.store.specs.Built.{Each, built-holding, built-live}
 use Rattle.theory.specs.Cases.{impossible}
 use Rattle.bound.specs.declared.machine.Phase.{Phase}
 use Rattle.bound.specs.declared.machine.Phase.the-variants.{Next, Walk, Followed, Keep, Wipe, Delete, Proved, Refused}
@@ -186,6 +188,19 @@ pub record Stands (f : List (List ℕ)) (last cap n used : ℕ) (R : ℕ → Row
   pub size : used ≡ words f
   pub marked : last ≤ length ms
   pub unmarked : marksOf ms ≡ allOpen
+
+-- a formula of good literals whose directory was built, where the variables are open
+pub built-stands : (f : List (List ℕ)) (rest : List ℕ) (last cap n : ℕ) (R : ℕ → Row) (ws ms : List ℕ) → BuiltFor f rest ws R n → Each (Good last) f
+    → length f ≤ cap → last ≤ length ms → marksOf ms ≡ allOpen → Stands f last cap n (words f) R ws ms
+built-stands f rest last cap n R ws ms b good fits marked unmarked =
+    record {
+      holding = rw (b .count) (built-holding f rest ws R n b last cap good fits);
+      live = rw (b .count) (built-live f rest ws R n b);
+      count = b .count;
+      size = refl;
+      marked = marked;
+      unmarked = unmarked;
+    }
 
 abbrev pub limits : ℕ → ℕ → ℕ → Limits
 limits last words rows = record { lastVariable = last; wordsLent = words; rowsLent = rows }

@@ -191,7 +191,7 @@ module _ (s : List ℕ) (lim : Limits) (A : Answer ℕ) (c : Check) (R : ℕ →
             left-at = w .adding .hints-at;
             live = rw (kept-count, kept-live) (rw (put-same (liveIn (c .tally) R ws) (c .clause .id) (some (w .adding .literals))) tt, live-same (liveIn (c .tally) R ws) _ hint-kept (w .adding .hints) (w .live));
             outside = rw (kept-count, kept-live) kept-outside;
-            answer = w .answer ∙ rw (kept-count, kept-used, kept-live, add-one);
+            answer = w .answer ∙ rw (kept-count, kept-used, kept-live, add-one (c .tally .rows));
           }
 
   -- a clause that follows is judged

@@ -75,7 +75,7 @@ module _ (id first i : ℕ) (ws : List ℕ) (end : ℕ) (h : i < end) (k : end �
       → rowsIn id first i (slice i end ws)
       ≡ record { id = id; first = first; len = i + 1 - first; live = 1 } ∷ rowsIn (id + 1) (i + 1) (i + 1) (slice (i + 1) end ws)
   unfolding rowsIn
-  rows-marked m = rw (slice-cons i end ws 0 h k, le-leb 2147483648 (getD ws i 0) m, add-one, add-one)
+  rows-marked m = rw (slice-cons i end ws 0 h k, le-leb 2147483648 (getD ws i 0) m, add-one i, add-one id)
 
   pub rows-unmarked : getD ws i 0 < 2147483648 → rowsIn id first i (slice i end ws) ≡ rowsIn id first (i + 1) (slice (i + 1) end ws)
   unfolding rowsIn

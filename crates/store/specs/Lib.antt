@@ -5,3 +5,4 @@ pub mod Live
 pub mod Holding
 pub mod Directory
 pub mod Marked
+pub mod Built

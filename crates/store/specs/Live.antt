@@ -29,7 +29,7 @@ fewer : {R : ℕ → Row} {n : ℕ} → Rising R (suc n) → Rising R n
 fewer up = record { up = λ i j l h. up .up i j l (omega arith) }
 
 -- the clause that a search finds
-row-found : (R : ℕ → Row) (ws : List ℕ) (n r id : ℕ) → Rising R n → r < n → R r .id ≡ id
+pub row-found : (R : ℕ → Row) (ws : List ℕ) (n r id : ℕ) → Rising R n → r < n → R r .id ≡ id
     → liveRows R ws n id ≡ held (R r .live) (rowClause (R r) ws)
 unfolding liveRows
 row-found R ws zero r id up h e = absurd (omega arith)

@@ -4,11 +4,11 @@ use mathlib.Core.Bool.{Bool, true, false, cond}
 use mathlib.Core.List.{List}
 use Prim.Native.Nat.{ℕ, zero, suc, _-_, _≤_, _<_}
 use native.Mathlib.Omega.{arith}
-use lib.ListN.{length, getD, set, length-set, List·getD-eq-default}
+use lib.ListN.{length, getD, set, length-set, replicate, List·getD-eq-default}
 use lib.Dec.{eqb, ltb}
 use lib.Seq.{set-out, getD-set-same, getD-set-other}
 use borrow.Author.Tests.{eqb-true, eqb-false, ne-eqb, ltb-true, ltb-false}
-use Rattle.scope.specs.Steps.{Marks, put}
+use Rattle.scope.specs.Steps.{Marks, allOpen, put}
 
 cond-same : (b : Bool) (x : ℕ) → cond b x x ≡ x
 cond-same true x = refl
@@ -73,3 +73,16 @@ mark-opened ms (suc v) (suc u) = by (eqb (suc v) (suc u)) refl
 pub put-length : (ms : List ℕ) (v x : ℕ) → length (putMark ms v x) ≡ length ms
 put-length ms zero x = refl
 put-length ms (suc v) x = length-set ms v x
+
+-- cleared bytes leave every variable open
+pub marks-cleared : (n : ℕ) → marksOf (replicate n 0) ≡ allOpen
+marks-cleared n = fun-ext go
+  where
+    zeros : (n v : ℕ) → _≡_ {A = ℕ} (getD (replicate n 0) v 0) 0
+    zeros zero v = refl
+    zeros (suc n) zero = refl
+    zeros (suc n) (suc v) = zeros n v
+
+    go : (v : ℕ) → marksOf (replicate n 0) v ≡ 0
+    go zero = refl
+    go (suc v) = zeros n v

@@ -85,7 +85,7 @@ loop-again c =
     let a = c .before .before .before .before .before .before .before .before .before .before .before .before .before .args in
     let l = c .before .before .before .before .before .before .before .before .before .before .loop in
     let k = number-got (a .proof .now) (l .i) (read (c .before .before .before .before .before .before)) in
-    let t : _ ≡ true = not-false _ (c .if2 .left) in (
+    let t : c .before .before .before .deny .result ≡ true = not-false _ (c .if2 .left) in (
       c .before .before .before .deny .kept .0 ∙ l .inv .0,
       omega (arith, k .ahead, l .inv .1),
       λ ms r h.
