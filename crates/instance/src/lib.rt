@@ -1,0 +1,4 @@
+// The instance file: its tables filled, its constraints checked one by one, refusals 1 to 6 in file order.
+mod check;
+mod length;
+mod walk;
