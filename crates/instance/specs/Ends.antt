@@ -93,3 +93,8 @@ module _ {A : Type 0} (s : List ℕ) (n : ℕ) (f g : ℕ → Parsed A) (at : �
   pub whole-end : {v end : ℕ} → x ≡ Value v end → length s ≤ end → got 0 end ≡ ends (wholeAt s n g at)
   unfolding wholeAt
   whole-end {v} {end} h l = rw (ends-got (repeat n g at) (agree ∙ ap said h), le-leb (length s) end l)
+
+-- readings that agree reach the end alike
+pub whole-same : {A : Type 0} (s : List ℕ) (n : ℕ) (f g : ℕ → Parsed A) (at : ℕ) → ((at : ℕ) → f at ≡ g at) → wholeAt s n f at ≡ wholeAt s n g at
+unfolding wholeAt
+whole-same s n f g at h = rw (repeat-same n f g at h)

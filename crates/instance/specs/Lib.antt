@@ -3,3 +3,8 @@ pub mod Inner
 pub mod Ready
 pub mod Ends
 pub mod Answers
+pub mod Stores
+pub mod File
+pub mod Start
+pub mod Ladder
+pub mod Checked

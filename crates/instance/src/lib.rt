@@ -1,4 +1,8 @@
 // The instance file: its tables filled, its constraints checked one by one, refusals 1 to 6 in file order.
 mod check;
 mod length;
+mod reader;
 mod walk;
+
+pub use reader::File;
+pub use reader::read;
