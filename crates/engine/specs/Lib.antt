@@ -1,2 +1,4 @@
-pub mod Outcome
-pub mod Calls
+pub mod Call
+pub mod Operations
+pub mod Within
+pub mod Numbers

@@ -1,14 +1,14 @@
 // The engine's operations as C functions, which include/timetable.h declares.
 //
 // Each answers 0 if it is accepted, and else the number of the first refusal in document 01's order. Its contract is one
-// equation: what the call leaves (the number returned, *value and every other output) is what specs/Calls.antt says of the
+// equation: what the call leaves (the number returned, *value and every other output) is what specs/Operations.antt says of the
 // operation's answer by the definitions. A slice can change only through a `&mut`, so inputs keep every byte. None asks
 // anything of its caller but good pointers.
 use instance::read_instance;
 use scope::ReadAnswer;
 use scope::Refusal;
 ghost use mathlib.Core.Path.{_≡_};
-ghost use Rattle.engine.specs.Calls.{readCall};
+ghost use Rattle.engine.specs.Operations.{readCall};
 
 // A refusal: its value goes to *value, its number is returned.
 fn refuse(f: Refusal, value: &mut u64) -> u32

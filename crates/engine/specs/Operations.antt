@@ -3,7 +3,7 @@ use mathlib.Core.List.{List}
 use Prim.Native.Nat.{ℕ}
 use Rattle.scope.specs.Operations.{readOf}
 use Rattle.scope.specs.declared.InstanceSize.{InstanceSize}
-use Rattle.engine.specs.Outcome.{Outcome, outcome}
+use Rattle.engine.specs.Call.{Call, called}
 
 -- times, events, resources, groups and constraints
 abbrev pub Counts : Type 0
@@ -12,6 +12,6 @@ Counts = ℕ × ℕ × ℕ × ℕ × ℕ
 abbrev pub countsOf : InstanceSize → Counts
 countsOf z = (z .times, z .events, z .resources, z .groups, z .constraints)
 
--- reading: the counts are written; *value is kept
-abbrev pub readCall : List ℕ → ℕ → Counts → Outcome Counts
-readCall file value counts = outcome (readOf file) (λ z. (value, countsOf z)) counts
+-- reading: the counts are written, *value is kept
+abbrev pub readCall : List ℕ → ℕ → Counts → Call Counts
+readCall file value counts = called (readOf file) (λ z. (value, countsOf z)) counts
