@@ -10,7 +10,7 @@ use Rattle.scope.specs.Parsed.{got, refused}
 use Rattle.scope.specs.Number.{number}
 use Rattle.scope.specs.Steps as steps
 use Rattle.scope.specs.Steps.{Tokens, upTo0}
-use Rattle.theory.specs.Cases.{impossible}
+use Rattle.laws.specs.Booleans.{impossible}
 use Rattle.bound.specs.Reading.{numbersAt}
 use Rattle.bound.specs.Listing.{list-cut, list-more, list-end, consed}
 use Rattle.bound.specs.Check.{Copies}

@@ -12,7 +12,7 @@ use Rattle.scope.specs.Number.{number}
 use Rattle.scope.specs.Steps as steps
 use Rattle.scope.specs.Steps.{Tokens, upTo0, before, Marks, makeFalse, allFalse, literalsOk}
 use Rattle.store.specs.Marks.{marksOf, putMark, mark-put, put-length}
-use Rattle.theory.specs.Cases.{impossible, and-true}
+use Rattle.laws.specs.Booleans.{impossible, and-true}
 use Rattle.theory.specs.Tokens.{tokens-got}
 use Rattle.bound.specs.declared.steps.Numbers.{Numbers}
 use Rattle.bound.specs.declared.steps.Numbers.the-variants.{End, Cut}

@@ -12,7 +12,7 @@ use Rattle.scope.specs.Number.{number}
 use Rattle.scope.specs.Steps as steps
 use Rattle.scope.specs.Steps.{Tokens, stop, bad, num, upTo0, numbers, Step, add, delete, StepRead, read, misread, readHints, readLiterals, readAdd, readDelete, readStep, allOpen, allFalse, literalsOk, wellFormed}
 use Rattle.store.specs.Marks.{marksOf}
-use Rattle.theory.specs.Cases.{impossible}
+use Rattle.laws.specs.Booleans.{impossible}
 use Rattle.theory.specs.Tokens.{TokenAt, tokens-got, tokens-bad, tokens-stop}
 use Rattle.bound.specs.declared.steps.Clause.{Clause}
 use Rattle.bound.specs.declared.steps.Numbers.the-variants.{End, Cut}

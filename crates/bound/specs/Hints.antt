@@ -10,7 +10,7 @@ use borrow.Author.Tests.{leb-true, eq-eqb, ne-eqb, eqb-true, eqb-false}
 use Rattle.scope.specs.Steps.{Marks, put, makeFalse, makeTrue, allFalse, literalsOk, Standing, falsified, oneOpen, standing, Live}
 use Rattle.store.specs.Clauses.{inClause}
 use Rattle.store.specs.Holding.{All, Good, open-in}
-use Rattle.theory.specs.Cases.{impossible, and-true, or-false}
+use Rattle.laws.specs.Booleans.{impossible, and-true, or-false}
 
 -- a variable stands in the clause of an id, in those of some ids
 abbrev pub inHint : Option (List ℕ) → ℕ → Bool

@@ -14,7 +14,7 @@ use Rattle.scope.specs.Steps.{Tokens, stop, bad, num, tokens, upTo0, numbers, b
 use Rattle.number.specs.Answers.{said}
 use Rattle.number.specs.declared.Number.{Number}
 use Rattle.number.specs.declared.Number.the-variants.{Value, Refused}
-use Rattle.theory.specs.Cases.{impossible}
+use Rattle.laws.specs.Booleans.{impossible}
 use Rattle.theory.specs.Tokens.{TokenAt, tokens-got, tokens-bad, tokens-stop}
 use Rattle.bound.specs.Reading.{tokensAt, numbersAt, Listed}
 

@@ -19,7 +19,7 @@ use Rattle.store.specs.Marks.{marksOf, putMark, mark-put, put-length}
 use Rattle.store.specs.Clauses.{inClause, Wiped}
 use Rattle.store.specs.Live.{rowClause}
 use Rattle.store.specs.Holding.{All, Good, open-in}
-use Rattle.theory.specs.Cases.{impossible, or-false}
+use Rattle.laws.specs.Booleans.{impossible, or-false}
 use Rattle.bound.specs.declared.machine.Phase.the-variants.{Next, Walk, Followed, Keep, Wipe, Delete, Proved, Refused}
 use Rattle.bound.specs.declared.check.Check.{Check}
 use Rattle.bound.specs.Reading.{tokensAt, numbersAt}

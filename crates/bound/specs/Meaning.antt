@@ -22,7 +22,7 @@ use Rattle.store.specs.Live.{held, rowClause, liveRows, live-found}
 use Rattle.store.specs.Holding.{Holding, Good, found-good}
 use Rattle.store.specs.Marked.{BuiltFor}
 use Rattle.store.specs.Built.{Each, built-holding, built-live}
-use Rattle.theory.specs.Cases.{impossible}
+use Rattle.laws.specs.Booleans.{impossible}
 use Rattle.bound.specs.declared.machine.Phase.{Phase}
 use Rattle.bound.specs.declared.machine.Phase.the-variants.{Next, Walk, Followed, Keep, Wipe, Delete, Proved, Refused}
 use Rattle.bound.specs.declared.machine.Machine.{Machine}

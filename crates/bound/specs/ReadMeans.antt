@@ -16,7 +16,7 @@ use Rattle.scope.specs.PlainRun.{State, Limits, Outcome, perform, byShown, byDe
 use Rattle.number.specs.Laws.{number-got}
 use Rattle.store.specs.declared.directory.Row.{Row}
 use Rattle.store.specs.Marks.{marksOf}
-use Rattle.theory.specs.Cases.{impossible, and-true}
+use Rattle.laws.specs.Booleans.{impossible, and-true}
 use Rattle.theory.specs.Tokens.{tokens-stop}
 use Rattle.bound.specs.declared.steps.Clause.{Clause}
 use Rattle.bound.specs.declared.steps.Read.{Read}

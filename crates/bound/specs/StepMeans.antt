@@ -24,7 +24,7 @@ use Rattle.store.specs.Clauses.{inClause}
 use Rattle.store.specs.Rows.{noRow, dying, Found, hit, miss}
 use Rattle.store.specs.Live.{held, rowClause, liveRows, live-dead, put-same, put-other}
 use Rattle.store.specs.Holding.{All, Good, Holding, holding-kept, live-kept, id-free, holding-dead}
-use Rattle.theory.specs.Cases.{impossible, and-true, or-false}
+use Rattle.laws.specs.Booleans.{impossible, and-true, or-false}
 use Rattle.theory.specs.Tokens.{tokens-stop}
 use Rattle.bound.specs.declared.machine.Phase.{Phase}
 use Rattle.bound.specs.declared.machine.Phase.the-variants.{Next, Walk, Followed, Keep, Wipe, Delete, Proved, Refused}
