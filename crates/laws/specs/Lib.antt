@@ -1,0 +1,3 @@
+pub mod Taut
+pub mod Booleans
+pub mod Lists
