@@ -1,0 +1,34 @@
+-- `number::limited` meets its contract: a number, then the tests of `limited`, one step of the ladder each.
+use borrow.Author.Needs.{needs}
+use Rattle.scope.specs.Number.{limited}
+use Rattle.number.specs.Ladder.{ladder}
+use Rattle.number.proofs.limited.Statement.{statement}
+use Rattle.number.proofs.limited.Tie as tie
+
+number-at-requires : tie.Need-number-at-requires
+number-at-requires c κs = search needs
+
+enum-known-n : tie.Need-enum-known-n
+enum-known-n c = search needs
+
+enum-told : tie.Need-enum-told
+enum-told c = search needs
+
+returns : tie.Need-returns
+unfolding limited
+returns c = search ladder depth 12
+
+returns-2 : tie.Need-returns-2
+unfolding limited
+returns-2 c = search ladder depth 12
+
+returns-3 : tie.Need-returns-3
+unfolding limited
+returns-3 c = search ladder depth 12
+
+returns-4 : tie.Need-returns-4
+unfolding limited
+returns-4 c = search ladder depth 12
+
+pub limited-spec : {M : Type 1} → statement M
+limited-spec = tie.close (tie.spec number-at-requires enum-known-n enum-told returns returns-2 returns-3 returns-4)
