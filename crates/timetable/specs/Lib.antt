@@ -1,3 +1,5 @@
 pub mod Answers
 pub mod Bits
 pub mod Above
+pub mod Right
+pub mod Refusals

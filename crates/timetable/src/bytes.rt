@@ -6,13 +6,23 @@ ghost use lib.ListN.{length, getD};
 ghost use lib.Dec.{eqb};
 ghost use Rattle.scope.specs.Kinds.{upTo};
 ghost use Rattle.scope.specs.Score.{trues, firstAbove};
-ghost use Rattle.timetable.specs.Answers.{foundAt};
+ghost use Rattle.timetable.specs.Answers.{foundAt, placeOf};
 ghost use Rattle.timetable.specs.Bits.{marks};
 
 // The first of some things that was looked for, if there is one.
 pub enum Found {
     At(u64),
     Nothing,
+}
+
+// What was found; 0 for nothing.
+pub fn place(f: Found) -> u64
+    ensures { λ r. ⌜ r ≡ placeOf f ⌝ }
+{
+    match f {
+        Found::At(k) => k,
+        Found::Nothing => 0,
+    }
 }
 
 fn larger(a: u8, b: u8) -> u8
