@@ -3,3 +3,4 @@ pub mod Bits
 pub mod Above
 pub mod Right
 pub mod Refusals
+pub mod Uses
