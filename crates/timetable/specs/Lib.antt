@@ -3,4 +3,5 @@ pub mod Bits
 pub mod Above
 pub mod Right
 pub mod Refusals
+pub mod Takers
 pub mod Uses
