@@ -9,6 +9,9 @@ use Rattle.scope.specs.declared.Refusal.{Refusal}
 use Rattle.number.specs.declared.Number.{Number}
 use Rattle.number.specs.declared.Number.the-variants.{Value, Refused}
 use Rattle.number.specs.Answers.{said, refusalOf, refusedBy}
+use Rattle.number.specs.Laws.{NumberAt, LimitedAt, ReferenceAt, number-got, limited-got, reference-got}
+use Rattle.scope.specs.Number.{number, limited, reference}
+use mathlib.Core.List.{List}
 
 -- what was read goes to the rest; a refusal is the result
 pub step : {A B : Type 0} (p : Parsed A) (f : A → ℕ → Parsed B) (a : A) (n : ℕ) (r : Parsed B)
@@ -50,3 +53,19 @@ unless-no t k v p e = rw e
 
 pub ruleset ladder =
     (stop, step-number, number-refused, number-stop, unless-ok, unless-no, le-leb, lt-leb, lt-ltb, le-ltb)
+
+-- what is known of a number, of one within limits and of a reference that a call gave
+pub number-value : (s : List ℕ) (at : ℕ) (x : Number) {v n : ℕ} → said x ≡ number s at → x ≡ Value v n → NumberAt s at v n
+number-value s at x e h = number-got s at (sym e ∙ ap said h)
+
+pub limited-value : (lo hi : ℕ) (s : List ℕ) (at : ℕ) (x : Number) {v n : ℕ}
+    → said x ≡ limited lo hi s at
+    → x ≡ Value v n
+    → LimitedAt lo hi s at v n
+limited-value lo hi s at x e h = limited-got lo hi s at (sym e ∙ ap said h)
+
+pub reference-value : (before n : ℕ) (s : List ℕ) (at : ℕ) (x : Number) {v next : ℕ}
+    → said x ≡ reference before n s at
+    → x ≡ Value v next
+    → ReferenceAt before n s at v next
+reference-value before n s at x e h = reference-got before n s at (sym e ∙ ap said h)

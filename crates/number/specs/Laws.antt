@@ -112,6 +112,11 @@ pub data Ascending (n : ℕ) : ℕ → List ℕ → Type 0 where
   none : {before : ℕ} → Ascending n before []
   more : {before x : ℕ} {xs : List ℕ} → before < x → x ≤ n → Ascending n x xs → Ascending n before (x ∷ xs)
 
+-- such a list has no more members than there are numbers
+pub ascending-length : (n before : ℕ) (l : List ℕ) → Ascending n before l → before ≤ n → before + length l ≤ n
+ascending-length n before [] none h = omega arith
+ascending-length n before (x ∷ xs) (more a b r) h = omega (arith, ascending-length n x xs r b)
+
 -- so many references: they ascend, and their end is no further back
 pub record ReferencesAt (k before n : ℕ) (s : List ℕ) (at : ℕ) (xs : List ℕ) (end : ℕ) : Type 0 where
   pub ascending : Ascending n before xs

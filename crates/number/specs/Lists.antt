@@ -1,0 +1,69 @@
+-- The turns of a loop that reads a list of references into a store, one element for each, from the offset o of the store on.
+use Prim.Native.Nat.{ℕ, zero, suc, _+_, _-_, _≤_, _<_}
+use mathlib.Core.Path.{_≡_, refl, sym, ap, _∙_}
+use mathlib.Core.List.{List, [], _∷_, _++_}
+use lib.ListN.{length, take, drop, set, length-drop}
+use lib.Seq.{take-suc-set, drop-set-add}
+use native.Mathlib.Omega.{arith}
+use native.Mathlib.Numerals.{add-one}
+use Rattle.scope.specs.Parsed.{Parsed, got, refused, andThen}
+use Rattle.scope.specs.Number.{limited, reference, references, listed}
+use Rattle.scope.specs.declared.Refusal.{Refusal}
+use Rattle.number.specs.declared.Number.{Number}
+use Rattle.number.specs.declared.Number.the-variants.{Value, Refused}
+use Rattle.number.specs.Answers.{said, refusedBy}
+use Rattle.number.specs.Parsing.{before, before-cons, before-nil, before-end}
+
+-- what is left to read after i of them, with those before it
+abbrev pub leftAfter : ℕ → List ℕ → ℕ → ℕ → ℕ → ℕ → List ℕ → ℕ → Parsed (List ℕ)
+leftAfter o out i count prev n s at = before (take i (drop o out)) (references (count - i) prev n s at)
+
+-- at the start, once the count is read
+pub list-start : (o : ℕ) (out : List ℕ) (count n : ℕ) (s : List ℕ) (at next : ℕ)
+    → limited 0 n s at ≡ got count next
+    → listed n s at ≡ leftAfter o out 0 count 0 n s next
+unfolding listed
+list-start o out count n s at next e = let k : count - 0 ≡ count = omega arith in rw (e, k) (sym (before-nil (references count 0 n s next)))
+
+module _ (o : ℕ) (out : List ℕ) (i count prev n : ℕ) (s : List ℕ) (at : ℕ) where
+  -- a reference that is refused
+  pub list-refused : (x : Number) (f : Refusal) (whole : Parsed (List ℕ))
+      → whole ≡ leftAfter o out i count prev n s at
+      → i < count
+      → said x ≡ reference prev n s at
+      → x ≡ Refused f
+      → refusedBy f ≡ whole
+  unfolding references before
+  list-refused x f whole inv h e t =
+      let k : count - i ≡ suc (count - (i + 1)) = omega arith in
+      sym (inv ∙ rw (k, ← e, t))
+
+  -- one more
+  pub list-more : (x : Number) (v next : ℕ) (whole : Parsed (List ℕ))
+      → whole ≡ leftAfter o out i count prev n s at
+      → i < count
+      → o + i < length out
+      → said x ≡ reference prev n s at
+      → x ≡ Value v next
+      → whole ≡ leftAfter o (set out (o + i) v) (i + 1) count v n s next
+  unfolding references
+  list-more x v next whole inv h l e t =
+      let k : count - i ≡ suc (count - (i + 1)) = omega arith in
+      let r : i < length (drop o out) = simp length-drop (omega arith) in
+      let here : reference prev n s at ≡ got v next = sym e ∙ ap said t in
+      let turn : whole ≡ before (take i (drop o out) ++ (v ∷ [])) (references (count - (i + 1)) v n s next) =
+      inv ∙ rw (k, here) (before-cons (take i (drop o out)) v (references (count - (i + 1)) v n s next))
+      in
+      rw (drop-set-add o out i v, add-one i, take-suc-set (drop o out) i v r) (rw (add-one i) at turn)
+
+-- at the end
+pub list-end : (o : ℕ) (out : List ℕ) (i count prev n : ℕ) (s : List ℕ) (at : ℕ) (whole : Parsed (List ℕ))
+    → whole ≡ leftAfter o out i count prev n s at
+    → i ≤ count
+    → count ≤ i
+    → whole ≡ got (take count (drop o out)) at
+unfolding references
+list-end o out i count prev n s at whole inv h l =
+    let k : count - i ≡ 0 = omega arith in
+    let j : i ≡ count = omega arith in
+    inv ∙ rw (k, j) (before-end (take count (drop o out)) at)

@@ -1,0 +1,39 @@
+-- Steps of a ladder of reads, for the answers of this crate: what was read goes to the rest, a refusal is the result.
+use Prim.Native.Nat.{ℕ}
+use mathlib.Core.Path.{_≡_, refl, sym, ap, _∙_}
+use mathlib.Core.List.{List}
+use Rattle.scope.specs.Parsed.{Parsed, got, refused, andThen}
+use Rattle.scope.specs.Kinds.{Event}
+use Rattle.scope.specs.declared.Refusal.{Refusal}
+use Rattle.number.specs.declared.Number.{Number}
+use Rattle.number.specs.declared.Number.the-variants.{Value, Refused}
+use Rattle.number.specs.Answers.{refusedBy, refusalOf}
+use Rattle.tables.specs.Rows.{rowOf, rows, eventsOf}
+use Rattle.tables.specs.Answers.{saidRow, saidRows, saidEvent, saidEvents}
+
+-- what an answer stands for, by its case
+module _ (l : List ℕ) (x : Number) where
+  pub row-value : {p : Parsed (List ℕ)} {v n : ℕ} → saidRow l x ≡ p → x ≡ Value v n → p ≡ got (rowOf l) n
+  row-value e h = sym e ∙ ap (saidRow l) h
+
+  pub row-refused : {p : Parsed (List ℕ)} {f : Refusal} → saidRow l x ≡ p → x ≡ Refused f → p ≡ refusedBy f
+  row-refused e h = sym e ∙ ap (saidRow l) h
+
+  pub rows-value : {p : Parsed (List (List ℕ))} {v n : ℕ} → saidRows l x ≡ p → x ≡ Value v n → p ≡ got (rows l v) n
+  rows-value e h = sym e ∙ ap (saidRows l) h
+
+  pub rows-refused : {p : Parsed (List (List ℕ))} {f : Refusal} → saidRows l x ≡ p → x ≡ Refused f → p ≡ refusedBy f
+  rows-refused e h = sym e ∙ ap (saidRows l) h
+
+  pub event-value : {p : Parsed Event} {v n : ℕ} → saidEvent l x ≡ p → x ≡ Value v n → p ≡ got (record { duration = v; resources = rowOf l }) n
+  event-value e h = sym e ∙ ap (saidEvent l) h
+
+  pub event-refused : {p : Parsed Event} {f : Refusal} → saidEvent l x ≡ p → x ≡ Refused f → p ≡ refusedBy f
+  event-refused e h = sym e ∙ ap (saidEvent l) h
+
+module _ (m : ℕ) (d t : List ℕ) (x : Number) where
+  pub events-value : {p : Parsed (List Event)} {v n : ℕ} → saidEvents m d t x ≡ p → x ≡ Value v n → p ≡ got (eventsOf d t m) n
+  events-value e h = sym e ∙ ap (saidEvents m d t) h
+
+  pub events-refused : {p : Parsed (List Event)} {f : Refusal} → saidEvents m d t x ≡ p → x ≡ Refused f → p ≡ refusedBy f
+  events-refused e h = sym e ∙ ap (saidEvents m d t) h

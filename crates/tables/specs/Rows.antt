@@ -1,0 +1,39 @@
+-- What a table holds: rows of 126 bytes, each a count and then as many members.
+use Prim.Native.Nat.{ℕ, zero, suc, _+_, _*_, _≤_, _<_}
+use mathlib.Core.List.{List, [], _∷_, _++_}
+use lib.ListN.{length, getD, take, drop}
+use Rattle.scope.specs.Kinds.{Event}
+
+-- n elements from the front, 0 past the end
+unfoldable pub leading : ℕ → List ℕ → List ℕ
+leading zero l = []
+leading (suc n) [] = 0 ∷ leading n []
+leading (suc n) (x ∷ l) = x ∷ leading n l
+
+-- the list that a row holds
+unfoldable pub rowOf : List ℕ → List ℕ
+rowOf [] = []
+rowOf (n ∷ r) = leading n r
+
+-- row g of a table, from 0
+unfoldable pub rowAt : List ℕ → ℕ → List ℕ
+rowAt t g = rowOf (take 126 (drop (g * 126) t))
+
+-- the first n rows
+unfoldable pub rows : List ℕ → ℕ → List (List ℕ)
+rows t zero = []
+rows t (suc g) = rows t g ++ (rowAt t g ∷ [])
+
+-- the first n events, of a table of durations and a table of resources
+unfoldable pub eventsOf : List ℕ → List ℕ → ℕ → List Event
+eventsOf d t zero = []
+eventsOf d t (suc e) = eventsOf d t e ++ (record { duration = getD d e 0; resources = rowAt t e } ∷ [])
+
+-- the table has row g, whose count is no more than there is room for
+pub record RowIn (t : List ℕ) (g : ℕ) : Type 0 where
+  pub room : g * 126 + 126 ≤ length t
+  pub count : length (rowAt t g) ≤ 125
+
+-- the first n rows are so
+pub record RowsIn (t : List ℕ) (n : ℕ) : Type 0 where
+  pub each : (g : ℕ) → g < n → RowIn t g

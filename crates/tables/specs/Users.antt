@@ -1,0 +1,86 @@
+-- How many events use a resource, counted by the members of rows.
+use Prim.Native.Nat.{ℕ, zero, suc, _+_, _*_, _≤_, _<_}
+use mathlib.Core.Path.{_≡_, refl, sym, ap, _∙_}
+use mathlib.Core.List.{List, [], _∷_, _++_}
+use mathlib.Core.Bool.{Bool, true, false, cond, _||_}
+use native.Mathlib.Omega.{arith}
+use borrow.Author.Tests.{ne-eqb, eqb-true}
+use lib.Dec.{eqb}
+use lib.ListN.{length, getD}
+use Rattle.scope.specs.Kinds.{Event, member, usersFrom, users}
+use Rattle.number.specs.Laws.{Ascending, none, more}
+use Rattle.tables.specs.Rows.{rowAt, rows, eventsOf}
+
+-- how often x stands in a list, and in some lists together
+unfoldable pub occurrences : ℕ → List ℕ → ℕ
+occurrences x [] = 0
+occurrences x (y ∷ ys) = cond (eqb x y) 1 0 + occurrences x ys
+
+unfoldable pub occurrencesIn : ℕ → List (List ℕ) → ℕ
+occurrencesIn x [] = 0
+occurrencesIn x (r ∷ rs) = occurrences x r + occurrencesIn x rs
+
+-- counts[x] is how often x stands in the first n rows of a table
+pub record Counted (t : List ℕ) (n : ℕ) (counts : List ℕ) : Type 0 where
+  pub each : (x : ℕ) → getD counts x 0 ≡ occurrencesIn x (rows t n)
+
+-- an ascending list has no member up to where it starts, and each member once
+below-once : (x n before : ℕ) (l : List ℕ) → Ascending n before l → x ≤ before → (occurrences x l ≡ 0) × (member x l ≡ false)
+unfolding occurrences member
+below-once x n before [] none h = (refl, refl)
+below-once x n before (y ∷ ys) (more a b r) h =
+    let later = below-once x n y ys r (omega arith) in
+    let e = ne-eqb x y (λ p. omega arith) in
+    (rw (e, later .0), rw (e, later .1))
+
+once-by : (t : Bool) (x y : ℕ) (ys : List ℕ)
+    → eqb x y ≡ t
+    → (occurrences x ys ≡ cond (member x ys) 1 0)
+    → (x ≡ y → (occurrences x ys ≡ 0) × (member x ys ≡ false))
+    → cond t 1 0 + occurrences x ys ≡ cond (t || member x ys) 1 0
+once-by true x y ys e h k = rw (k (eqb-true x y e) .0)
+once-by false x y ys e h k = rw h (omega arith)
+
+pub occurrences-once : (x n before : ℕ) (l : List ℕ) → Ascending n before l → occurrences x l ≡ cond (member x l) 1 0
+unfolding occurrences member
+occurrences-once x n before [] none = refl
+occurrences-once x n before (y ∷ ys) (more a b r) =
+    once-by (eqb x y) x y ys refl (occurrences-once x n y ys r) (λ p. below-once x n y ys r (omega arith))
+
+-- one event more
+users-more : (r e : ℕ) (xs : List Event) (v : Event)
+    → length (usersFrom r e (xs ++ (v ∷ []))) ≡ length (usersFrom r e xs) + cond (member r (v .resources)) 1 0
+unfolding usersFrom
+users-more r e [] v = by (member r (v .resources))
+  where
+    by : (t : Bool) → length (cond t (e ∷ []) []) ≡ 0 + cond t 1 0
+    by true = refl
+    by false = refl
+users-more r e (x ∷ xs) v = by (member r (x .resources)) (users-more r (suc e) xs v)
+  where
+    by : (t : Bool)
+        → length (usersFrom r (suc e) (xs ++ (v ∷ []))) ≡ length (usersFrom r (suc e) xs) + cond (member r (v .resources)) 1 0
+        → length (cond t (e ∷ usersFrom r (suc e) (xs ++ (v ∷ []))) (usersFrom r (suc e) (xs ++ (v ∷ []))))
+        ≡ length (cond t (e ∷ usersFrom r (suc e) xs) (usersFrom r (suc e) xs)) + cond (member r (v .resources)) 1 0
+    by true h = omega arith
+    by false h = h
+
+pub occurrencesIn-more : (x : ℕ) (rs : List (List ℕ)) (r : List ℕ)
+    → occurrencesIn x (rs ++ (r ∷ [])) ≡ occurrencesIn x rs + occurrences x r
+unfolding occurrencesIn
+occurrencesIn-more x [] r = omega arith
+occurrencesIn-more x (q ∷ rs) r = omega (arith, occurrencesIn-more x rs r)
+
+-- the users of a resource are as many as its occurrences in the rows of the events, where these ascend
+pub users-counted : (r R : ℕ) (d t : List ℕ) (n : ℕ)
+    → ((g : ℕ) → g < n → Ascending R 0 (rowAt t g))
+    → length (users r (eventsOf d t n)) ≡ occurrencesIn r (rows t n)
+unfolding eventsOf rows usersFrom occurrencesIn
+users-counted r R d t zero h = refl
+users-counted r R d t (suc n) h =
+    let v : Event = record { duration = getD d n 0; resources = rowAt t n } in
+    let a = users-more r 1 (eventsOf d t n) v in
+    let b = occurrencesIn-more r (rows t n) (rowAt t n) in
+    let i = users-counted r R d t n (λ g k. h g (omega arith)) in
+    let o = occurrences-once r R 0 (rowAt t n) (h n (omega arith)) in
+    a ∙ rw (i, ← o) (sym b)

@@ -1,0 +1,12 @@
+// The tables of an instance: rows of 126 bytes, each a count and then as many members, for the resources of events and for
+// time groups; beside them the durations of events.
+mod read;
+mod row;
+mod users;
+
+pub use read::events_at;
+pub use read::groups_at;
+pub use row::row_has;
+pub use row::row_len;
+pub use row::row_member;
+pub use users::count_members;
