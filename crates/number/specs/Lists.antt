@@ -1,9 +1,11 @@
--- The turns of a loop that reads a list of references into a store, one element for each, from the offset o of the store on.
+-- Lists in a store: the elements from its front, and the turns of a loop that reads a list of references into it, from the
+-- offset o of the store on.
 use Prim.Native.Nat.{ℕ, zero, suc, _+_, _-_, _≤_, _<_}
 use mathlib.Core.Path.{_≡_, refl, sym, ap, _∙_}
 use mathlib.Core.List.{List, [], _∷_, _++_}
-use lib.ListN.{length, take, drop, set, length-drop}
+use lib.ListN.{length, getD, take, drop, set, length-drop}
 use lib.Seq.{take-suc-set, drop-set-add}
+use native.Mathlib.Nat.{not-suc-le-zero, le-of-suc-le-suc}
 use native.Mathlib.Omega.{arith}
 use native.Mathlib.Numerals.{add-one}
 use Rattle.scope.specs.Parsed.{Parsed, got, refused, andThen}
@@ -13,6 +15,32 @@ use Rattle.number.specs.declared.Number.{Number}
 use Rattle.number.specs.declared.Number.the-variants.{Value, Refused}
 use Rattle.number.specs.Answers.{said, refusedBy}
 use Rattle.number.specs.Parsing.{before, before-cons, before-nil, before-end}
+
+-- n elements from the front of a store, 0 past its end
+unfoldable pub leading : ℕ → List ℕ → List ℕ
+leading zero l = []
+leading (suc n) [] = 0 ∷ leading n []
+leading (suc n) (x ∷ l) = x ∷ leading n l
+
+pub length-leading : (n : ℕ) (l : List ℕ) → length (leading n l) ≡ n
+unfolding leading
+length-leading zero l = refl
+length-leading (suc n) [] = ap suc (length-leading n [])
+length-leading (suc n) (x ∷ l) = ap suc (length-leading n l)
+
+pub leading-take : (n : ℕ) (l : List ℕ) → n ≤ length l → leading n l ≡ take n l
+unfolding leading
+leading-take zero l h = refl
+leading-take (suc n) [] h = elim (not-suc-le-zero h) [ ]
+leading-take (suc n) (x ∷ l) h = ap (λ (r : List ℕ). x ∷ r) (leading-take n l (le-of-suc-le-suc h))
+
+pub getD-leading : (n : ℕ) (l : List ℕ) (i : ℕ) → i < n → getD (leading n l) i 0 ≡ getD l i 0
+unfolding leading
+getD-leading zero l i h = elim (not-suc-le-zero h) [ ]
+getD-leading (suc n) [] zero h = refl
+getD-leading (suc n) [] (suc i) h = getD-leading n [] i (le-of-suc-le-suc h)
+getD-leading (suc n) (x ∷ l) zero h = refl
+getD-leading (suc n) (x ∷ l) (suc i) h = getD-leading n l i (le-of-suc-le-suc h)
 
 -- what is left to read after i of them, with those before it
 abbrev pub leftAfter : ℕ → List ℕ → ℕ → ℕ → ℕ → ℕ → List ℕ → ℕ → Parsed (List ℕ)
@@ -38,23 +66,24 @@ module _ (o : ℕ) (out : List ℕ) (i count prev n : ℕ) (s : List ℕ) (at : 
       let k : count - i ≡ suc (count - (i + 1)) = omega arith in
       sym (inv ∙ rw (k, ← e, t))
 
-  -- one more
-  pub list-more : (x : Number) (v next : ℕ) (whole : Parsed (List ℕ))
+  -- one more, stored at j
+  pub list-more : (x : Number) (j v next : ℕ) (whole : Parsed (List ℕ))
       → whole ≡ leftAfter o out i count prev n s at
       → i < count
-      → o + i < length out
+      → j ≡ o + i
+      → j < length out
       → said x ≡ reference prev n s at
       → x ≡ Value v next
-      → whole ≡ leftAfter o (set out (o + i) v) (i + 1) count v n s next
+      → whole ≡ leftAfter o (set out j v) (i + 1) count v n s next
   unfolding references
-  list-more x v next whole inv h l e t =
+  list-more x j v next whole inv h p l e t =
       let k : count - i ≡ suc (count - (i + 1)) = omega arith in
       let r : i < length (drop o out) = simp length-drop (omega arith) in
       let here : reference prev n s at ≡ got v next = sym e ∙ ap said t in
       let turn : whole ≡ before (take i (drop o out) ++ (v ∷ [])) (references (count - (i + 1)) v n s next) =
       inv ∙ rw (k, here) (before-cons (take i (drop o out)) v (references (count - (i + 1)) v n s next))
       in
-      rw (drop-set-add o out i v, add-one i, take-suc-set (drop o out) i v r) (rw (add-one i) at turn)
+      rw (p, drop-set-add o out i v, add-one i, take-suc-set (drop o out) i v r) (rw (add-one i) at turn)
 
 -- at the end
 pub list-end : (o : ℕ) (out : List ℕ) (i count prev n : ℕ) (s : List ℕ) (at : ℕ) (whole : Parsed (List ℕ))

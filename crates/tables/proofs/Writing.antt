@@ -8,8 +8,8 @@ use lib.ListN.{length, getD, take, drop, set, length-drop, take-append-drop}
 use lib.Seq.{take-append-le, drop-append-le, take-at, drop-at, length-take-le, getD-set-same, getD-set-other}
 use borrow.Rule.Slice.PartMut.{putMid}
 use Rattle.scope.specs.Kinds.{Event}
-use Rattle.tables.specs.Rows.{leading, rowOf, rowAt, rows, eventsOf}
-use Rattle.tables.specs.Laws.{leading-take}
+use Rattle.number.specs.Lists.{leading-take}
+use Rattle.tables.specs.Rows.{rowOf, rowAt, rows, eventsOf}
 
 -- a row whose count is n
 pub rowOf-count : (row : List ℕ) (n : ℕ) → getD row 0 0 ≡ n → n < length row → rowOf row ≡ take n (drop 1 row)

@@ -12,28 +12,8 @@ use borrow.Author.Tests.{eq-eqb, ne-eqb}
 use lib.ListN.{length, getD, take, drop, length-append, List·getD-append, drop-of-length-le}
 use lib.Seq.{getD-take, getD-drop, getD-at, drop-cons}
 use Rattle.scope.specs.Kinds.{Event, member, groupAt}
-use Rattle.tables.specs.Rows.{leading, rowOf, rowAt, rows, eventsOf}
-
--- the elements from the front
-pub length-leading : (n : ℕ) (l : List ℕ) → length (leading n l) ≡ n
-unfolding leading
-length-leading zero l = refl
-length-leading (suc n) [] = ap suc (length-leading n [])
-length-leading (suc n) (x ∷ l) = ap suc (length-leading n l)
-
-pub leading-take : (n : ℕ) (l : List ℕ) → n ≤ length l → leading n l ≡ take n l
-unfolding leading
-leading-take zero l h = refl
-leading-take (suc n) [] h = elim (not-suc-le-zero h) [ ]
-leading-take (suc n) (x ∷ l) h = ap (λ (r : List ℕ). x ∷ r) (leading-take n l (le-of-suc-le-suc h))
-
-pub getD-leading : (n : ℕ) (l : List ℕ) (i : ℕ) → i < n → getD (leading n l) i 0 ≡ getD l i 0
-unfolding leading
-getD-leading zero l i h = elim (not-suc-le-zero h) [ ]
-getD-leading (suc n) [] zero h = refl
-getD-leading (suc n) [] (suc i) h = getD-leading n [] i (le-of-suc-le-suc h)
-getD-leading (suc n) (x ∷ l) zero h = refl
-getD-leading (suc n) (x ∷ l) (suc i) h = getD-leading n l i (le-of-suc-le-suc h)
+use Rattle.number.specs.Lists.{leading, length-leading, getD-leading}
+use Rattle.tables.specs.Rows.{rowOf, rowAt, rows, eventsOf}
 
 -- a row: its length and its members
 length-rowOf : (r : List ℕ) → length (rowOf r) ≡ getD r 0 0

@@ -3,12 +3,7 @@ use Prim.Native.Nat.{ℕ, zero, suc, _+_, _*_, _≤_, _<_}
 use mathlib.Core.List.{List, [], _∷_, _++_}
 use lib.ListN.{length, getD, take, drop}
 use Rattle.scope.specs.Kinds.{Event}
-
--- n elements from the front, 0 past the end
-unfoldable pub leading : ℕ → List ℕ → List ℕ
-leading zero l = []
-leading (suc n) [] = 0 ∷ leading n []
-leading (suc n) (x ∷ l) = x ∷ leading n l
+use Rattle.number.specs.Lists.{leading}
 
 -- the list that a row holds
 unfoldable pub rowOf : List ℕ → List ℕ

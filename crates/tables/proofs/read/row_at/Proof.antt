@@ -106,7 +106,7 @@ loop-again c =
       omega arith,
       simp length-set (l .inv .2),
       getD-set-other (l .row) _ 0 _ 0 (λ x. omega arith) ∙ l .inv .3,
-      list-more 1 (l .row) _ _ _ _ _ _ _ _ _ _ (l .inv .4) (w .before .before .before .loop-test .taken) (omega arith)
+      list-more 1 (l .row) _ _ _ _ _ _ _ _ _ _ _ (l .inv .4) (w .before .before .before .loop-test .taken) refl (omega arith)
           (w .before .before .reference .ensures)
           (w .r .given .1),
     )

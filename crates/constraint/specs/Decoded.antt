@@ -1,0 +1,55 @@
+-- A constraint without the checks at its end: kind, weight and fields.
+use Prim.Native.Nat.{ℕ}
+use mathlib.Core.Path.{_≡_, refl}
+use mathlib.Core.List.{List}
+use Rattle.scope.specs.Parsed.{Parsed, got, refused, andThen}
+use Rattle.scope.specs.Number.{limited}
+use Rattle.scope.specs.Kinds.{Kind, Constraint, Event, rulesOf, longest}
+use Rattle.scope.specs.Instance.{Counts, countsOf, fieldsAt, ended, constraintAt}
+
+unfoldable pub decodedAt : Counts → List ℕ → ℕ → Parsed Constraint
+decodedAt n s at =
+    andThen (limited 1 8 s at)
+    (λ kind next.
+    andThen (limited 0 1000 s next)
+    (λ weight more. andThen (fieldsAt n s more kind) (λ k end. got (record { weight = weight; kind = k }) end)))
+
+-- the checks at the end of a constraint whose kind stands at an offset and whose counted list is as long as len says
+abbrev pub endedBy : (Kind → ℕ) → ℕ → Constraint → ℕ → Parsed Constraint
+endedBy len at c end = ended at (len (c .kind)) (c .weight) (c .kind) end
+
+-- a constraint that is read and then checked
+unfoldable pub checkedAt : Counts → (Kind → ℕ) → List ℕ → ℕ → Parsed Constraint
+checkedAt n len s at = andThen (decodedAt n s at) (endedBy len at)
+
+fields-checked : (p : Parsed Kind) (weight : ℕ) (e : Constraint → ℕ → Parsed Constraint)
+    → andThen p (λ k end. e (record { weight = weight; kind = k }) end)
+    ≡ andThen (andThen p (λ k end. got (record { weight = weight; kind = k }) end)) e
+fields-checked (got k end) weight e = refl
+fields-checked (refused k v) weight e = refl
+
+weight-checked : (p : Parsed ℕ) (f : ℕ → Parsed Kind) (e : Constraint → ℕ → Parsed Constraint)
+    → andThen p (λ weight more. andThen (f more) (λ k end. e (record { weight = weight; kind = k }) end))
+    ≡ andThen (andThen p (λ weight more. andThen (f more) (λ k end. got (record { weight = weight; kind = k }) end))) e
+weight-checked (got weight more) f e = fields-checked (f more) weight e
+weight-checked (refused k v) f e = refl
+
+kind-checked : (p : Parsed ℕ) (q : ℕ → Parsed ℕ) (f : ℕ → ℕ → Parsed Kind) (e : Constraint → ℕ → Parsed Constraint)
+    → andThen p
+    (λ kind next.
+    andThen (q next) (λ weight more. andThen (f kind more) (λ k end. e (record { weight = weight; kind = k }) end)))
+    ≡ andThen
+    (andThen p
+    (λ kind next.
+    andThen (q next) (λ weight more. andThen (f kind more) (λ k end. got (record { weight = weight; kind = k }) end))))
+    e
+kind-checked (got kind next) q f e = weight-checked (q next) (f kind) e
+kind-checked (refused k v) q f e = refl
+
+-- a constraint of an instance is one that is read and then checked
+pub constraint-checked : (T R : ℕ) (es : List Event) (gs : List (List ℕ)) (s : List ℕ) (at : ℕ)
+    → constraintAt T R es gs s at ≡ checkedAt (countsOf T R es gs) (λ k. longest (rulesOf T es gs k)) s at
+unfolding constraintAt checkedAt decodedAt
+constraint-checked T R es gs s at =
+    kind-checked (limited 1 8 s at) (limited 0 1000 s) (λ kind more. fieldsAt (countsOf T R es gs) s more kind)
+    (endedBy (λ k. longest (rulesOf T es gs k)) at)

@@ -1,0 +1,5 @@
+pub mod Answers
+pub mod Decoded
+pub mod Ladder
+pub mod Valid
+pub mod Walk
