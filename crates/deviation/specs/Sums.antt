@@ -5,13 +5,13 @@ use mathlib.Core.List.{List, [], _∷_, map}
 use lib.ListN.{length, getD, drop, drop-of-length-le}
 use lib.Seq.{drop-cons}
 use native.Mathlib.Omega.{arith}
-use native.Mathlib.Nat.{add-zero, zero-add, add-assoc, mul-le-mul-right}
+use native.Mathlib.Nat.{add-zero, zero-add, add-assoc, sub-zero}
 use native.Mathlib.Numerals.{add-one}
-use Rattle.number.specs.Laws.{Ascending}
 use Rattle.tables.specs.Rows.{rowAt, RowIn}
 use Rattle.number.specs.Lists.{leading, length-leading, getD-leading}
-use Rattle.timetable.specs.Uses.{member-in}
-use Rattle.deviation.specs.Group.{Inside, ascending-inside}
+use Rattle.scope.specs.Kinds.{from, upTo}
+use Rattle.timetable.specs.Bits.{from-more, from-done}
+use Rattle.deviation.specs.Group.{Inside}
 
 -- the sum of f over a list
 unfoldable pub total : (ℕ → ℕ) → List ℕ → ℕ
@@ -48,3 +48,16 @@ pub record GroupsListed (b : List ℕ) (base : ℕ) (gs l : List ℕ) (n : ℕ) 
   pub low : (k : ℕ) → k < n → 1 ≤ getD l k 0
   pub row : (k : ℕ) → k < n → RowIn gs (getD l k 0 - 1)
   pub inside : (k : ℕ) → k < n → Inside b base (rowAt gs (getD l k 0 - 1))
+
+-- the turns of a sum over the places 1 to n, of which i were passed
+pub places-start : (f : ℕ → ℕ) (n : ℕ) → 0 + total f (from 1 (n - 0)) ≡ total f (upTo n)
+places-start f n = rw (sub-zero, zero-add)
+
+module _ (f : ℕ → ℕ) (n i sum whole : ℕ) (so-far : sum + total f (from (i + 1) (n - i)) ≡ whole) where
+  pub places-more : (x : ℕ) → i < n → x ≡ f (i + 1) → sum + x + total f (from (i + 1 + 1) (n - (i + 1))) ≡ whole
+  unfolding total
+  places-more x h e = rw (e, add-assoc) (rw (from-more i n h) at so-far)
+
+  pub places-end : n ≤ i → sum ≡ whole
+  unfolding total
+  places-end h = rw (from-done i n h, add-zero) at so-far
