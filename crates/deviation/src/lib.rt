@@ -2,4 +2,7 @@
 // how often each resource is used at each time, and whether it is (X).
 mod charge;
 mod group;
+mod kind;
 mod list;
+
+pub use kind::deviation_of;
