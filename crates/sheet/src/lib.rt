@@ -1,0 +1,2 @@
+// Scoring a timetable, and whether two timetables are the same sheet.
+mod walk;
