@@ -1,1 +1,3 @@
 pub mod Amounts
+pub mod Same
+pub mod Score

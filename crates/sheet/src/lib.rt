@@ -1,2 +1,3 @@
 // Scoring a timetable, and whether two timetables are the same sheet.
+mod same;
 mod walk;
