@@ -53,3 +53,14 @@ unfolding constraintAt checkedAt decodedAt
 constraint-checked T R es gs s at =
     kind-checked (limited 1 8 s at) (limited 0 1000 s) (λ kind more. fieldsAt (countsOf T R es gs) s more kind)
     (endedBy (λ k. longest (rulesOf T es gs k)) at)
+
+-- two measures of the list that agree check alike
+pub checked-same : (n : Counts) (len len′ : Kind → ℕ) (s : List ℕ) (at : ℕ)
+    → ((k : Kind) → len k ≡ len′ k)
+    → checkedAt n len s at ≡ checkedAt n len′ s at
+unfolding checkedAt
+checked-same n len len′ s at h = by (decodedAt n s at)
+  where
+    by : (p : Parsed Constraint) → andThen p (endedBy len at) ≡ andThen p (endedBy len′ at)
+    by (got c end) = rw (h (c .kind))
+    by (refused k v) = refl

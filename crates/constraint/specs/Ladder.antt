@@ -6,13 +6,15 @@ use Rattle.scope.specs.Parsed.{Parsed, got, refused, andThen}
 use Rattle.scope.specs.Kinds as kinds
 use Rattle.scope.specs.declared.Refusal.{Refusal}
 use Rattle.number.specs.declared.Number.{Number}
-use Rattle.number.specs.Answers.{refusalOf}
+use Rattle.number.specs.Answers.{refusalOf, refusedBy}
 use Rattle.number.specs.Ladder.{step, ladder as numberLadder}
 use Rattle.number.specs.Lists.{leading}
 use Rattle.constraint.specs.declared.fields.Pair.{Pair}
 use Rattle.constraint.specs.declared.fields.Fields.{Fields}
+use Rattle.constraint.specs.declared.kinds.Constraint.{Constraint}
 use Rattle.constraint.specs.declared.kinds.Kind.{Kind}
-use Rattle.constraint.specs.Answers.{saidList, saidPair, saidFields, kindOf, refusalOfPair, refusalOfFields}
+use Rattle.constraint.specs.declared.kinds.Next.{Next}
+use Rattle.constraint.specs.Answers.{saidList, saidPair, saidFields, saidNext, kindOf, constraintOf, refusalOfPair, refusalOfFields}
 
 -- two numbers
 pub step-pair : {B : Type 0} (x : Pair) (p : Parsed (ℕ × ℕ)) (f : ℕ × ℕ → ℕ → Parsed B) (a b n : ℕ) (r : Parsed B)
@@ -61,3 +63,11 @@ fields-refused l x p g f e h k = rw (k, h) (sym e ∙ ap (saidFields l) h)
 
 pub ruleset ladder =
     (numberLadder, step-pair, pair-refused, step-list, list-refused, step-fields, fields-refused)
+
+-- what the answer of `constraint_at` stands for, by its case
+module _ (l : List ℕ) (x : Next) where
+  pub next-value : {p : Parsed kinds.Constraint} {c : Constraint} {n : ℕ} → saidNext l x ≡ p → x ≡ Next.Read c n → p ≡ got (constraintOf l c) n
+  next-value e h = sym e ∙ ap (saidNext l) h
+
+  pub next-refused : {p : Parsed kinds.Constraint} {f : Refusal} → saidNext l x ≡ p → x ≡ Next.Refused f → p ≡ refusedBy f
+  next-refused e h = sym e ∙ ap (saidNext l) h

@@ -25,7 +25,7 @@ pub record Counted (t : List ℕ) (n : ℕ) (counts : List ℕ) : Type 0 where
   pub each : (x : ℕ) → getD counts x 0 ≡ occurrencesIn x (rows t n)
 
 -- an ascending list has no member up to where it starts, and each member once
-below-once : (x n before : ℕ) (l : List ℕ) → Ascending n before l → x ≤ before → (occurrences x l ≡ 0) × (member x l ≡ false)
+pub below-once : (x n before : ℕ) (l : List ℕ) → Ascending n before l → x ≤ before → (occurrences x l ≡ 0) × (member x l ≡ false)
 unfolding occurrences member
 below-once x n before [] none h = (refl, refl)
 below-once x n before (y ∷ ys) (more a b r) h =

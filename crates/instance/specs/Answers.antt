@@ -1,0 +1,54 @@
+-- What the answers of this crate stand for.
+use Prim.Native.Nat.{ℕ}
+use mathlib.Core.List.{List}
+use Rattle.scope.specs.Parsed.{Parsed, got, refused, repeat}
+use Rattle.scope.specs.Kinds.{Constraint}
+use Rattle.scope.specs.Instance.{Instance}
+use Rattle.scope.specs.declared.Refusal.{Refusal}
+use Rattle.number.specs.Answers.{refusedBy}
+use Rattle.tables.specs.Rows.{rows, eventsOf}
+use Rattle.constraint.specs.declared.kinds.Head.{Head}
+use Rattle.constraint.specs.declared.kinds.Next.{Next}
+use Rattle.instance.specs.declared.reader.Sizes.{Sizes}
+use Rattle.instance.specs.declared.reader.SizesRead.{SizesRead}
+use Rattle.instance.specs.declared.reader.File.{File}
+use Rattle.instance.specs.Ends.{listOf, endOf}
+use Rattle.instance.specs.File.{Start, withConstraints, constraintIn}
+
+-- times, events and resources
+abbrev pub saidSizes : SizesRead → Parsed (ℕ × ℕ × ℕ)
+saidSizes (SizesRead.Value w next) = got (w .times, w .events, w .resources) next
+saidSizes (SizesRead.Refused f) = refusedBy f
+
+-- an instance without its constraints: its events and groups stand in the tables
+abbrev pub startOf : List ℕ → List ℕ → List ℕ → Sizes → Start
+startOf d te tg w =
+    record { times = w .times; resources = w .resources; events = eventsOf d te (w .events); groups = rows tg (w .groups) }
+
+abbrev pub saidTables : List ℕ → List ℕ → List ℕ → SizesRead → Parsed Start
+saidTables d te tg (SizesRead.Value w next) = got (startOf d te tg w) next
+saidTables d te tg (SizesRead.Refused f) = refusedBy f
+
+-- a file that was accepted: its constraints stand in the file, from an offset on
+abbrev pub headStart : List ℕ → List ℕ → List ℕ → Head → Start
+headStart d te tg h =
+    record { times = h .times; resources = h .resources; events = eventsOf d te (h .events); groups = rows tg (h .groups) }
+
+unfoldable pub constraintsOf : List ℕ → List ℕ → List ℕ → List ℕ → Head → Parsed (List Constraint)
+constraintsOf s d te tg h = repeat (h .constraints) (constraintIn (headStart d te tg h) s) (h .start)
+
+abbrev pub instanceOf : List ℕ → List ℕ → List ℕ → List ℕ → Head → Instance
+instanceOf s d te tg h = withConstraints (headStart d te tg h) (listOf (constraintsOf s d te tg h))
+
+abbrev pub saidFile : List ℕ → List ℕ → List ℕ → List ℕ → File → Parsed Instance
+saidFile s d te tg (File.Accepted h) = got (instanceOf s d te tg h) (endOf (constraintsOf s d te tg h))
+saidFile s d te tg (File.Refused f) = refusedBy f
+
+-- the refusal that an answer holds; of a value, none
+abbrev pub refusalOfNext : Next → Refusal
+refusalOfNext (Next.Read c next) = record { number = 0; value = 0 }
+refusalOfNext (Next.Refused f) = f
+
+abbrev pub refusalOfSizes : SizesRead → Refusal
+refusalOfSizes (SizesRead.Value w next) = record { number = 0; value = 0 }
+refusalOfSizes (SizesRead.Refused f) = f

@@ -1,0 +1,100 @@
+-- Where a list that was read ends, for a reader that keeps none of its members.
+use Prim.Native.Nat.{ℕ, zero, suc, _+_, _-_, _≤_, _<_}
+use mathlib.Core.Path.{_≡_, refl, sym, ap, _∙_}
+use mathlib.Core.List.{List, [], _∷_}
+use mathlib.Core.Bool.{Bool, true, false}
+use lib.Dec.{leb}
+use lib.ListN.{length}
+use native.Mathlib.Omega.{arith}
+use Rattle.scope.specs.Parsed.{Parsed, got, refused, andThen, unless, cons, repeat}
+use borrow.Author.Tests.{leb-true, lt-leb, le-leb}
+use Rattle.scope.specs.declared.Refusal.{Refusal}
+use Rattle.number.specs.declared.Number.{Number}
+use Rattle.number.specs.declared.Number.the-variants.{Value, Refused}
+use Rattle.number.specs.Answers.{said}
+use Rattle.number.specs.Parsing.{refused-got, andThen-got, unless-got, repeat-same}
+
+-- the end alone
+abbrev pub ends : {A : Type 0} → Parsed A → Parsed ℕ
+ends (got a end) = got 0 end
+ends (refused k v) = refused k v
+
+-- the list, and its end; of a refusal none
+abbrev pub listOf : {A : Type 0} → Parsed (List A) → List A
+listOf (got xs end) = xs
+listOf (refused k v) = []
+
+abbrev pub endOf : {A : Type 0} → Parsed A → ℕ
+endOf (got a end) = end
+endOf (refused k v) = 0
+
+-- a list that has to reach the end of the bytes: 6 where some are left over
+unfoldable pub wholeAt : {A : Type 0} → List ℕ → ℕ → (ℕ → Parsed A) → ℕ → Parsed (List A)
+wholeAt s n f at = andThen (repeat n f at) (λ xs end. unless (leb (length s) end) 6 end (got xs end))
+
+ends-cons : {A : Type 0} (a : A) (p : Parsed (List A)) → ends (cons a p) ≡ ends p
+ends-cons a (got xs end) = refl
+ends-cons a (refused k v) = refl
+
+-- a turn of reading the same thing again
+module _ {A : Type 0} (i count : ℕ) (f : ℕ → Parsed A) (at : ℕ) (h : i < count) where
+  pub ends-more : {a : A} {next : ℕ} → f at ≡ got a next → ends (repeat (count - i) f at) ≡ ends (repeat (count - (i + 1)) f next)
+  unfolding repeat
+  ends-more {a} {next} e =
+      let k : count - i ≡ suc (count - (i + 1)) = omega arith in
+      rw (k, e) (ends-cons a (repeat (count - (i + 1)) f next))
+
+  pub ends-refused : {k v : ℕ} → f at ≡ refused k v → ends (repeat (count - i) f at) ≡ refused k v
+  unfolding repeat
+  ends-refused e = let k : count - i ≡ suc (count - (i + 1)) = omega arith in rw (k, e)
+
+pub ends-end : {A : Type 0} (i count : ℕ) (f : ℕ → Parsed A) (at : ℕ) → count ≤ i → ends (repeat (count - i) f at) ≡ got 0 at
+unfolding repeat
+ends-end i count f at h = let k : count - i ≡ 0 = omega arith in rw k
+
+-- what ends somewhere was read
+pub ends-got : {A : Type 0} (p : Parsed (List A)) {n end : ℕ} → ends p ≡ got n end → p ≡ got (listOf p) end
+ends-got (got xs e) {n} {end} h = let k : e ≡ end = cc in rw k
+ends-got (refused k v) {n} {end} h = refused-got (refused k v ≡ got [] end) h
+
+pub ends-of-refused : {A : Type 0} (p : Parsed A) {k v : ℕ} → ends p ≡ refused k v → p ≡ refused k v
+ends-of-refused (got xs e) {k} {v} h = refused-got (got xs e ≡ refused k v) (sym h)
+ends-of-refused (refused k v) h = cc
+
+-- a list that reached the end of the bytes
+pub record WholeAt {A : Type 0} (s : List ℕ) (n : ℕ) (f : ℕ → Parsed A) (at : ℕ) (xs : List A) (end : ℕ) : Type 0 where
+  pub list : repeat n f at ≡ got xs end
+  pub past : length s ≤ end
+
+pub whole-got : {A : Type 0} (s : List ℕ) (n : ℕ) (f : ℕ → Parsed A) (at : ℕ) {xs : List A} {end : ℕ}
+    → wholeAt s n f at ≡ got xs end
+    → WholeAt s n f at xs end
+unfolding wholeAt
+whole-got s n f at {xs} {end} e =
+    let p = andThen-got (repeat n f at) (λ xs end. unless (leb (length s) end) 6 end (got xs end)) e in
+    let q = unless-got (leb (length s) (p .next)) 6 (p .next) (got (p .value) (p .next)) (p .rest) in
+    let l = leb-true (length s) (p .next) (q .test) in
+    let k : p .next ≡ end = cc (q .rest) in
+    record { list = p .first ∙ q .rest; past = omega arith }
+
+-- the end of the walk f gives the end of the whole g, where the two agree; x is what the walk answered
+module _ {A : Type 0} (s : List ℕ) (n : ℕ) (f g : ℕ → Parsed A) (at : ℕ) (x : Number) (e : said x ≡ ends (repeat n f at)) (same : (at : ℕ) → f at ≡ g at) where
+  agree : ends (repeat n g at) ≡ said x
+  agree = sym (e ∙ ap ends (repeat-same n f g at same))
+
+  pub whole-refused : {r : Refusal} → x ≡ Refused r → said x ≡ ends (wholeAt s n g at)
+  unfolding wholeAt
+  whole-refused h = rw (h, ends-of-refused (repeat n g at) (agree ∙ ap said h))
+
+  pub whole-left : {v end : ℕ} → x ≡ Value v end → end < length s → refused 6 end ≡ ends (wholeAt s n g at)
+  unfolding wholeAt
+  whole-left {v} {end} h l = rw (ends-got (repeat n g at) (agree ∙ ap said h), lt-leb (length s) end l)
+
+  pub whole-end : {v end : ℕ} → x ≡ Value v end → length s ≤ end → got 0 end ≡ ends (wholeAt s n g at)
+  unfolding wholeAt
+  whole-end {v} {end} h l = rw (ends-got (repeat n g at) (agree ∙ ap said h), le-leb (length s) end l)
+
+-- readings that agree reach the end alike
+pub whole-same : {A : Type 0} (s : List ℕ) (n : ℕ) (f g : ℕ → Parsed A) (at : ℕ) → ((at : ℕ) → f at ≡ g at) → wholeAt s n f at ≡ wholeAt s n g at
+unfolding wholeAt
+whole-same s n f g at h = rw (repeat-same n f g at h)

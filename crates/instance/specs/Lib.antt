@@ -1,0 +1,11 @@
+pub mod Length
+pub mod Inner
+pub mod Ready
+pub mod Ends
+pub mod Answers
+pub mod Stores
+pub mod File
+pub mod Start
+pub mod Ladder
+pub mod Checked
+pub mod Laws

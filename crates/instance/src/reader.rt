@@ -1,0 +1,135 @@
+// Reading the whole file: sizes, events and groups into tables, then the constraints.
+use crate::walk::constraints_whole;
+use constraint::Head;
+use number::Number;
+use number::limited;
+use number::refusal_of;
+use scope::Refusal;
+use tables::events_at;
+use tables::groups_at;
+ghost use mathlib.Core.Path.{_≡_};
+ghost use Rattle.scope.specs.Instance.{sizesAt, parse};
+ghost use Rattle.instance.specs.Answers.{saidSizes, saidTables, saidFile, refusalOfSizes};
+ghost use Rattle.instance.specs.File.{tablesAt};
+ghost use Rattle.instance.specs.Stores.{Tables, Stores};
+
+// How many times, events, resources and groups there are.
+pub struct Sizes {
+    pub times: u32,
+    pub events: u32,
+    pub resources: u32,
+    pub groups: u32,
+}
+
+// Sizes with the offset after what was read, or a refusal.
+pub enum SizesRead {
+    Value(Sizes, usize),
+    Refused(Refusal),
+}
+
+// A whole file.
+pub enum File {
+    Accepted(Head),
+    Refused(Refusal),
+}
+
+fn refusal_of_sizes(x: SizesRead) -> Refusal
+    ensures { λ r. ⌜ r ≡ refusalOfSizes x ⌝ }
+{
+    match x {
+        SizesRead::Value(_, _) => Refusal {
+            number: 0,
+            value: 0,
+        },
+        SizesRead::Refused(f) => f,
+    }
+}
+
+// Times, events and resources; the groups come later.
+fn sizes_at(s: &[u8]) -> SizesRead
+    ensures { λ r. ⌜ saidSizes r ≡ sizesAt (now (s .entry)) ⌝ }
+{
+    let t = limited(s, 0, 1, 125);
+    let Number::Value(times, a) = t else {
+        return SizesRead::Refused(refusal_of(t));
+    };
+    let e = limited(s, a, 1, 1024);
+    let Number::Value(events, b) = e else {
+        return SizesRead::Refused(refusal_of(e));
+    };
+    let r = limited(s, b, 0, 99);
+    let Number::Value(resources, c) = r else {
+        return SizesRead::Refused(refusal_of(r));
+    };
+    SizesRead::Value(
+        Sizes {
+            times,
+            events,
+            resources,
+            groups: 0,
+        },
+        c,
+    )
+}
+
+// The sizes, and the events and groups into their tables.
+fn tables_at(s: &[u8], durations: &mut [u8], resources: &mut [u8], groups: &mut [u8]) -> SizesRead
+    requires { ⌜ Tables (now durations) (now resources) (now groups) ⌝ }
+    ensures { λ r. ⌜ saidTables (now (durations .exit)) (now (resources .exit)) (now (groups .exit)) r ≡ tablesAt (now (s .entry)) ⌝ }
+{
+    let z = sizes_at(s);
+    let SizesRead::Value(w, a) = z else {
+        return z;
+    };
+    let e = events_at(s, a, w.events, w.times, w.resources, durations, resources);
+    let Number::Value(_, b) = e else {
+        return SizesRead::Refused(refusal_of(e));
+    };
+    let g = groups_at(s, b, w.times, groups);
+    let Number::Value(count, c) = g else {
+        return SizesRead::Refused(refusal_of(g));
+    };
+    SizesRead::Value(
+        Sizes {
+            times: w.times,
+            events: w.events,
+            resources: w.resources,
+            groups: count,
+        },
+        c,
+    )
+}
+
+// The whole file, its events and groups into the tables; list is a store for a constraint's list.
+pub fn read(
+    file: &[u8],
+    durations: &mut [u8],
+    resources: &mut [u8],
+    groups: &mut [u8],
+    list: &mut [u16],
+) -> File
+    requires { ⌜ Stores (now durations) (now resources) (now groups) (now list) ⌝ }
+    ensures { λ r. ⌜ saidFile (now (file .entry)) (now (durations .exit)) (now (resources .exit)) (now (groups .exit)) r ≡ parse (now (file .entry)) ⌝ }
+{
+    let t = tables_at(file, durations, resources, groups);
+    let SizesRead::Value(w, at) = t else {
+        return File::Refused(refusal_of_sizes(t));
+    };
+    let k = limited(file, at, 0, 4096);
+    let Number::Value(constraints, start) = k else {
+        return File::Refused(refusal_of(k));
+    };
+    let head = Head {
+        times: w.times,
+        events: w.events,
+        resources: w.resources,
+        groups: w.groups,
+        constraints,
+        start,
+    };
+    let f = constraints_whole(file, head, resources, groups, list);
+    let Number::Value(_, _) = f else {
+        return File::Refused(refusal_of(f));
+    };
+    File::Accepted(head)
+}

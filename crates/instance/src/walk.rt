@@ -1,0 +1,77 @@
+// The walk over all constraints of a file.
+use crate::check::checked_at;
+use constraint::Head;
+use constraint::Next;
+use number::Number;
+use scope::Refusal;
+use tables::count_members;
+ghost use mathlib.Core.Path.{_≡_};
+ghost use Prim.Native.Nat.{_≤_};
+ghost use lib.ListN.{length, getD};
+ghost use Rattle.scope.specs.Parsed.{repeat};
+ghost use Rattle.number.specs.Answers.{said};
+ghost use Rattle.tables.specs.Rows.{rows, RowsIn};
+ghost use Rattle.tables.specs.Users.{occurrencesIn};
+ghost use Rattle.instance.specs.Answers.{refusalOfNext};
+ghost use Rattle.instance.specs.Ends.{ends, wholeAt};
+ghost use Rattle.instance.specs.Ready.{Ready, Lent, checkedBy};
+
+// "bytes left over"
+const BYTES_LEFT: u8 = 6;
+
+fn refusal_of_next(x: Next) -> Refusal
+    ensures { λ r. ⌜ r ≡ refusalOfNext x ⌝ }
+{
+    match x {
+        Next::Read(_, _) => Refusal {
+            number: 0,
+            value: 0,
+        },
+        Next::Refused(f) => f,
+    }
+}
+
+// Where the constraints end.
+fn constraints_end(s: &[u8], head: Head, users: &[u32], groups: &[u8], list: &mut [u16]) -> Number
+    requires { ⌜ Ready (now users) (now groups) (now list) head ⌝ }
+    ensures { λ r. ⌜ said r ≡ ends (repeat (head .constraints) (checkedBy (λ r. getD (now (users .entry)) r 0) (now (groups .entry)) head (now (s .entry))) (head .start)) ⌝ }
+{
+    let most = head.constraints as usize;
+    let mut next = head.start;
+    let mut i: usize = 0;
+    while i < most {
+        let x = checked_at(s, next, head, users, groups, list);
+        let Next::Read(_, after) = x else {
+            return Number::Refused(refusal_of_next(x));
+        };
+        next = after;
+        i = i + 1;
+    }
+    Number::Value(0, next)
+}
+
+// All constraints, checked, up to the file's end.
+pub fn constraints_whole(
+    s: &[u8],
+    head: Head,
+    resources: &[u8],
+    groups: &[u8],
+    list: &mut [u16],
+) -> Number
+    requires { ⌜ Lent (now resources) (now groups) (now list) head ⌝ }
+    ensures { λ r. ⌜ said r ≡ ends (wholeAt (now (s .entry)) (head .constraints) (checkedBy (λ r. occurrencesIn r (rows (now (resources .entry)) (head .events))) (now (groups .entry)) head (now (s .entry))) (head .start)) ⌝ }
+{
+    let mut users = [0u32; 256];
+    count_members(resources, head.events, &mut users);
+    let f = constraints_end(s, head, &users, groups, list);
+    let Number::Value(_, end) = f else {
+        return f;
+    };
+    if end < s.len() {
+        return Number::Refused(Refusal {
+            number: BYTES_LEFT,
+            value: end as u64,
+        });
+    }
+    Number::Value(0, end)
+}
