@@ -26,8 +26,8 @@ listOf (got xs end) = xs
 listOf (refused k v) = []
 
 -- the constraints of a file whose head is known
-unfoldable pub constraintsOf : List ℕ → Head → List Constraint
-constraintsOf s h = listOf (repeat (h .constraints) (decodedAt (countsIn h) s) (h .start))
+unfoldable pub decodedOf : List ℕ → Head → List Constraint
+decodedOf s h = listOf (repeat (h .constraints) (decodedAt (countsIn h) s) (h .start))
 
 -- the charges of hard constraints, and weight times charge of all
 unfoldable pub hardSum : (Kind → ℕ) → List Constraint → ℕ
@@ -44,7 +44,7 @@ pub record Walkable (s : List ℕ) (h : Head) (b u x gs l : List ℕ) : Type 0 w
   pub events : h .events ≤ 2048
   pub groups : h .groups ≤ 2048
   pub room : length l ≡ 2048
-  pub whole : repeat (h .constraints) (decodedAt (countsIn h) s) (h .start) ≡ got (constraintsOf s h) (length s)
+  pub whole : repeat (h .constraints) (decodedAt (countsIn h) s) (h .start) ≡ got (decodedOf s h) (length s)
   pub sheet : SheetIn (countsIn h) b u x gs
 
 cond-most : (t : Bool) (n : ℕ) → cond t n 0 ≤ n
@@ -57,9 +57,9 @@ pub record Charged (s : List ℕ) (h : Head) (f : Kind → ℕ) (l : List ℕ) (
   pub room : length l ≡ 2048
   pub hard-most : hard ≤ i * 4294967296
   pub soft-most : soft ≤ i * 4294967296000
-  pub walk : Walk (countsIn h) s (h .constraints) i next (constraintsOf s h)
-  pub hard-left : hard + hardSum f (drop i (constraintsOf s h)) ≡ hardSum f (constraintsOf s h)
-  pub soft-left : soft + softSum f (drop i (constraintsOf s h)) ≡ softSum f (constraintsOf s h)
+  pub walk : Walk (countsIn h) s (h .constraints) i next (decodedOf s h)
+  pub hard-left : hard + hardSum f (drop i (decodedOf s h)) ≡ hardSum f (decodedOf s h)
+  pub soft-left : soft + softSum f (drop i (decodedOf s h)) ≡ softSum f (decodedOf s h)
 
 module _ {s : List ℕ} {h : Head} {b u x gs l₀ : List ℕ} (w : Walkable s h b u x gs l₀) where
   pub charged-start : (f : Kind → ℕ) → Charged s h f l₀ (h .start) 0 0 0
@@ -69,9 +69,9 @@ module _ {s : List ℕ} {h : Head} {b u x gs l₀ : List ℕ} (w : Walkable s h 
         room = w .room;
         hard-most = omega arith;
         soft-most = omega arith;
-        walk = walk-start (countsIn h) s (h .constraints) (h .start) (constraintsOf s h) (w .whole);
-        hard-left = zero-add (hardSum f (constraintsOf s h));
-        soft-left = zero-add (softSum f (constraintsOf s h));
+        walk = walk-start (countsIn h) s (h .constraints) (h .start) (decodedOf s h) (w .whole);
+        hard-left = zero-add (hardSum f (decodedOf s h));
+        soft-left = zero-add (softSum f (decodedOf s h));
       }
 
   module _ {f : Kind → ℕ} {l : List ℕ} {next hard soft i : ℕ} (a : Charged s h f l next hard soft i) where
@@ -105,7 +105,7 @@ module _ {s : List ℕ} {h : Head} {b u x gs l₀ : List ℕ} (w : Walkable s h 
     pub amounts-small : (hard ≤ 17592186044416) × (soft ≤ 17592186044416000)
     amounts-small = (omega (arith, a .passed, a .hard-most, w .count), omega (arith, a .passed, a .soft-most, w .count))
 
-    pub charged-end : h .constraints ≤ i → (hard ≡ hardSum f (constraintsOf s h)) × (soft ≡ softSum f (constraintsOf s h))
+    pub charged-end : h .constraints ≤ i → (hard ≡ hardSum f (decodedOf s h)) × (soft ≡ softSum f (decodedOf s h))
     unfolding hardSum softSum
     charged-end k =
         let none = walk-end (a .walk) k in

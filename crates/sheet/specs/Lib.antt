@@ -1,3 +1,5 @@
 pub mod Amounts
 pub mod Same
 pub mod Score
+pub mod Ready
+pub mod Right

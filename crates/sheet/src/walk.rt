@@ -11,7 +11,7 @@ ghost use Prim.Native.Nat.{_+_, _*_, _≤_, _<_};
 ghost use lib.Dec.{eqb};
 ghost use Rattle.constraint.specs.Answers.{countsIn};
 ghost use Rattle.deviation.specs.Charge.{chargeOf};
-ghost use Rattle.sheet.specs.Amounts.{hardSum, softSum, constraintsOf, Walkable};
+ghost use Rattle.sheet.specs.Amounts.{hardSum, softSum, decodedOf, Walkable};
 
 // Infeasibility and objective, which are never added together.
 pub struct Score {
@@ -58,7 +58,7 @@ pub fn charge_all(
     list: &mut [u16],
 ) -> Score
     requires { ⌜ Walkable (now file) head (now bytes) (now uses) (now used) (now groups) (now list) ⌝ }
-    ensures { λ r. ⌜ (r .infeasibility .0 ≡ hardSum (chargeOf (head .events * head .times) (head .times) (now (bytes .entry)) (now (uses .entry)) (now (used .entry)) (now (groups .entry))) (constraintsOf (now (file .entry)) head)) × (r .objective .0 ≡ softSum (chargeOf (head .events * head .times) (head .times) (now (bytes .entry)) (now (uses .entry)) (now (used .entry)) (now (groups .entry))) (constraintsOf (now (file .entry)) head)) ⌝ }
+    ensures { λ r. ⌜ (r .infeasibility .0 ≡ hardSum (chargeOf (head .events * head .times) (head .times) (now (bytes .entry)) (now (uses .entry)) (now (used .entry)) (now (groups .entry))) (decodedOf (now (file .entry)) head)) × (r .objective .0 ≡ softSum (chargeOf (head .events * head .times) (head .times) (now (bytes .entry)) (now (uses .entry)) (now (used .entry)) (now (groups .entry))) (decodedOf (now (file .entry)) head)) ⌝ }
 {
     let most = head.constraints as usize;
     let mut next = head.start;
