@@ -3,3 +3,4 @@ pub mod Same
 pub mod Score
 pub mod Ready
 pub mod Right
+pub mod Answers

@@ -54,16 +54,16 @@ event-at d te (suc n) e h =
     (λ (l : e < n). List·getD-append (eventsOf d te n) _ noEvent e (rw length-events l) ∙ event-at d te n e l)
     (eq-or-lt-of-le (le-of-suc-le-suc h))
 
-module _ {s d te tg : List ℕ} {h : Head} (a : Accepted s d te tg h) where
-  -- the instance has the durations of the table
-  pub accepted-lasts : Lasts (instanceOf s d te tg h) (h .times) (h .events) d
-  accepted-lasts =
-      record {
-        times = refl;
-        count = length-events d te (h .events);
-        durations = λ k l. ap (λ (v : Event). v .duration) (event-at d te (h .events) k l);
-      }
+-- an instance whose events are in tables has the durations of the table
+pub tables-last : (d te : List ℕ) (i : Instance) (T n : ℕ) → i .times ≡ T → i .events ≡ eventsOf d te n → Lasts i T n d
+tables-last d te i T n t e =
+    record {
+      times = t;
+      count = rw e (length-events d te n);
+      durations = λ k l. rw e (ap (λ (v : Event). v .duration) (event-at d te n k l));
+    }
 
+module _ {s d te tg : List ℕ} {h : Head} (a : Accepted s d te tg h) where
   -- its constraints are those that the walk decodes
   pub accepted-whole : repeat (h .constraints) (decodedAt (countsIn h) s) (h .start) ≡ got (instanceOf s d te tg h .constraints) (length s)
   accepted-whole = rw sub-zero at (a .walk .left)
