@@ -144,7 +144,8 @@ fn busy_at(s: &[u8], at: usize, head: Head) -> Fields
 }
 
 fn spread_at(s: &[u8], at: usize, head: Head, list: &mut [u16]) -> Fields
-    requires { ⌜ (length (now list) ≡ 2048) × (head .events ≤ 2048) ⌝ }
+    requires { ⌜ length (now list) ≡ 2048 ⌝ }
+    requires { ⌜ head .events ≤ 2048 ⌝ }
     ensures { λ r. ⌜ saidFields (now (list .exit)) r ≡ spreadAt (countsIn head) (now (s .entry)) at ⌝ }
 {
     let l = list_at(s, at, head.events, list);
@@ -172,7 +173,8 @@ fn spread_at(s: &[u8], at: usize, head: Head, list: &mut [u16]) -> Fields
 
 // The fields of a cluster, or of an idle limit.
 fn over_groups_at(s: &[u8], at: usize, idle: bool, head: Head, list: &mut [u16]) -> Fields
-    requires { ⌜ (length (now list) ≡ 2048) × (head .groups ≤ 2048) ⌝ }
+    requires { ⌜ length (now list) ≡ 2048 ⌝ }
+    requires { ⌜ head .groups ≤ 2048 ⌝ }
     ensures { λ r. ⌜ saidFields (now (list .exit)) r ≡ overGroupsAt (countsIn head) (now (s .entry)) at (cond idle idleKind cluster) ⌝ }
 {
     let r = reference(s, at, 0, head.resources);
@@ -201,7 +203,9 @@ fn over_groups_at(s: &[u8], at: usize, idle: bool, head: Head, list: &mut [u16])
 
 // The fields of kind k, from 1 to 8.
 pub fn fields_at(s: &[u8], at: usize, k: u32, head: Head, list: &mut [u16]) -> Fields
-    requires { ⌜ (length (now list) ≡ 2048) × ((head .events ≤ 2048) × (head .groups ≤ 2048)) ⌝ }
+    requires { ⌜ length (now list) ≡ 2048 ⌝ }
+    requires { ⌜ head .events ≤ 2048 ⌝ }
+    requires { ⌜ head .groups ≤ 2048 ⌝ }
     ensures { λ r. ⌜ saidFields (now (list .exit)) r ≡ fieldsAt (countsIn head) (now (s .entry)) at k ⌝ }
 {
     match k {

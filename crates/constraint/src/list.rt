@@ -10,7 +10,8 @@ ghost use Rattle.constraint.specs.Answers.{saidList};
 
 // A list of references to n things; the answer has its length.
 pub fn list_at(s: &[u8], at: usize, n: u32, list: &mut [u16]) -> Number
-    requires { ⌜ (n ≤ length (now list)) × (n < 65536) ⌝ }
+    requires { ⌜ n ≤ length (now list) ⌝ }
+    requires { ⌜ n < 65536 ⌝ }
     ensures { λ r. ⌜ saidList (now (list .exit)) r ≡ listed n (now (s .entry)) at ⌝ }
 {
     let c = limited(s, at, 0, n);

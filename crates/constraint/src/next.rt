@@ -28,7 +28,9 @@ fn refusal_of_fields(x: Fields) -> Refusal
 
 // A constraint without the checks at its end, which an accepted file has passed. Its list stands in the store.
 pub fn constraint_at(s: &[u8], at: usize, head: Head, list: &mut [u16]) -> Next
-    requires { ⌜ (length (now list) ≡ 2048) × ((head .events ≤ 2048) × (head .groups ≤ 2048)) ⌝ }
+    requires { ⌜ length (now list) ≡ 2048 ⌝ }
+    requires { ⌜ head .events ≤ 2048 ⌝ }
+    requires { ⌜ head .groups ≤ 2048 ⌝ }
     ensures { λ r. ⌜ saidNext (now (list .exit)) r ≡ decodedAt (countsIn head) (now (s .entry)) at ⌝ }
 {
     let a = limited(s, at, 1, 8);

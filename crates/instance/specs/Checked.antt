@@ -1,28 +1,60 @@
 -- The constraints as the reader checks them are those of the instance.
-use Prim.Native.Nat.{ℕ, zero, suc, _+_, _≤_, _<_}
+use Prim.Native.Nat.{ℕ, _≤_, _<_}
 use mathlib.Core.Path.{_≡_, refl, sym, ap, _∙_}
 use mathlib.Core.List.{List}
 use lib.ListN.{length}
 use native.Mathlib.Omega.{arith}
 use Rattle.scope.specs.Parsed.{Parsed, got, refused, andThen, repeat}
 use Rattle.scope.specs.Kinds.{Event, Kind, Constraint, users, rulesOf, longest}
-use Rattle.scope.specs.Instance.{Counts, Instance, countsOf, constraintAt}
+use Rattle.scope.specs.Number.{limited}
+use Rattle.scope.specs.Instance.{Counts, Instance, countsOf, constraintAt, parse}
 use Rattle.scope.specs.declared.Refusal.{Refusal}
 use Rattle.number.specs.declared.Number.{Number}
-use Rattle.number.specs.Answers.{said, refusalOf}
+use Rattle.number.specs.Answers.{said, refusalOf, refusedBy}
+use Rattle.number.specs.Ladder.{step-number, stop}
 use Rattle.tables.specs.Rows.{rows, eventsOf}
 use Rattle.tables.specs.Laws.{length-rows, length-events}
 use Rattle.tables.specs.Reading.{event-row, events-in, groups-in}
-use Rattle.tables.specs.Users.{occurrencesIn, users-counted}
+use Rattle.tables.specs.Users.{Counted, users-counted}
 use Rattle.constraint.specs.declared.kinds.Head.{Head}
 use Rattle.constraint.specs.Answers.{countsIn}
 use Rattle.constraint.specs.Decoded.{checkedAt, checked-same, constraint-checked}
-use Rattle.instance.specs.Answers.{headStart, constraintsOf, instanceOf}
-use Rattle.instance.specs.Ends.{ends, listOf, endOf, wholeAt, ends-got, ends-of-refused, whole-same, whole-got}
-use Rattle.instance.specs.File.{Start, withConstraints, constraintIn}
-use Rattle.instance.specs.Length.{listLength, list-length}
-use Rattle.instance.specs.Ready.{Lent, checkedBy}
-use Rattle.instance.specs.Start.{StartIn}
+use Rattle.instance.specs.declared.reader.Sizes.{Sizes}
+use Rattle.instance.specs.declared.reader.SizesRead.{SizesRead}
+use Rattle.instance.specs.Answers.{saidTables, headStart, constraintsOf, instanceOf}
+use Rattle.instance.specs.Ends.{ends, endOf, wholeAt, ends-got, ends-of-refused, whole-same, whole-got, whole-refused, whole-left, whole-end}
+use Rattle.instance.specs.File.{Start, withConstraints, constraintIn, tablesAt, restAt, parse-parts}
+use Rattle.instance.specs.Length.{list-length}
+use Rattle.instance.specs.Ready.{Lent, lengthBy, checkedBy, checkedAll, checkedWhole, byCounts, byRows, checkedBy-same}
+use Rattle.instance.specs.Ladder.{step-tables}
+use Rattle.instance.specs.Start.{StartIn, tables-start}
+
+-- the walk by counts gives the whole by rows, where the counts are those of the rows; x is what the walk answered
+module _ (users te groups : List ℕ) (h : Head) (s : List ℕ) (x : Number) where
+  pub counted-refused : (r : Refusal)
+      → Counted te (h .events) users
+      → said x ≡ ends (checkedAll (byCounts users) groups h s)
+      → x ≡ Number.Refused r
+      → said x ≡ ends (checkedWhole (byRows te (h .events)) groups h s)
+  counted-refused r c e t = whole-refused s (h .constraints) _ _ (h .start) x e (checkedBy-same _ _ groups h s (c .each)) t
+
+  pub counted-left : (v end : ℕ)
+      → Counted te (h .events) users
+      → said x ≡ ends (checkedAll (byCounts users) groups h s)
+      → x ≡ Number.Value v end
+      → end < length s
+      → refused 6 end ≡ ends (checkedWhole (byRows te (h .events)) groups h s)
+  counted-left v end c e t l = whole-left s (h .constraints) _ _ (h .start) x e (checkedBy-same _ _ groups h s (c .each)) t l
+
+  pub counted-end : (v end : ℕ)
+      → Counted te (h .events) users
+      → said x ≡ ends (checkedAll (byCounts users) groups h s)
+      → x ≡ Number.Value v end
+      → length s ≤ end
+      → got 0 end ≡ ends (checkedWhole (byRows te (h .events)) groups h s)
+  counted-end v end c e t l = whole-end s (h .constraints) _ _ (h .start) x e (checkedBy-same _ _ groups h s (c .each)) t l
+
+pub ruleset counted = (counted-refused, counted-left, counted-end)
 
 module _ (s d te tg : List ℕ) (h : Head) (i : StartIn (headStart d te tg h)) where
   -- the counts are those of the tables
@@ -30,42 +62,38 @@ module _ (s d te tg : List ℕ) (h : Head) (i : StartIn (headStart d te tg h)) w
   counts-are = rw (length-events d te (h .events), length-rows tg (h .groups))
 
   -- how many events use a resource, by the rows of the events
-  abbrev used : ℕ → ℕ
-  used r = occurrencesIn r (rows te (h .events))
-
-  used-right : (r : ℕ) → used r ≡ length (users r (eventsOf d te (h .events)))
+  used-right : (r : ℕ) → byRows te (h .events) r ≡ length (users r (eventsOf d te (h .events)))
   used-right r = sym (users-counted r (h .resources) d te (h .events) (λ g k. event-row d te (h .events) g (i .events) k))
 
-  pub checked-right : (at : ℕ) → checkedBy (λ r. occurrencesIn r (rows te (h .events))) tg h s at ≡ constraintIn (headStart d te tg h) s at
+  checked-right : (at : ℕ) → checkedBy (byRows te (h .events)) tg h s at ≡ constraintIn (headStart d te tg h) s at
   checked-right at =
       let es = eventsOf d te (h .events) in
       let gs = rows tg (h .groups) in
       sym
       (constraint-checked (h .times) (h .resources) es gs s at
       ∙ rw counts-are
-      (checked-same (countsIn h) (λ k. longest (rulesOf (h .times) es gs k)) (listLength (h .times) used gs) s at
-      (λ k. list-length (h .times) used es gs k (i .sizes .times-low) used-right (i .groups))))
+      (checked-same (countsIn h) (λ k. longest (rulesOf (h .times) es gs k)) (lengthBy (byRows te (h .events)) tg h) s at
+      (λ k. list-length (h .times) (byRows te (h .events)) es gs k (i .sizes .times-low) used-right (i .groups))))
+
+  -- the constraints of the instance, up to the file's end
+  abbrev wholeIn : Parsed (List Constraint)
+  wholeIn = wholeAt s (h .constraints) (constraintIn (headStart d te tg h) s) (h .start)
 
   -- the whole walk, where x is what it answered
-  module _ (x : Number) (e : said x ≡ ends (wholeAt s (h .constraints) (checkedBy (λ r. occurrencesIn r (rows te (h .events))) tg h s) (h .start))) where
-    here : ends (wholeAt s (h .constraints) (constraintIn (headStart d te tg h) s) (h .start)) ≡ said x
+  module _ (x : Number) (e : said x ≡ ends (checkedWhole (byRows te (h .events)) tg h s)) where
+    here : ends wholeIn ≡ said x
     here = sym (e ∙ ap ends (whole-same s (h .constraints) _ (constraintIn (headStart d te tg h) s) (h .start) checked-right))
 
-    pub walk-stopped : (g : Refusal) {f : Refusal}
-        → x ≡ Number.Refused f
-        → g ≡ refusalOf x
-        → wholeAt s (h .constraints) (constraintIn (headStart d te tg h) s) (h .start) ≡ refused (g .number) (g .value)
-    walk-stopped g t k =
-        rw (k, t) (ends-of-refused (wholeAt s (h .constraints) (constraintIn (headStart d te tg h) s) (h .start)) (here ∙ ap said t))
+    pub walk-stopped : (g : Refusal) {f : Refusal} → x ≡ Number.Refused f → g ≡ refusalOf x → wholeIn ≡ refused (g .number) (g .value)
+    walk-stopped g t k = rw (k, t) (ends-of-refused wholeIn (here ∙ ap said t))
 
     pub walk-accepted : {v end : ℕ}
         → x ≡ Number.Value v end
         → got (instanceOf s d te tg h) (endOf (constraintsOf s d te tg h))
-        ≡ andThen (wholeAt s (h .constraints) (constraintIn (headStart d te tg h) s) (h .start))
-        (λ cs end. got (withConstraints (headStart d te tg h) cs) end)
+        ≡ andThen wholeIn (λ cs end. got (withConstraints (headStart d te tg h) cs) end)
     unfolding constraintsOf
     walk-accepted {v} {end} t =
-        let w = ends-got (wholeAt s (h .constraints) (constraintIn (headStart d te tg h) s) (h .start)) (here ∙ ap said t) in
+        let w = ends-got wholeIn (here ∙ ap said t) in
         let l = whole-got s (h .constraints) (constraintIn (headStart d te tg h) s) (h .start) w in
         rw (w, l .list)
 
@@ -86,3 +114,47 @@ start-lent d te tg list h i a b c =
       events = events-in d te (h .events) (omega (arith, z .resources-high)) (omega (arith, z .events-high)) (i .events);
       rows = groups-in tg (h .groups) (z .times-high) (omega (arith, i .group-count)) (i .groups);
     }
+
+-- the whole file, where x filled the tables, k counted the constraints and y walked over them
+abbrev headOf : Sizes → ℕ → ℕ → Head
+headOf w count start =
+    record {
+      times = w .times;
+      events = w .events;
+      resources = w .resources;
+      groups = w .groups;
+      constraints = count;
+      start = start;
+    }
+
+module _ (s d te tg : List ℕ) (x : SizesRead) (w : Sizes) (at : ℕ) (k : Number) (count start : ℕ) (y : Number) where
+  pub read-stopped : (g f : Refusal)
+      → saidTables d te tg x ≡ tablesAt s
+      → x ≡ SizesRead.Value w at
+      → said k ≡ limited 0 4096 s at
+      → k ≡ Number.Value count start
+      → said y ≡ ends (checkedWhole (byRows te (w .events)) tg (headOf w count start) s)
+      → y ≡ Number.Refused f
+      → g ≡ refusalOf y
+      → refusedBy g ≡ parse s
+  unfolding restAt
+  read-stopped g f a b c e h t r =
+      let i = tables-start s d te tg x w at a b in
+      rw parse-parts
+      (step-tables d te tg x _ _ w at _ a b
+      (step-number k _ _ count start _ c e (stop _ _ _ _ (walk-stopped s d te tg (headOf w count start) i y h g t r))))
+
+  pub read-accepted : (v end : ℕ)
+      → saidTables d te tg x ≡ tablesAt s
+      → x ≡ SizesRead.Value w at
+      → said k ≡ limited 0 4096 s at
+      → k ≡ Number.Value count start
+      → said y ≡ ends (checkedWhole (byRows te (w .events)) tg (headOf w count start) s)
+      → y ≡ Number.Value v end
+      → got (instanceOf s d te tg (headOf w count start)) (endOf (constraintsOf s d te tg (headOf w count start))) ≡ parse s
+  unfolding restAt
+  read-accepted v end a b c e h t =
+      let i = tables-start s d te tg x w at a b in
+      rw parse-parts
+      (step-tables d te tg x _ _ w at _ a b
+      (step-number k _ _ count start _ c e (walk-accepted s d te tg (headOf w count start) i y h t)))

@@ -102,8 +102,9 @@ tables-got s {t} {end} e =
     in
     record { start = subst StartIn h w; ahead = omega (arith, z .ahead); inside = omega (arith, z .inside) }
 
-pub tables-value : (s d te tg : List ℕ) (x : SizesRead) {w : Sizes} {n : ℕ}
+-- what is known of the tables that a call filled
+pub tables-start : (s d te tg : List ℕ) (x : SizesRead) (w : Sizes) (n : ℕ)
     → saidTables d te tg x ≡ tablesAt s
     → x ≡ SizesRead.Value w n
-    → TablesAt s (startOf d te tg w) n
-tables-value s d te tg x e h = tables-got s (sym e ∙ ap (saidTables d te tg) h)
+    → StartIn (startOf d te tg w)
+tables-start s d te tg x w n e h = tables-got s (sym e ∙ ap (saidTables d te tg) h) .start

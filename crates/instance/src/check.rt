@@ -9,11 +9,10 @@ use scope::Refusal;
 ghost use mathlib.Core.Path.{_≡_};
 ghost use mathlib.Core.List.{List};
 ghost use Prim.Native.Nat.{ℕ};
-ghost use lib.ListN.{getD};
 ghost use Rattle.scope.specs.Kinds.{lowOf, highOf};
 ghost use Rattle.scope.specs.Instance.{ended as endedAt};
 ghost use Rattle.constraint.specs.Answers.{kindOf, saidNext};
-ghost use Rattle.instance.specs.Ready.{Ready, checkedBy};
+ghost use Rattle.instance.specs.Ready.{Ready, checkedBy, byCounts};
 
 // "a counted list is longer than 255"
 const LIST_TOO_LONG: u8 = 4;
@@ -78,7 +77,7 @@ pub fn checked_at(
     list: &mut [u16],
 ) -> Next
     requires { ⌜ Ready (now users) (now groups) (now list) head ⌝ }
-    ensures { λ r. ⌜ saidNext (now (list .exit)) r ≡ checkedBy (λ r. getD (now (users .entry)) r 0) (now (groups .entry)) head (now (s .entry)) at ⌝ }
+    ensures { λ r. ⌜ saidNext (now (list .exit)) r ≡ checkedBy (byCounts (now (users .entry))) (now (groups .entry)) head (now (s .entry)) at ⌝ }
 {
     let x = constraint_at(s, at, head, list);
     let Next::Read(c, end) = x else {

@@ -4,15 +4,14 @@ use constraint::Kind;
 use tables::row_len;
 ghost use mathlib.Core.Path.{_≡_};
 ghost use Prim.Native.Nat.{_-_, _≤_};
-ghost use lib.ListN.{length, getD};
+ghost use lib.ListN.{length};
 ghost use Rattle.number.specs.Each.{Each};
 ghost use Rattle.number.specs.Lists.{leading};
-ghost use Rattle.tables.specs.Rows.{rowAt, rows};
+ghost use Rattle.tables.specs.Rows.{rowAt};
 ghost use Rattle.constraint.specs.Answers.{kindOf, countsIn};
 ghost use Rattle.constraint.specs.Valid.{InRange};
-ghost use Rattle.instance.specs.Length.{listLength};
 ghost use Rattle.instance.specs.Inner.{GroupIn, innerRows};
-ghost use Rattle.instance.specs.Ready.{Ready};
+ghost use Rattle.instance.specs.Ready.{Ready, lengthBy, byCounts};
 
 fn monus(x: u32, y: u32) -> u32
     ensures { λ r. ⌜ r ≡ x - y ⌝ }
@@ -32,7 +31,9 @@ fn group_size(groups: &[u8], group: u32) -> u32
 
 // How many members but first and last the groups of a list have.
 fn inner_length(groups: &[u8], list: &[u16], count: u32) -> u32
-    requires { ⌜ (count ≤ length (now list)) × ((count ≤ 2048) × Each (GroupIn (now groups)) (leading count (now list))) ⌝ }
+    requires { ⌜ count ≤ length (now list) ⌝ }
+    requires { ⌜ count ≤ 2048 ⌝ }
+    requires { ⌜ Each (GroupIn (now groups)) (leading count (now list)) ⌝ }
     ensures { λ r. ⌜ r ≡ innerRows (now (groups .entry)) (leading count (now (list .entry))) ⌝ }
 {
     let most = count as usize;
@@ -49,8 +50,9 @@ fn inner_length(groups: &[u8], list: &[u16], count: u32) -> u32
 
 // Where users[r] is how many events use resource r.
 pub fn list_length(k: Kind, head: Head, users: &[u32], groups: &[u8], list: &[u16]) -> u32
-    requires { ⌜ Ready (now users) (now groups) (now list) head × InRange (countsIn head) (kindOf (now list) k) ⌝ }
-    ensures { λ r. ⌜ r ≡ listLength (head .times) (λ r. getD (now (users .entry)) r 0) (rows (now (groups .entry)) (head .groups)) (kindOf (now (list .entry)) k) ⌝ }
+    requires { ⌜ Ready (now users) (now groups) (now list) head ⌝ }
+    requires { ⌜ InRange (countsIn head) (kindOf (now list) k) ⌝ }
+    ensures { λ r. ⌜ r ≡ lengthBy (byCounts (now (users .entry))) (now (groups .entry)) head (kindOf (now (list .entry)) k) ⌝ }
 {
     match k {
         Kind::Clash(f) => {

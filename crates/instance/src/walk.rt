@@ -6,15 +6,10 @@ use number::Number;
 use scope::Refusal;
 use tables::count_members;
 ghost use mathlib.Core.Path.{_≡_};
-ghost use Prim.Native.Nat.{_≤_};
-ghost use lib.ListN.{length, getD};
-ghost use Rattle.scope.specs.Parsed.{repeat};
 ghost use Rattle.number.specs.Answers.{said};
-ghost use Rattle.tables.specs.Rows.{rows, RowsIn};
-ghost use Rattle.tables.specs.Users.{occurrencesIn};
 ghost use Rattle.instance.specs.Answers.{refusalOfNext};
-ghost use Rattle.instance.specs.Ends.{ends, wholeAt};
-ghost use Rattle.instance.specs.Ready.{Ready, Lent, checkedBy};
+ghost use Rattle.instance.specs.Ends.{ends};
+ghost use Rattle.instance.specs.Ready.{Ready, Lent, checkedAll, checkedWhole, byCounts, byRows};
 
 // "bytes left over"
 const BYTES_LEFT: u8 = 6;
@@ -34,7 +29,7 @@ fn refusal_of_next(x: Next) -> Refusal
 // Where the constraints end.
 fn constraints_end(s: &[u8], head: Head, users: &[u32], groups: &[u8], list: &mut [u16]) -> Number
     requires { ⌜ Ready (now users) (now groups) (now list) head ⌝ }
-    ensures { λ r. ⌜ said r ≡ ends (repeat (head .constraints) (checkedBy (λ r. getD (now (users .entry)) r 0) (now (groups .entry)) head (now (s .entry))) (head .start)) ⌝ }
+    ensures { λ r. ⌜ said r ≡ ends (checkedAll (byCounts (now (users .entry))) (now (groups .entry)) head (now (s .entry))) ⌝ }
 {
     let most = head.constraints as usize;
     let mut next = head.start;
@@ -59,7 +54,7 @@ pub fn constraints_whole(
     list: &mut [u16],
 ) -> Number
     requires { ⌜ Lent (now resources) (now groups) (now list) head ⌝ }
-    ensures { λ r. ⌜ said r ≡ ends (wholeAt (now (s .entry)) (head .constraints) (checkedBy (λ r. occurrencesIn r (rows (now (resources .entry)) (head .events))) (now (groups .entry)) head (now (s .entry))) (head .start)) ⌝ }
+    ensures { λ r. ⌜ said r ≡ ends (checkedWhole (byRows (now (resources .entry)) (head .events)) (now (groups .entry)) head (now (s .entry))) ⌝ }
 {
     let mut users = [0u32; 256];
     count_members(resources, head.events, &mut users);

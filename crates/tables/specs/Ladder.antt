@@ -7,7 +7,8 @@ use Rattle.scope.specs.Kinds.{Event}
 use Rattle.scope.specs.declared.Refusal.{Refusal}
 use Rattle.number.specs.declared.Number.{Number}
 use Rattle.number.specs.declared.Number.the-variants.{Value, Refused}
-use Rattle.number.specs.Answers.{refusedBy, refusalOf}
+use Rattle.number.specs.Answers.{said, refusedBy}
+use Rattle.number.specs.Ladder.{step, ladder as numberLadder}
 use Rattle.tables.specs.Rows.{rowOf, rows, eventsOf}
 use Rattle.tables.specs.Answers.{saidRow, saidRows, saidEvent, saidEvents}
 
@@ -37,3 +38,25 @@ module _ (m : ℕ) (d t : List ℕ) (x : Number) where
 
   pub events-refused : {p : Parsed (List Event)} {f : Refusal} → saidEvents m d t x ≡ p → x ≡ Refused f → p ≡ refusedBy f
   events-refused e h = sym e ∙ ap (saidEvents m d t) h
+
+-- a row goes to the rest; a refusal that is handed on in an answer of another meaning
+pub step-row : {B : Type 0} (l : List ℕ) (x : Number) (p : Parsed (List ℕ)) (f : List ℕ → ℕ → Parsed B) (v n : ℕ) (r : Parsed B)
+    → saidRow l x ≡ p
+    → x ≡ Value v n
+    → r ≡ f (rowOf l) n
+    → r ≡ andThen p f
+step-row l x p f v n r e h k = step p f (rowOf l) n r (row-value l x e h) k
+
+pub duration-stop : (l : List ℕ) (x : Number) (p : Parsed ℕ) (g : ℕ → ℕ → Parsed Event) (f : Refusal)
+    → said x ≡ p
+    → x ≡ Refused f
+    → saidEvent l x ≡ andThen p g
+duration-stop l x p g f e h = rw (← e, h)
+
+pub row-stop : (l m : List ℕ) (x : Number) (p : Parsed (List ℕ)) (g : List ℕ → ℕ → Parsed Event) (f : Refusal)
+    → saidRow l x ≡ p
+    → x ≡ Refused f
+    → saidEvent m x ≡ andThen p g
+row-stop l m x p g f e h = rw (← e, h)
+
+pub ruleset ladder = (numberLadder, step-row, duration-stop, row-stop)

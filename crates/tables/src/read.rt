@@ -12,7 +12,8 @@ ghost use Rattle.tables.specs.Answers.{saidRow, saidRows, saidEvent, sai
 
 // A list of references to n things, into a row.
 fn row_at(s: &[u8], at: usize, n: u32, row: &mut [u8]) -> Number
-    requires { ⌜ (length (now row) ≡ 126) × (n ≤ 125) ⌝ }
+    requires { ⌜ length (now row) ≡ 126 ⌝ }
+    requires { ⌜ n ≤ 125 ⌝ }
     ensures { λ r. ⌜ saidRow (now (row .exit)) r ≡ listed n (now (s .entry)) at ⌝ }
 {
     let c = limited(s, at, 0, n);
@@ -39,7 +40,8 @@ fn row_at(s: &[u8], at: usize, n: u32, row: &mut [u8]) -> Number
 
 // An event: the answer has its duration, the row its resources.
 fn event_at(s: &[u8], at: usize, times: u32, resources: u32, row: &mut [u8]) -> Number
-    requires { ⌜ (length (now row) ≡ 126) × (resources ≤ 125) ⌝ }
+    requires { ⌜ length (now row) ≡ 126 ⌝ }
+    requires { ⌜ resources ≤ 125 ⌝ }
     ensures { λ r. ⌜ saidEvent (now (row .exit)) r ≡ eventAt times resources (now (s .entry)) at ⌝ }
 {
     let d = limited(s, at, 1, times);
@@ -63,7 +65,11 @@ pub fn events_at(
     durations: &mut [u8],
     table: &mut [u8],
 ) -> Number
-    requires { ⌜ (length (now durations) ≡ 1024) × ((length (now table) ≡ 129024) × ((count ≤ 1024) × ((times ≤ 125) × (resources ≤ 125)))) ⌝ }
+    requires { ⌜ length (now durations) ≡ 1024 ⌝ }
+    requires { ⌜ length (now table) ≡ 129024 ⌝ }
+    requires { ⌜ count ≤ 1024 ⌝ }
+    requires { ⌜ times ≤ 125 ⌝ }
+    requires { ⌜ resources ≤ 125 ⌝ }
     ensures { λ r. ⌜ saidEvents count (now (durations .exit)) (now (table .exit)) r ≡ repeat count (eventAt times resources (now (s .entry))) at ⌝ }
 {
     let most = count as usize;
@@ -85,7 +91,8 @@ pub fn events_at(
 
 // The time groups, a row for each; the answer has their count.
 pub fn groups_at(s: &[u8], at: usize, times: u32, table: &mut [u8]) -> Number
-    requires { ⌜ (length (now table) ≡ 258048) × (times ≤ 125) ⌝ }
+    requires { ⌜ length (now table) ≡ 258048 ⌝ }
+    requires { ⌜ times ≤ 125 ⌝ }
     ensures { λ r. ⌜ saidRows (now (table .exit)) r ≡ groupsAt times (now (s .entry)) at ⌝ }
 {
     let c = limited(s, at, 0, 1024);

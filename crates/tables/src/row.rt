@@ -16,7 +16,8 @@ pub fn row_len(table: &[u8], row: usize) -> usize
 
 // Its member number k, from 0.
 pub fn row_member(table: &[u8], row: usize, k: usize) -> u8
-    requires { ⌜ RowIn (now table) row × (k < length (rowAt (now table) row)) ⌝ }
+    requires { ⌜ RowIn (now table) row ⌝ }
+    requires { ⌜ k < length (rowAt (now table) row) ⌝ }
     ensures { λ r. ⌜ r ≡ getD (rowAt (now (table .entry)) row) k 0 ⌝ }
 {
     let at = row * 126 + 1 + k;

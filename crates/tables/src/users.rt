@@ -9,7 +9,10 @@ ghost use Rattle.tables.specs.Users.{Counted};
 
 // One more for each member of a row.
 fn count_row(table: &[u8], row: usize, counts: &mut [u32])
-    requires { ⌜ (row < 1024) × (RowsIn (now table) (row + 1) × ((length (now counts) ≡ 256) × Counted (now table) row (now counts))) ⌝ }
+    requires { ⌜ row < 1024 ⌝ }
+    requires { ⌜ RowsIn (now table) (row + 1) ⌝ }
+    requires { ⌜ length (now counts) ≡ 256 ⌝ }
+    requires { ⌜ Counted (now table) row (now counts) ⌝ }
     ensures { λ _. ⌜ Counted (now (table .entry)) (row + 1) (now (counts .exit)) ⌝ }
 {
     let n = row_len(table, row);
@@ -24,7 +27,10 @@ fn count_row(table: &[u8], row: usize, counts: &mut [u32])
 
 // The first n rows, into counts that are 0.
 pub fn count_members(table: &[u8], n: u32, counts: &mut [u32])
-    requires { ⌜ (n ≤ 1024) × (RowsIn (now table) n × ((length (now counts) ≡ 256) × ((x : ℕ) → getD (now counts) x 0 ≡ 0))) ⌝ }
+    requires { ⌜ n ≤ 1024 ⌝ }
+    requires { ⌜ RowsIn (now table) n ⌝ }
+    requires { ⌜ length (now counts) ≡ 256 ⌝ }
+    requires { ⌜ ((x : ℕ) → getD (now counts) x 0 ≡ 0) ⌝ }
     ensures { λ _. ⌜ Counted (now (table .entry)) n (now (counts .exit)) ⌝ }
 {
     let most = n as usize;

@@ -2,11 +2,10 @@
 -- ladder each.
 use borrow.Author.Needs.{needs}
 use mathlib.Core.Path.{_∙_}
-use Rattle.number.specs.Ladder.{stop, step-number}
-use Rattle.instance.specs.Checked.{start-lent, walk-stopped, walk-accepted}
+use Rattle.instance.specs.Checked.{start-lent, read-stopped, read-accepted}
 use Rattle.instance.specs.File.{restAt, parse-parts}
-use Rattle.instance.specs.Ladder.{ladder, step-tables}
-use Rattle.instance.specs.Start.{tables-value}
+use Rattle.instance.specs.Ladder.{ladder}
+use Rattle.instance.specs.Start.{tables-start}
 use Rattle.instance.proofs.reader.read.Statement.{statement}
 use Rattle.instance.proofs.reader.read.Tie as tie
 
@@ -62,12 +61,11 @@ returns-2 c = rw parse-parts (search ladder depth 14)
 constraints-whole-requires : tie.Need-constraints-whole-requires
 constraints-whole-requires c κs =
     let f = c .before .before .before .before .before .before .before .before .before .before .before .before .before .before .before .before .tables-at in
-    let d = f .last .1 .0 in
-    let te = f .last .1 .1 .0 in
-    let tg = f .last .1 .1 .1 .0 in
-    let i = tables-value _ d te tg _ (f .ensures) (c .before .before .before .before .before .before .before .before .t .given .1) .start in
     let p = c .before .before .before .before .before .before .before .before .before .before .before .before .before .before .before .before .before .before .before .before .before .before .before .before .before .pre in
-    start-lent d te tg _ _ i (f .kept .1 .1 .0 ∙ p .tables .resources-long) (f .kept .1 .1 .1 .0 ∙ p .tables .groups-long) (p .list-long)
+    start-lent _ _ _ _ _ (tables-start _ (f .last .1 .0) (f .last .1 .1 .0) (f .last .1 .1 .1 .0) _ _ _ (f .ensures) (c .before .before .before .before .before .before .before .before .t .given .1))
+    (f .kept .1 .1 .0 ∙ p .tables .resources-long)
+    (f .kept .1 .1 .1 .0 ∙ p .tables .groups-long)
+    (p .list-long)
 
 enum-told-3 : tie.Need-enum-told-3
 enum-told-3 c = search needs
@@ -91,18 +89,7 @@ same-length-10 : tie.Need-same-length-10
 same-length-10 c = search needs
 
 returns-3 : tie.Need-returns-3
-unfolding restAt
-returns-3 c =
-    let f = c .before .before .before .before .before .before .before .before .before .before .before .before .before .before .before .before .before .before .before .before .before .before .tables-at in
-    let d = f .last .1 .0 in
-    let te = f .last .1 .1 .0 in
-    let tg = f .last .1 .1 .1 .0 in
-    let i = tables-value _ d te tg _ (f .ensures) (c .before .before .before .before .before .before .before .before .before .before .before .before .before .before .t .given .1) .start in
-    rw parse-parts
-    (step-tables d te tg _ _ _ _ _ _ (f .ensures) (c .before .before .before .before .before .before .before .before .before .before .before .before .before .before .t .given .1)
-    (step-number _ _ _ _ _ _ (c .before .before .before .before .before .before .before .before .before .before .before .before .limited .ensures) (c .before .before .before .before .before .before .before .before .before .before .k .given .1)
-    (stop _ _ _ _
-    (walk-stopped _ d te tg _ i _ (c .before .before .before .before .before .constraints-whole .ensures) _ (c .before .enum-told4 .given .1) (c .refusal-of2 .ensures)))))
+returns-3 c = search read-stopped depth 3
 
 same-length-11 : tie.Need-same-length-11
 same-length-11 c = search needs
@@ -117,17 +104,15 @@ same-length-14 : tie.Need-same-length-14
 same-length-14 c = search needs
 
 returns-4 : tie.Need-returns-4
-unfolding restAt
 returns-4 c =
     let f = c .before .before .before .before .before .before .before .before .before .before .before .before .before .before .before .before .before .before .before .before .before .tables-at in
-    let d = f .last .1 .0 in
-    let te = f .last .1 .1 .0 in
-    let tg = f .last .1 .1 .1 .0 in
-    let i = tables-value _ d te tg _ (f .ensures) (c .before .before .before .before .before .before .before .before .before .before .before .before .before .t .given .1) .start in
-    rw parse-parts
-    (step-tables d te tg _ _ _ _ _ _ (f .ensures) (c .before .before .before .before .before .before .before .before .before .before .before .before .before .t .given .1)
-    (step-number _ _ _ _ _ _ (c .before .before .before .before .before .before .before .before .before .before .before .limited .ensures) (c .before .before .before .before .before .before .before .before .before .k .given .1)
-    (walk-accepted _ d te tg _ i _ (c .before .before .before .before .constraints-whole .ensures) (c .enum-told3 .given .1))))
+    read-accepted _ (f .last .1 .0) (f .last .1 .1 .0) (f .last .1 .1 .1 .0) _ _ _ _ _ _ _ _ _
+    (f .ensures)
+    (c .before .before .before .before .before .before .before .before .before .before .before .before .before .t .given .1)
+    (c .before .before .before .before .before .before .before .before .before .before .before .limited .ensures)
+    (c .before .before .before .before .before .before .before .before .before .k .given .1)
+    (c .before .before .before .before .constraints-whole .ensures)
+    (c .enum-told3 .given .1)
 
 pub read-spec : {M : Type 1} → statement M
 read-spec =

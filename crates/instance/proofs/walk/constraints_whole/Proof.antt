@@ -1,9 +1,8 @@
 -- `instance::walk::constraints_whole` meets its contract: users counted, constraints walked, then the test for the end.
 use borrow.Author.Needs.{needs}
-use native.Mathlib.Omega.{arith}
 use mathlib.Core.Path.{refl}
-use Rattle.instance.specs.Ends.{whole-refused, whole-left, whole-end}
-use Rattle.instance.specs.Ready.{checkedBy-same, zeros}
+use Rattle.instance.specs.Checked.{counted}
+use Rattle.instance.specs.Ready.{zeros}
 use Rattle.instance.proofs.walk.constraints_whole.Statement.{statement}
 use Rattle.instance.proofs.walk.constraints_whole.Tie as tie
 
@@ -30,22 +29,19 @@ same-length : tie.Need-same-length
 same-length c = search needs
 
 returns : tie.Need-returns
-returns c =
-    whole-refused _ _ _ _ _ _ (c .before .before .before .before .constraints-end .ensures) (checkedBy-same _ _ _ (c .before .before .before .before .before .before .before .before .before .before .before .before .before .before .args .head) _ (c .before .before .before .before .before .before .before .before .count-members .ensures .each)) (c .enum-told .given .1)
+returns c = search counted depth 8
 
 same-length-2 : tie.Need-same-length-2
 same-length-2 c = search needs
 
 returns-2 : tie.Need-returns-2
-returns-2 c =
-    whole-left _ _ _ _ _ _ (c .before .before .before .before .before .before .constraints-end .ensures) (checkedBy-same _ _ _ (c .before .before .before .before .before .before .before .before .before .before .before .before .before .before .before .before .args .head) _ (c .before .before .before .before .before .before .before .before .before .before .count-members .ensures .each)) (c .before .before .f .given .1) (c .if1 .taken)
+returns-2 c = search counted depth 8
 
 same-length-3 : tie.Need-same-length-3
 same-length-3 c = search needs
 
 returns-3 : tie.Need-returns-3
-returns-3 c =
-    whole-end _ _ _ _ _ _ (c .before .before .before .before .before .before .constraints-end .ensures) (checkedBy-same _ _ _ (c .before .before .before .before .before .before .before .before .before .before .before .before .before .before .before .before .args .head) _ (c .before .before .before .before .before .before .before .before .before .before .count-members .ensures .each)) (c .before .before .f .given .1) (c .if1 .left)
+returns-3 c = search counted depth 8
 
 pub constraints-whole-spec : {M : Type 1} → statement M
 constraints-whole-spec =

@@ -1,6 +1,7 @@
--- `tables::read::event_at` meets its contract: a duration, then a row.
+-- `tables::read::event_at` meets its contract: a duration, then a row, a step of the ladder each.
 use borrow.Author.Needs.{needs}
 use Rattle.scope.specs.Instance.{eventAt}
+use Rattle.tables.specs.Ladder.{ladder}
 use Rattle.tables.proofs.read.event_at.Statement.{statement}
 use Rattle.tables.proofs.read.event_at.Tie as tie
 
@@ -15,7 +16,7 @@ enum-told c = search needs
 
 returns : tie.Need-returns
 unfolding eventAt
-returns c = rw (← (c .before .before .limited .ensures), c .enum-told .given .1)
+returns c = search ladder depth 12
 
 row-at-requires : tie.Need-row-at-requires
 row-at-requires c κs = search needs
@@ -31,15 +32,14 @@ same-length c = search needs
 
 returns-2 : tie.Need-returns-2
 unfolding eventAt
-returns-2 c =
-    rw (← (c .before .before .before .before .before .before .before .before .before .limited .ensures), c .before .before .before .before .before .before .before .d .given .1, ← (c .before .before .before .before .row-at .ensures), c .enum-told2 .given .1)
+returns-2 c = search ladder depth 12
 
 same-length-2 : tie.Need-same-length-2
 same-length-2 c = search needs
 
 returns-3 : tie.Need-returns-3
 unfolding eventAt
-returns-3 c = rw (← (c .before .before .before .before .before .before .before .before .before .before .limited .ensures), c .before .before .before .before .before .before .before .before .d .given .1, ← (c .before .before .before .before .before .row-at .ensures), c .before .r .given .1)
+returns-3 c = search ladder depth 12
 
 pub event-at-spec : {M : Type 1} → statement M
 event-at-spec =
