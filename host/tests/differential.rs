@@ -10,6 +10,7 @@ use std::collections::BTreeMap;
 use std::env;
 use std::hint::black_box;
 use std::panic::{catch_unwind, AssertUnwindSafe};
+use std::thread;
 use std::time::{Duration, Instant};
 use support::cases::{self, Case};
 use timetable::engine::{self, call};
@@ -64,6 +65,16 @@ fn every_byte_of_a_file_changed_is_read_alike() {
             read_alike(&mut random, &file);
         }
     }
+}
+
+/// The stack that include/timetable.h names is enough.
+#[test]
+fn calls_fit_the_stack_that_the_header_names() {
+    let calls = thread::Builder::new().stack_size(512 * 1024).spawn(|| {
+        let file = include_bytes!("../schools/small.instance");
+        assert!(engine::read(file).is_ok());
+    });
+    calls.expect("a thread").join().expect("the calls return");
 }
 
 /// Runs the cases of a test, each with its own seed, within the time limit.
