@@ -132,6 +132,7 @@ fn each_seed(case: impl Fn(&mut Random) -> u32) -> Vec<u32> {
     let first = first_seed();
     let count = number("DIFFERENTIAL_CASES").unwrap_or(CASES);
     println!("seeds {first} to {}", first + count - 1);
+    let limit = LIMIT * count.div_ceil(CASES) as u32;
     let start = Instant::now();
     let mut seen = BTreeMap::new();
     for seed in first..first + count {
@@ -141,8 +142,8 @@ fn each_seed(case: impl Fn(&mut Random) -> u32) -> Vec<u32> {
             Err(_) => panic!("seed {seed}"),
         }
         assert!(
-            start.elapsed() < LIMIT,
-            "seed {seed}: the cases take more than {LIMIT:?}"
+            start.elapsed() < limit,
+            "seed {seed}: the cases take more than {limit:?}"
         );
     }
     println!("numbers returned, with how often: {seen:?}");

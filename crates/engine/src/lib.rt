@@ -1,9 +1,9 @@
 // The engine's operations as C functions, which include/timetable.h declares.
 //
 // Each answers 0 if it is accepted, and else the number of the first refusal in document 01's order. Its contract is one
-// equation: what the call leaves (the number returned, *value and every other output) is what specs/Operations.antt says of the
-// operation's answer by the definitions. A slice can change only through a `&mut`, so inputs keep every byte. None asks
-// anything of its caller but good pointers.
+// equation: what the call leaves (the number returned, *value and every other output) is what specs/Operations.antt says of
+// the operation's answer by the definitions. An input is lent as `&`, so it keeps every byte. None asks anything of its caller
+// but good pointers. specs/Numbers.antt shows that 0 is returned for an accepted call alone.
 use instance::read_instance;
 use scope::ReadAnswer;
 use scope::Refusal;
