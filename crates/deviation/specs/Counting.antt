@@ -1,6 +1,6 @@
 -- Laws of counts of true entries, of deviations and of idle times.
-use Prim.Native.Nat.{ℕ, zero, suc, _+_, _-_, _*_, _<_, _≤_, min}
-use mathlib.Core.Path.{_≡_, refl, sym, ap, ap₂, _∙_}
+use Prim.Native.Nat.{ℕ, _+_, _-_, _<_, _≤_, min}
+use mathlib.Core.Path.{_≡_, refl, sym, ap, _∙_}
 use mathlib.Core.Bool.{Bool, true, false, cond, not, _&&_, _||_}
 use mathlib.Core.List.{List, [], _∷_, _++_, map, flatMap}
 use lib.ListN.{length, length-map}
@@ -8,7 +8,7 @@ use lib.Dec.{ltb, eqb}
 use native.Mathlib.Omega.{arith}
 use native.Mathlib.Nat.{add-zero, zero-add, add-assoc}
 use borrow.Author.Tests.{lt-ltb, le-ltb, ltb-true, ltb-false}
-use Rattle.scope.specs.Kinds.{Atom, Entry, atom, anyOf, gap, Rule, between, limit, gaps, gapsAfter}
+use Rattle.scope.specs.Kinds.{Atom, Entry, between, limit, gaps, gapsAfter}
 use Rattle.scope.specs.Score.{trues, any, deviation, charged, entryTrue, count, deviations}
 use Rattle.deviation.specs.Group.{idles, idlesAfter}
 use Rattle.deviation.specs.Sums.{total}

@@ -1,15 +1,15 @@
 -- What is charged for a constraint of each kind is its deviation by the definitions, for a timetable's bytes b, the table u of its
 -- uses and the table x of X.
-use Prim.Native.Nat.{ℕ, zero, suc, _+_, _-_, _*_, _<_, _≤_, min}
+use Prim.Native.Nat.{ℕ, zero, suc, _+_, _-_, _*_, _<_, _≤_}
 use mathlib.Core.Path.{_≡_, refl, sym, ap, ap₂, fun-ext, _∙_}
-use mathlib.Core.Bool.{Bool, true, false, cond, not, _&&_, _||_}
-use mathlib.Core.List.{List, [], _∷_, _++_, map, flatMap}
+use mathlib.Core.Bool.{Bool, true, false, cond}
+use mathlib.Core.List.{List, _∷_, map, flatMap}
 use lib.ListN.{length, getD}
 use lib.Dec.{ltb, eqb}
 use native.Mathlib.Omega.{arith}
-use native.Mathlib.Nat.{add-zero, zero-add, add-assoc, mul-le-mul}
+use native.Mathlib.Nat.{add-assoc, mul-le-mul}
 use Rattle.scope.specs.Cnf.{bit}
-use Rattle.scope.specs.Kinds.{Event, Kind, clash, unavailable, preferred, split, spread, busy, cluster, idle, Atom, Y, S, X, Entry, atom, anyOf, gap, from, upTo, users, outside, groupAt, usesAt, takesAt, startsAt, gaps, rulesOf}
+use Rattle.scope.specs.Kinds.{Kind, clash, unavailable, preferred, split, spread, busy, cluster, idle, Y, S, X, atom, anyOf, from, upTo, users, outside, groupAt, usesAt, takesAt, startsAt, gaps, rulesOf}
 use Rattle.scope.specs.Instance.{Instance, Counts}
 use Rattle.scope.specs.Score.{trues, any, deviation, entryTrue, deviations, truth, cells}
 use Rattle.number.specs.Laws.{Ascending, none, more}
@@ -17,9 +17,8 @@ use Rattle.tables.specs.Rows.{rowAt, rows, eventsOf}
 use Rattle.tables.specs.Laws.{group-row}
 use Rattle.constraint.specs.Valid.{OneOf, InRange}
 use Rattle.timetable.specs.Bits.{marks, bit-next}
-use Rattle.timetable.specs.Takers.{takers, takers-users, any-trues}
+use Rattle.timetable.specs.Takers.{takers-users, any-trues}
 use Rattle.timetable.specs.Uses.{UsesOf, Marked}
-use Rattle.deviation.specs.Group.{idles}
 use Rattle.deviation.specs.Sums.{total}
 use Rattle.deviation.specs.Counting.{map-map, trues-total, trues-flat, deviation-zero, deviation-one, one-list, one-limit, many-lists, gaps-idle}
 use Rattle.deviation.specs.Charge.{chargeOf, clashCharge, unavailableCharge, preferredCharge, splitCharge, spreadCharge, busyCharge, clusterCharge, idleCharge}

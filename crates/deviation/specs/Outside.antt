@@ -1,12 +1,12 @@
 -- The times outside a group: with those in it they are all times.
-use Prim.Native.Nat.{ℕ, zero, suc, _+_, _-_, _*_, _<_, _≤_}
+use Prim.Native.Nat.{ℕ, zero, suc, _+_, _-_, _<_, _≤_}
 use mathlib.Core.Path.{_≡_, refl, sym, ap, _∙_}
 use mathlib.Core.Bool.{Bool, true, false, cond, _||_}
 use mathlib.Core.List.{List, [], _∷_, map}
 use lib.Dec.{eqb}
 use native.Mathlib.Omega.{arith}
-use native.Mathlib.Nat.{add-zero, zero-add, add-assoc, add-comm}
-use borrow.Author.Tests.{eq-eqb, ne-eqb, eqb-true, eqb-false}
+use native.Mathlib.Nat.{add-zero, zero-add}
+use borrow.Author.Tests.{ne-eqb, eqb-true, eqb-false}
 use Rattle.scope.specs.Kinds.{from, upTo, member, outside}
 use Rattle.scope.specs.Score.{trues}
 use Rattle.scope.specs.Cnf.{bit}

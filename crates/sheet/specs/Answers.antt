@@ -1,5 +1,5 @@
 -- What the answers of the parts say of the operations' answers.
-use Prim.Native.Nat.{ℕ, _+_, _*_, _/_, _≤_}
+use Prim.Native.Nat.{ℕ, _*_, _/_, _≤_}
 use mathlib.Core.Path.{_≡_, refl, sym, ap, _∙_}
 use mathlib.Core.Bool.{Bool, true, false}
 use mathlib.Core.List.{List, []}
@@ -8,7 +8,7 @@ use lib.Seq.{length-take-le}
 use lib.Dec.{eqb}
 use native.Mathlib.Omega.{arith}
 use borrow.Author.Tests.{eqb-true}
-use Rattle.scope.specs.Parsed.{Parsed, got, refused, Answer, answered, refusal, provided, with, then}
+use Rattle.scope.specs.Parsed.{refused, Answer, answered, refusal, provided, then}
 use Rattle.scope.specs.Instance.{Instance, parse}
 use Rattle.scope.specs.Score.{cells, ofTimetable, infeasibility, objective}
 use Rattle.scope.specs.Operations.{scoreOf, sameBytes, sameSheetOf}
@@ -26,7 +26,7 @@ use Rattle.timetable.specs.declared.check.Verdict.{Verdict}
 use Rattle.timetable.specs.Answers.{verdictAs}
 use Rattle.timetable.specs.Right.{Lasts}
 use Rattle.timetable.specs.Refusals.{then-timetable}
-use Rattle.sheet.specs.Ready.{tables-last}
+use Rattle.score.specs.Ready.{tables-last}
 
 -- the refusal that an answer holds; else none
 abbrev pub refusalOfFile : File → Refusal

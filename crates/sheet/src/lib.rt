@@ -1,8 +1,6 @@
 // Scoring a timetable, and whether two timetables are the same sheet.
 mod operations;
 mod same;
-mod scored;
-mod walk;
 
 pub use operations::same_sheet;
 pub use operations::score;

@@ -1,6 +1,5 @@
 // The operations on timetables. They ask nothing of the caller.
 use crate::same::same_bytes;
-use crate::scored::scored;
 use constraint::Head;
 use instance::File;
 use instance::read;
@@ -8,6 +7,7 @@ use scope::Objective;
 use scope::Refusal;
 use scope::ScoreAnswer;
 use scope::SheetAnswer;
+use score::score_of;
 use timetable::check::Verdict;
 use timetable::check::checked;
 ghost use mathlib.Core.Path.{_≡_};
@@ -74,7 +74,7 @@ fn score_read(
     let Verdict::Timetable = v else {
         return ScoreAnswer::Refused(refusal_of_verdict(v));
     };
-    let s = scored(file, bytes, head, resources, groups, list);
+    let s = score_of(file, bytes, head, resources, groups, list);
     let infeasibility = s.infeasibility;
     let objective = s.objective;
     ScoreAnswer::Scored(infeasibility, objective)

@@ -1,6 +1,6 @@
 -- The refusals of a timetable's bytes, one place after another.
 use Prim.Native.Nat.{ℕ, _*_}
-use mathlib.Core.Path.{_≡_, refl, sym, ap, _∙_}
+use mathlib.Core.Path.{_≡_, refl, sym, _∙_}
 use mathlib.Core.Bool.{Bool, true, false}
 use mathlib.Core.List.{List}
 use mathlib.Core.Option.{Option, none, some}
@@ -9,7 +9,7 @@ use lib.Dec.{eqb}
 use borrow.Author.Tests.{eq-eqb, ne-eqb}
 use Rattle.scope.specs.Parsed.{Answer, answered, refusal, provided, then}
 use Rattle.scope.specs.Instance.{Instance}
-use Rattle.scope.specs.Score.{cells, truth, firstAbove, firstWrong, unlessFound, ofBytes, ofTimetable}
+use Rattle.scope.specs.Score.{cells, truth, firstAbove, firstWrong, unlessFound, ofTimetable}
 use Rattle.timetable.specs.declared.bytes.Found.{Found}
 use Rattle.timetable.specs.Answers.{foundAt, placeOf}
 use Rattle.timetable.specs.Right.{Lasts, wrongFrom, wrong-event}

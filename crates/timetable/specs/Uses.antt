@@ -3,16 +3,14 @@ use Prim.Native.Nat.{ℕ, zero, suc, _+_, _-_, _*_, _<_, _≤_}
 use mathlib.Core.Path.{_≡_, refl, sym, ap, _∙_}
 use mathlib.Core.Bool.{Bool, true, false, cond}
 use mathlib.Core.List.{List, [], _∷_, _++_}
-use mathlib.Core.Logic.{_⊎_, inl, inr, ⊎-elim}
+use mathlib.Core.Logic.{⊎-elim}
 use lib.ListN.{length, getD, take, set, length-set, length-take}
 use lib.Seq.{getD-set-same, getD-set-other, take-suc, take-all}
 use lib.Dec.{eqb, ltb}
 use native.Mathlib.Omega.{arith}
 use native.Mathlib.Nat.{add-zero, zero-add, add-assoc, eq-or-lt-of-le, mul-le-mul, mul-le-mul-right, min-le-right}
 use native.Mathlib.Numerals.{add-one}
-use borrow.Author.Tests.{ltb-true, ltb-false, lt-ltb, eq-eqb, ne-eqb}
-use Rattle.scope.specs.Cnf.{bit}
-use Rattle.scope.specs.Kinds.{member}
+use borrow.Author.Tests.{ltb-true, ltb-false, eq-eqb, ne-eqb}
 use Rattle.number.specs.Laws.{Ascending, none, more}
 use Rattle.tables.specs.Rows.{rowAt, RowIn}
 use Rattle.tables.specs.Users.{occurrences, occurrences-once}

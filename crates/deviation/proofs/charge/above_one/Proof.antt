@@ -1,15 +1,13 @@
-use Prim.Native.Nat.{ℕ, _+_, _*_, _≤_, _<_, _-_}
-use mathlib.Core.Path.{_≡_, refl, _∙_}
+-- `deviation::charge::above_one` meets its contract. The sum so far and the sum over the places left are the whole.
+use Prim.Native.Nat.{_+_, _*_, _≤_, _-_}
+use mathlib.Core.Path.{_≡_}
 use native.Mathlib.Omega.{arith}
 use borrow.Author.Needs.{needs}
-use lib.ListN.{length, getD}
+use lib.ListN.{getD}
 use Rattle.scope.specs.Kinds.{from, upTo}
 use Rattle.deviation.specs.Sums.{total, places-start, places-more, places-end}
 use Rattle.deviation.proofs.charge.above_one.Statement.{statement}
 use Rattle.deviation.proofs.charge.above_one.Tie as tie
-use Rattle.deviation.proofs.charge.above_one.Reads as reads
-use Rattle.deviation.proofs.charge.above_one.Lts as lts
-use Rattle.deviation.proofs.charge.over_one.Reads as over-one-reads
 
 abbrev Inv-loop : tie.InvT-loop
 Inv-loop counts base n sum₀ i₀ sum i = (i ≤ n) × (sum ≤ 65535 * i) × (sum + total (λ t. getD counts (base + (t - 1)) 0 - 1) (from (i + 1) (n - i)) ≡ total (λ t. getD counts (base + (t - 1)) 0 - 1) (upTo n))

@@ -1,10 +1,9 @@
+-- `deviation::charge::deviation` meets its contract. By the tests of the definition.
 use borrow.Author.Tests.{lt-ltb, le-ltb}
 use Rattle.scope.specs.Score.{deviation}
 use borrow.Author.Needs.{needs}
 use Rattle.deviation.proofs.charge.deviation.Statement.{statement}
 use Rattle.deviation.proofs.charge.deviation.Tie as tie
-use Rattle.deviation.proofs.charge.deviation.Reads as reads
-use Rattle.deviation.proofs.charge.deviation.Lts as lts
 
 sub-result : tie.Need-sub-result
 sub-result c = search needs

@@ -1,10 +1,8 @@
+-- `deviation::charge::deviation_used` meets its contract. By the test for 0.
 use borrow.Author.Tests.{eq-eqb, ne-eqb}
 use borrow.Author.Needs.{needs}
 use Rattle.deviation.proofs.charge.deviation_used.Statement.{statement}
 use Rattle.deviation.proofs.charge.deviation_used.Tie as tie
-use Rattle.deviation.proofs.charge.deviation_used.Reads as reads
-use Rattle.deviation.proofs.charge.deviation_used.Lts as lts
-use Rattle.deviation.proofs.charge.deviation.Reads as deviation-reads
 
 returns : tie.Need-returns
 returns c = rw (eq-eqb (c .before .args .count) 0 (c .if1 .taken))

@@ -1,13 +1,9 @@
+-- `deviation::charge::ones_outside` meets its contract. All times are those of the group and those outside it.
 use Rattle.deviation.specs.Outside.{outside-rest}
-use native.Mathlib.Omega.{arith}
 use Rattle.deviation.specs.Group.{ascending-inside}
 use borrow.Author.Needs.{needs}
 use Rattle.deviation.proofs.charge.ones_outside.Statement.{statement}
 use Rattle.deviation.proofs.charge.ones_outside.Tie as tie
-use Rattle.deviation.proofs.charge.ones_outside.Reads as reads
-use Rattle.deviation.proofs.charge.ones_outside.Lts as lts
-use Rattle.deviation.proofs.group.ones_in.Reads as ones-in-reads
-use Rattle.timetable.proofs.bytes.ones.Reads as ones-reads
 
 ones-requires : tie.Need-ones-requires
 ones-requires c κs = search needs

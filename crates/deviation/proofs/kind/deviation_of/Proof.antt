@@ -1,18 +1,9 @@
+-- `deviation::kind::deviation_of` meets its contract. Each case hands its part of what is known to the function of its kind.
 use native.Mathlib.Omega.{arith}
 use Rattle.deviation.specs.Charge.{listed-in}
 use borrow.Author.Needs.{needs}
 use Rattle.deviation.proofs.kind.deviation_of.Statement.{statement}
 use Rattle.deviation.proofs.kind.deviation_of.Tie as tie
-use Rattle.deviation.proofs.kind.deviation_of.Reads as reads
-use Rattle.deviation.proofs.kind.deviation_of.Lts as lts
-use Rattle.deviation.proofs.kind.of_busy.Reads as of-busy-reads
-use Rattle.deviation.proofs.kind.of_clash.Reads as of-clash-reads
-use Rattle.deviation.proofs.kind.of_cluster.Reads as of-cluster-reads
-use Rattle.deviation.proofs.kind.of_idle.Reads as of-idle-reads
-use Rattle.deviation.proofs.kind.of_preferred.Reads as of-preferred-reads
-use Rattle.deviation.proofs.kind.of_split.Reads as of-split-reads
-use Rattle.deviation.proofs.kind.of_spread.Reads as of-spread-reads
-use Rattle.deviation.proofs.kind.of_unavailable.Reads as of-unavailable-reads
 
 enum-known-kind : tie.Need-enum-known-kind
 enum-known-kind c = search needs

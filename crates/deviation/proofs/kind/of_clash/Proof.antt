@@ -1,12 +1,9 @@
+-- `deviation::kind::of_clash` meets its contract. The resource's row is there.
 use native.Mathlib.Omega.{arith}
 use Rattle.deviation.specs.Charge.{clashCharge, resource-row}
 use borrow.Author.Needs.{needs}
 use Rattle.deviation.proofs.kind.of_clash.Statement.{statement}
 use Rattle.deviation.proofs.kind.of_clash.Tie as tie
-use Rattle.deviation.proofs.kind.of_clash.Reads as reads
-use Rattle.deviation.proofs.kind.of_clash.Lts as lts
-use Rattle.deviation.proofs.charge.above_one.Reads as above-one-reads
-use Rattle.deviation.proofs.kind.row_of.Reads as row-of-reads
 
 row-of-requires : tie.Need-row-of-requires
 row-of-requires c κs = search needs

@@ -1,13 +1,9 @@
+-- `deviation::kind::of_cluster` meets its contract. The resource's row and the listed groups are there.
 use native.Mathlib.Omega.{arith}
 use Rattle.deviation.specs.Charge.{clusterCharge, resource-row, groups-listed}
 use borrow.Author.Needs.{needs}
 use Rattle.deviation.proofs.kind.of_cluster.Statement.{statement}
 use Rattle.deviation.proofs.kind.of_cluster.Tie as tie
-use Rattle.deviation.proofs.kind.of_cluster.Reads as reads
-use Rattle.deviation.proofs.kind.of_cluster.Lts as lts
-use Rattle.deviation.proofs.charge.deviation.Reads as deviation-reads
-use Rattle.deviation.proofs.kind.row_of.Reads as row-of-reads
-use Rattle.deviation.proofs.list.groups_used.Reads as groups-used-reads
 
 row-of-requires : tie.Need-row-of-requires
 row-of-requires c κs = search needs

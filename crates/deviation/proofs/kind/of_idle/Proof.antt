@@ -1,13 +1,9 @@
+-- `deviation::kind::of_idle` meets its contract. The resource's row and the listed groups are there.
 use native.Mathlib.Omega.{arith}
 use Rattle.deviation.specs.Charge.{idleCharge, resource-row, groups-listed}
 use borrow.Author.Needs.{needs}
 use Rattle.deviation.proofs.kind.of_idle.Statement.{statement}
 use Rattle.deviation.proofs.kind.of_idle.Tie as tie
-use Rattle.deviation.proofs.kind.of_idle.Reads as reads
-use Rattle.deviation.proofs.kind.of_idle.Lts as lts
-use Rattle.deviation.proofs.charge.deviation.Reads as deviation-reads
-use Rattle.deviation.proofs.kind.row_of.Reads as row-of-reads
-use Rattle.deviation.proofs.list.groups_idle.Reads as groups-idle-reads
 
 row-of-requires : tie.Need-row-of-requires
 row-of-requires c κs = search needs

@@ -1,12 +1,9 @@
+-- `deviation::kind::of_preferred` meets its contract. The event's row and the group are there.
 use native.Mathlib.Omega.{arith}
 use Rattle.deviation.specs.Charge.{preferredCharge, event-row, group-row, group-times}
 use borrow.Author.Needs.{needs}
 use Rattle.deviation.proofs.kind.of_preferred.Statement.{statement}
 use Rattle.deviation.proofs.kind.of_preferred.Tie as tie
-use Rattle.deviation.proofs.kind.of_preferred.Reads as reads
-use Rattle.deviation.proofs.kind.of_preferred.Lts as lts
-use Rattle.deviation.proofs.charge.ones_outside.Reads as ones-outside-reads
-use Rattle.deviation.proofs.kind.row_of.Reads as row-of-reads
 
 row-of-requires : tie.Need-row-of-requires
 row-of-requires c κs = search needs

@@ -1,14 +1,9 @@
+-- `deviation::kind::of_split` meets its contract. The event's row of starts is there.
 use native.Mathlib.Omega.{arith}
 use Rattle.deviation.specs.Charge.{splitCharge, start-row}
 use borrow.Author.Needs.{needs}
 use Rattle.deviation.proofs.kind.of_split.Statement.{statement}
 use Rattle.deviation.proofs.kind.of_split.Tie as tie
-use Rattle.deviation.proofs.kind.of_split.Reads as reads
-use Rattle.deviation.proofs.kind.of_split.Lts as lts
-use Rattle.deviation.proofs.charge.deviation.Reads as deviation-reads
-use Rattle.deviation.proofs.kind.row_of.Reads as row-of-reads
-use Rattle.deviation.proofs.kind.starts_of.Reads as starts-of-reads
-use Rattle.timetable.proofs.bytes.ones.Reads as ones-reads
 
 starts-of-requires : tie.Need-starts-of-requires
 starts-of-requires c κs = search needs

@@ -1,12 +1,8 @@
+-- `deviation::kind::of_spread` meets its contract. The rows of starts of the listed events and the group are there.
 use Rattle.deviation.specs.Charge.{spreadCharge, events-listed}
 use borrow.Author.Needs.{needs}
 use Rattle.deviation.proofs.kind.of_spread.Statement.{statement}
 use Rattle.deviation.proofs.kind.of_spread.Tie as tie
-use Rattle.deviation.proofs.kind.of_spread.Reads as reads
-use Rattle.deviation.proofs.kind.of_spread.Lts as lts
-use Rattle.deviation.proofs.charge.deviation.Reads as deviation-reads
-use Rattle.deviation.proofs.kind.starts_of.Reads as starts-of-reads
-use Rattle.deviation.proofs.list.ones_of_events.Reads as ones-of-events-reads
 
 starts-of-requires : tie.Need-starts-of-requires
 starts-of-requires c κs = search needs

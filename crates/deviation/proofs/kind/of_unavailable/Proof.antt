@@ -1,12 +1,9 @@
+-- `deviation::kind::of_unavailable` meets its contract. The resource's row and the group are there.
 use native.Mathlib.Omega.{arith}
 use Rattle.deviation.specs.Charge.{unavailableCharge, resource-row, group-row, group-inside}
 use borrow.Author.Needs.{needs}
 use Rattle.deviation.proofs.kind.of_unavailable.Statement.{statement}
 use Rattle.deviation.proofs.kind.of_unavailable.Tie as tie
-use Rattle.deviation.proofs.kind.of_unavailable.Reads as reads
-use Rattle.deviation.proofs.kind.of_unavailable.Lts as lts
-use Rattle.deviation.proofs.group.ones_in.Reads as ones-in-reads
-use Rattle.deviation.proofs.kind.row_of.Reads as row-of-reads
 
 row-of-requires : tie.Need-row-of-requires
 row-of-requires c κs = search needs

@@ -1,11 +1,10 @@
+-- `deviation::kind::row_of` meets its contract. The product is at most 1,024 times 125.
 use native.Mathlib.Omega.{arith}
 use native.Mathlib.Nat.{mul-le-mul}
 use Prim.Native.Nat.{_-_}
 use borrow.Author.Needs.{needs}
 use Rattle.deviation.proofs.kind.row_of.Statement.{statement}
 use Rattle.deviation.proofs.kind.row_of.Tie as tie
-use Rattle.deviation.proofs.kind.row_of.Reads as reads
-use Rattle.deviation.proofs.kind.row_of.Lts as lts
 
 sub-before : tie.Need-sub-before
 sub-before c = search needs

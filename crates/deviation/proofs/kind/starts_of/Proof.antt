@@ -1,10 +1,9 @@
+-- `deviation::kind::starts_of` meets its contract. The product is at most 1,024 times 125.
 use native.Mathlib.Omega.{arith}
 use native.Mathlib.Nat.{mul-le-mul}
 use borrow.Author.Needs.{needs}
 use Rattle.deviation.proofs.kind.starts_of.Statement.{statement}
 use Rattle.deviation.proofs.kind.starts_of.Tie as tie
-use Rattle.deviation.proofs.kind.starts_of.Reads as reads
-use Rattle.deviation.proofs.kind.starts_of.Lts as lts
 
 cast-events : tie.Need-cast-events
 cast-events c = search needs

@@ -1,9 +1,10 @@
-use Prim.Native.Nat.{ℕ, _+_, _*_, _≤_, _<_, _-_}
-use mathlib.Core.Path.{_≡_, refl}
+-- `deviation::list::groups_idle` meets its contract. The sum so far and the sum over the groups left are the whole.
+use Prim.Native.Nat.{_+_, _*_, _≤_, _-_}
+use mathlib.Core.Path.{_≡_}
 use native.Mathlib.Omega.{arith}
 use native.Mathlib.Nat.{zero-add}
 use borrow.Author.Needs.{needs}
-use lib.ListN.{length, drop}
+use lib.ListN.{drop}
 use Rattle.number.specs.Lists.{leading}
 use Rattle.tables.specs.Rows.{rowAt}
 use Rattle.timetable.specs.Bits.{marks}
@@ -11,9 +12,6 @@ use Rattle.deviation.specs.Group.{idles}
 use Rattle.deviation.specs.Sums.{total, sum-more, sum-end}
 use Rattle.deviation.proofs.list.groups_idle.Statement.{statement}
 use Rattle.deviation.proofs.list.groups_idle.Tie as tie
-use Rattle.deviation.proofs.list.groups_idle.Reads as reads
-use Rattle.deviation.proofs.list.groups_idle.Lts as lts
-use Rattle.deviation.proofs.group.idle_in.Reads as idle-in-reads
 
 abbrev Inv-loop : tie.InvT-loop
 Inv-loop bytes base groups list n sum₀ k₀ sum k = (k ≤ n) × (sum ≤ 125 * k) × (sum + total (λ g. idles (marks bytes base (rowAt groups (g - 1)))) (drop k (leading n list)) ≡ total (λ g. idles (marks bytes base (rowAt groups (g - 1)))) (leading n list))

@@ -1,10 +1,11 @@
-use Prim.Native.Nat.{ℕ, _+_, _*_, _≤_, _<_, _-_}
-use mathlib.Core.Path.{_≡_, refl, sym, _∙_}
+-- `deviation::list::groups_used` meets its contract. The sum so far and the sum over the groups left are the whole.
+use Prim.Native.Nat.{_+_, _≤_, _-_}
+use mathlib.Core.Path.{_≡_, _∙_}
 use mathlib.Core.Bool.{cond}
 use native.Mathlib.Omega.{arith}
 use native.Mathlib.Nat.{zero-add}
 use borrow.Author.Needs.{needs}
-use lib.ListN.{length, drop}
+use lib.ListN.{drop}
 use Rattle.scope.specs.Score.{any}
 use Rattle.number.specs.Lists.{leading}
 use Rattle.tables.specs.Rows.{rowAt}
@@ -13,10 +14,6 @@ use Rattle.timetable.specs.Takers.{any-trues}
 use Rattle.deviation.specs.Sums.{total, sum-more, sum-end}
 use Rattle.deviation.proofs.list.groups_used.Statement.{statement}
 use Rattle.deviation.proofs.list.groups_used.Tie as tie
-use Rattle.deviation.proofs.list.groups_used.Reads as reads
-use Rattle.deviation.proofs.list.groups_used.Lts as lts
-use Rattle.deviation.proofs.group.ones_in.Reads as ones-in-reads
-use Rattle.deviation.proofs.list.positive.Reads as positive-reads
 
 abbrev Inv-loop : tie.InvT-loop
 Inv-loop bytes base groups list n sum₀ k₀ sum k = (k ≤ n) × (sum ≤ k) × (sum + total (λ g. cond (any (marks bytes base (rowAt groups (g - 1)))) 1 0) (drop k (leading n list)) ≡ total (λ g. cond (any (marks bytes base (rowAt groups (g - 1)))) 1 0) (leading n list))

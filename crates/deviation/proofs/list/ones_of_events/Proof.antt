@@ -1,9 +1,10 @@
-use Prim.Native.Nat.{ℕ, _+_, _*_, _≤_, _<_, _-_}
-use mathlib.Core.Path.{_≡_, refl}
+-- `deviation::list::ones_of_events` meets its contract. The sum so far and the sum over the events left are the whole.
+use Prim.Native.Nat.{_+_, _*_, _≤_, _-_}
+use mathlib.Core.Path.{_≡_}
 use native.Mathlib.Omega.{arith}
 use native.Mathlib.Nat.{zero-add}
 use borrow.Author.Needs.{needs}
-use lib.ListN.{length, drop}
+use lib.ListN.{drop}
 use Rattle.scope.specs.Score.{trues}
 use Rattle.number.specs.Lists.{leading}
 use Rattle.tables.specs.Rows.{rowAt}
@@ -11,9 +12,6 @@ use Rattle.timetable.specs.Bits.{marks}
 use Rattle.deviation.specs.Sums.{total, sum-more, sum-end}
 use Rattle.deviation.proofs.list.ones_of_events.Statement.{statement}
 use Rattle.deviation.proofs.list.ones_of_events.Tie as tie
-use Rattle.deviation.proofs.list.ones_of_events.Reads as reads
-use Rattle.deviation.proofs.list.ones_of_events.Lts as lts
-use Rattle.deviation.proofs.group.ones_in.Reads as ones-in-reads
 
 abbrev Inv-loop : tie.InvT-loop
 Inv-loop bytes base times groups g list n sum₀ k₀ sum k = (k ≤ n) × (sum ≤ 125 * k) × (sum + total (λ e. trues (marks bytes (base + (e - 1) * times) (rowAt groups g))) (drop k (leading n list)) ≡ total (λ e. trues (marks bytes (base + (e - 1) * times) (rowAt groups g))) (leading n list))

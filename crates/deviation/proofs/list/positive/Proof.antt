@@ -1,9 +1,8 @@
+-- `deviation::list::positive` meets its contract. By the test.
 use borrow.Author.Needs.{needs}
 use borrow.Author.Tests.{lt-ltb, le-ltb}
 use Rattle.deviation.proofs.list.positive.Statement.{statement}
 use Rattle.deviation.proofs.list.positive.Tie as tie
-use Rattle.deviation.proofs.list.positive.Reads as reads
-use Rattle.deviation.proofs.list.positive.Lts as lts
 
 returns : tie.Need-returns
 returns c = rw (lt-ltb 0 (c .before .args .count) (c .if1 .taken)) (search needs)

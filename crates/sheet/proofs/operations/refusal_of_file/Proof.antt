@@ -1,8 +1,7 @@
+-- `sheet::operations::refusal_of_file` meets its contract. By the case.
 use borrow.Author.Needs.{needs}
 use Rattle.sheet.proofs.operations.refusal_of_file.Statement.{statement}
 use Rattle.sheet.proofs.operations.refusal_of_file.Tie as tie
-use Rattle.sheet.proofs.operations.refusal_of_file.Reads as reads
-use Rattle.sheet.proofs.operations.refusal_of_file.Lts as lts
 
 enum-told : tie.Need-enum-told
 enum-told c = search needs

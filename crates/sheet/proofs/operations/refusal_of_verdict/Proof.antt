@@ -1,8 +1,7 @@
+-- `sheet::operations::refusal_of_verdict` meets its contract. By the case.
 use borrow.Author.Needs.{needs}
 use Rattle.sheet.proofs.operations.refusal_of_verdict.Statement.{statement}
 use Rattle.sheet.proofs.operations.refusal_of_verdict.Tie as tie
-use Rattle.sheet.proofs.operations.refusal_of_verdict.Reads as reads
-use Rattle.sheet.proofs.operations.refusal_of_verdict.Lts as lts
 
 enum-told : tie.Need-enum-told
 enum-told c = search needs

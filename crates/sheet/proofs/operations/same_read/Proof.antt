@@ -1,17 +1,11 @@
+-- `sheet::operations::same_read` meets its contract. The verdict of the first, of the second, then their Y bytes.
 use mathlib.Core.Path.{sym}
 use Rattle.sheet.specs.Answers.{timetables-halve, sheet-first, sheet-second, sheet-answered}
-use Prim.Native.Nat.{_/_, _≤_}
 use native.Mathlib.Omega.{arith}
-use lib.ListN.{length}
 use lib.Seq.{length-take-le}
 use borrow.Author.Needs.{needs}
 use Rattle.sheet.proofs.operations.same_read.Statement.{statement}
 use Rattle.sheet.proofs.operations.same_read.Tie as tie
-use Rattle.sheet.proofs.operations.same_read.Reads as reads
-use Rattle.sheet.proofs.operations.same_read.Lts as lts
-use Rattle.sheet.proofs.operations.refusal_of_verdict.Reads as refusal-of-verdict-reads
-use Rattle.sheet.proofs.operations.verdict_of.Reads as verdict-of-reads
-use Rattle.sheet.proofs.same.same_bytes.Reads as same-bytes-reads
 
 verdict-of-requires : tie.Need-verdict-of-requires
 verdict-of-requires c κs = search needs

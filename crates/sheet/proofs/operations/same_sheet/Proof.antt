@@ -1,14 +1,10 @@
+-- `sheet::operations::same_sheet` meets its contract. The stores are long enough; a file that is read is accepted or refused.
 use mathlib.Core.Path.{refl}
 use Rattle.instance.specs.Laws.{accepted}
 use Rattle.sheet.specs.Answers.{sheet-file}
 use borrow.Author.Needs.{needs}
 use Rattle.sheet.proofs.operations.same_sheet.Statement.{statement}
 use Rattle.sheet.proofs.operations.same_sheet.Tie as tie
-use Rattle.sheet.proofs.operations.same_sheet.Reads as reads
-use Rattle.sheet.proofs.operations.same_sheet.Lts as lts
-use Rattle.instance.proofs.read.Reads as read-reads
-use Rattle.sheet.proofs.operations.refusal_of_file.Reads as refusal-of-file-reads
-use Rattle.sheet.proofs.operations.same_read.Reads as same-read-reads
 
 slice-aggregate-read : tie.Need-slice-aggregate-read
 slice-aggregate-read c = search needs

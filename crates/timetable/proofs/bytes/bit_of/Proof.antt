@@ -1,10 +1,8 @@
+-- `timetable::bytes::bit_of` meets its contract. By the test.
 use borrow.Author.Tests.{eq-eqb, ne-eqb}
 use borrow.Author.Needs.{needs}
-use native.Mathlib.Omega.{arith}
 use Rattle.timetable.proofs.bytes.bit_of.Statement.{statement}
 use Rattle.timetable.proofs.bytes.bit_of.Tie as tie
-use Rattle.timetable.proofs.bytes.bit_of.Reads as reads
-use Rattle.timetable.proofs.bytes.bit_of.Lts as lts
 
 returns : tie.Need-returns
 returns c = rw (eq-eqb (c .before .args .x) 1 (c .if1 .taken)) (search needs)

@@ -1,16 +1,13 @@
+-- `timetable::bytes::first_above` meets its contract. Where no byte is above 1 there is none to find; else the bytes before i are passed.
 use Prim.Native.Nat.{_≤_, _-_}
 use mathlib.Core.Path.{_≡_, sym}
 use lib.ListN.{length, drop}
-use native.Mathlib.Omega.{arith}
 use native.Mathlib.Nat.{le-trans}
 use borrow.Author.Needs.{needs}
 use Rattle.scope.specs.Score.{firstAbove}
 use Rattle.timetable.specs.Above.{none-above, above}
 use Rattle.timetable.proofs.bytes.first_above.Statement.{statement}
 use Rattle.timetable.proofs.bytes.first_above.Tie as tie
-use Rattle.timetable.proofs.bytes.first_above.Reads as reads
-use Rattle.timetable.proofs.bytes.first_above.Lts as lts
-use Rattle.timetable.proofs.bytes.largest.Reads as largest-reads
 
 abbrev Inv-loop : tie.InvT-loop
 Inv-loop bytes i₀ i = (i ≤ length bytes) × (firstAbove 0 bytes ≡ firstAbove i (drop i bytes))

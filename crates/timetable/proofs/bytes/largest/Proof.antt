@@ -1,3 +1,4 @@
+-- `timetable::bytes::largest` meets its contract. The loop keeps that no byte passed is above the result.
 use native.Mathlib.Nat.{le-trans}
 use Prim.Native.Nat.{ℕ, _≤_, _<_, _-_}
 use native.Mathlib.Omega.{arith}
@@ -6,9 +7,6 @@ use borrow.Author.Count.{below-more}
 use lib.ListN.{length, getD}
 use Rattle.timetable.proofs.bytes.largest.Statement.{statement}
 use Rattle.timetable.proofs.bytes.largest.Tie as tie
-use Rattle.timetable.proofs.bytes.largest.Reads as reads
-use Rattle.timetable.proofs.bytes.largest.Lts as lts
-use Rattle.timetable.proofs.bytes.larger.Reads as larger-reads
 
 abbrev Inv-loop : tie.InvT-loop
 Inv-loop bytes most₀ i₀ most i = (i ≤ length bytes) × ((k : ℕ) → k < i → getD bytes k 0 ≤ most)

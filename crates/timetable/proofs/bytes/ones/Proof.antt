@@ -1,15 +1,12 @@
-use Prim.Native.Nat.{ℕ, _+_, _≤_, _<_, _-_}
+-- `timetable::bytes::ones` meets its contract. The count so far and the count of what is left are the whole.
+use Prim.Native.Nat.{_+_, _≤_, _-_}
 use mathlib.Core.Path.{_≡_}
-use native.Mathlib.Omega.{arith}
 use borrow.Author.Needs.{needs}
 use Rattle.scope.specs.Kinds.{from, upTo}
 use Rattle.scope.specs.Score.{trues}
 use Rattle.timetable.specs.Bits.{marks, counting}
 use Rattle.timetable.proofs.bytes.ones.Statement.{statement}
 use Rattle.timetable.proofs.bytes.ones.Tie as tie
-use Rattle.timetable.proofs.bytes.ones.Reads as reads
-use Rattle.timetable.proofs.bytes.ones.Lts as lts
-use Rattle.timetable.proofs.bytes.bit_of.Reads as bit-of-reads
 
 abbrev Inv-loop : tie.InvT-loop
 Inv-loop bytes base n count₀ i₀ count i = (i ≤ n) × (count ≤ i) × (count + trues (marks bytes base (from (i + 1) (n - i))) ≡ trues (marks bytes base (upTo n)))

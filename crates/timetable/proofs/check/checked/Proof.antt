@@ -1,14 +1,10 @@
+-- `timetable::check::checked` meets its contract. Length, bytes and events in this order, each a law of Refusals.
 use native.Mathlib.Omega.{arith}
 use native.Mathlib.Nat.{mul-le-mul}
 use Rattle.timetable.specs.Refusals.{refusals}
 use borrow.Author.Needs.{needs}
 use Rattle.timetable.proofs.check.checked.Statement.{statement}
 use Rattle.timetable.proofs.check.checked.Tie as tie
-use Rattle.timetable.proofs.check.checked.Reads as reads
-use Rattle.timetable.proofs.check.checked.Lts as lts
-use Rattle.timetable.proofs.bytes.first_above.Reads as first-above-reads
-use Rattle.timetable.proofs.bytes.place.Reads as place-reads
-use Rattle.timetable.proofs.check.first_wrong.Reads as first-wrong-reads
 
 mul-wanted : tie.Need-mul-wanted
 mul-wanted c =

@@ -1,11 +1,8 @@
+-- `timetable::check::event_right` meets its contract. The count and the walk are the two parts of the definition.
 use Rattle.timetable.specs.Right.{events}
 use borrow.Author.Needs.{needs}
 use Rattle.timetable.proofs.check.event_right.Statement.{statement}
 use Rattle.timetable.proofs.check.event_right.Tie as tie
-use Rattle.timetable.proofs.check.event_right.Reads as reads
-use Rattle.timetable.proofs.check.event_right.Lts as lts
-use Rattle.timetable.proofs.bytes.ones.Reads as ones-reads
-use Rattle.timetable.proofs.check.starts_right.Reads as starts-right-reads
 
 mul-y : tie.Need-mul-y
 mul-y c = search needs

@@ -1,15 +1,12 @@
-use Prim.Native.Nat.{ℕ, _+_, _*_, _≤_, _<_, _-_}
+-- `timetable::check::first_wrong` meets its contract. The events before e are right, and the first wrong one of what is left is the first of all.
+use Prim.Native.Nat.{_+_, _≤_, _-_}
 use mathlib.Core.Path.{_≡_}
 use native.Mathlib.Omega.{arith}
 use native.Mathlib.Nat.{mul-le-mul-right}
 use borrow.Author.Needs.{needs}
-use lib.ListN.{length}
 use Rattle.timetable.specs.Right.{wrongFrom, passing}
 use Rattle.timetable.proofs.check.first_wrong.Statement.{statement}
 use Rattle.timetable.proofs.check.first_wrong.Tie as tie
-use Rattle.timetable.proofs.check.first_wrong.Reads as reads
-use Rattle.timetable.proofs.check.first_wrong.Lts as lts
-use Rattle.timetable.proofs.check.event_right.Reads as event-right-reads
 
 abbrev Inv-loop : tie.InvT-loop
 Inv-loop bytes durations events times cells e₀ e = (e ≤ events) × (wrongFrom bytes durations cells times 0 events ≡ wrongFrom bytes durations cells times e (events - e))

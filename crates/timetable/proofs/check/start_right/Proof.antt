@@ -1,10 +1,9 @@
-use mathlib.Core.Bool.{Bool, true, false, not, _&&_, _||_}
+-- `timetable::check::start_right` meets its contract. By the tests, one Boolean identity each.
+use mathlib.Core.Bool.{true, false, not, _&&_, _||_}
 use Rattle.laws.specs.Taut.{taut}
 use borrow.Author.Needs.{needs}
 use Rattle.timetable.proofs.check.start_right.Statement.{statement}
 use Rattle.timetable.proofs.check.start_right.Tie as tie
-use Rattle.timetable.proofs.check.start_right.Reads as reads
-use Rattle.timetable.proofs.check.start_right.Lts as lts
 
 returns : tie.Need-returns
 returns c = rw (c .if1 .taken) (taut 2 (λ t b. t) (λ t b. (not true || t) && (not t || b || true)) tt (c .before .args .taken) (c .before .args .before))

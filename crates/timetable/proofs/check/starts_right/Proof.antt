@@ -1,16 +1,13 @@
-use Prim.Native.Nat.{ℕ, _+_, _≤_, _<_, _-_}
+-- `timetable::check::starts_right` meets its contract. The starts before time i + 1 are right, and what is left decides.
+use Prim.Native.Nat.{_+_, _≤_, _-_}
 use mathlib.Core.Path.{_≡_}
 use mathlib.Core.List.{map}
-use native.Mathlib.Omega.{arith}
 use borrow.Author.Needs.{needs}
 use Rattle.scope.specs.Kinds.{from, upTo}
 use Rattle.scope.specs.Score.{all}
 use Rattle.timetable.specs.Right.{startAt, beforeAt, walking}
 use Rattle.timetable.proofs.check.starts_right.Statement.{statement}
 use Rattle.timetable.proofs.check.starts_right.Tie as tie
-use Rattle.timetable.proofs.check.starts_right.Reads as reads
-use Rattle.timetable.proofs.check.starts_right.Lts as lts
-use Rattle.timetable.proofs.check.start_right.Reads as start-right-reads
 
 abbrev Inv-loop : tie.InvT-loop
 Inv-loop bytes cells y n before₀ i₀ before i = (i ≤ n) × (before ≡ beforeAt bytes y (i + 1)) × (all (map (startAt bytes cells y) (from (i + 1) (n - i))) ≡ all (map (startAt bytes cells y) (upTo n)))

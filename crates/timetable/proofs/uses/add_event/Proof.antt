@@ -1,5 +1,5 @@
--- A row of counts for each resource of the event; the counts stay small, since a row has up to 125 members.
-use Prim.Native.Nat.{ℕ, _+_, _*_, _≤_, _<_, _-_}
+-- `timetable::uses::add_event` meets its contract. The counts of the first k resources of the row are added; they stay far below the limit of their width.
+use Prim.Native.Nat.{_*_, _≤_, _-_}
 use mathlib.Core.Path.{_≡_}
 use mathlib.Core.List.{[]}
 use native.Mathlib.Omega.{arith}
@@ -9,11 +9,6 @@ use Rattle.tables.specs.Rows.{rowAt}
 use Rattle.timetable.specs.Uses.{EventAdded, event-none, next-counts, next-addable, adding}
 use Rattle.timetable.proofs.uses.add_event.Statement.{statement}
 use Rattle.timetable.proofs.uses.add_event.Tie as tie
-use Rattle.timetable.proofs.uses.add_event.Reads as reads
-use Rattle.timetable.proofs.uses.add_event.Lts as lts
-use Rattle.tables.proofs.row_len.Reads as row-len-reads
-use Rattle.tables.proofs.row_member.Reads as row-member-reads
-use Rattle.timetable.proofs.uses.add_taken.Reads as add-taken-reads
 
 abbrev Inv-loop : tie.InvT-loop
 Inv-loop uses₀ resources bytes e times n y k₀ uses k = (k ≤ n) × (n ≡ length (rowAt resources e)) × EventAdded times uses₀ bytes (e * times) (take k (rowAt resources e)) uses

@@ -1,14 +1,11 @@
-use Prim.Native.Nat.{ℕ, _+_, _*_, _≤_, _<_, _-_}
-use mathlib.Core.Path.{_≡_}
+-- `timetable::uses::add_taken` meets its contract. The counts of the times before t have one more for each byte 1.
+use Prim.Native.Nat.{_+_, _≤_, _<_, _-_}
 use native.Mathlib.Omega.{arith}
 use borrow.Author.Needs.{needs}
 use lib.ListN.{length}
 use Rattle.timetable.specs.Uses.{RowAdded, added-none, added-more, added-room, added-end}
 use Rattle.timetable.proofs.uses.add_taken.Statement.{statement}
 use Rattle.timetable.proofs.uses.add_taken.Tie as tie
-use Rattle.timetable.proofs.uses.add_taken.Reads as reads
-use Rattle.timetable.proofs.uses.add_taken.Lts as lts
-use Rattle.timetable.proofs.bytes.bit_of.Reads as bit-of-reads
 
 abbrev Inv-loop : tie.InvT-loop
 Inv-loop uses₀ base bytes y times t₀ uses t = (t ≤ times) × RowAdded uses₀ bytes base y t uses

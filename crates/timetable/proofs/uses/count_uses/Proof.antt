@@ -1,14 +1,12 @@
-use Prim.Native.Nat.{ℕ, _+_, _*_, _≤_, _<_, _-_}
-use mathlib.Core.Path.{_≡_, refl, _∙_}
+-- `timetable::uses::count_uses` meets its contract. The counts are those of the first e events.
+use Prim.Native.Nat.{_≤_, _-_}
+use mathlib.Core.Path.{_≡_, _∙_}
 use native.Mathlib.Omega.{arith}
 use borrow.Author.Needs.{needs}
-use lib.ListN.{length, take}
+use lib.ListN.{length}
 use Rattle.timetable.specs.Uses.{UsesOf, uses-none, uses-more, uses-end, uses-addable}
 use Rattle.timetable.proofs.uses.count_uses.Statement.{statement}
 use Rattle.timetable.proofs.uses.count_uses.Tie as tie
-use Rattle.timetable.proofs.uses.count_uses.Reads as reads
-use Rattle.timetable.proofs.uses.count_uses.Lts as lts
-use Rattle.timetable.proofs.uses.add_event.Reads as add-event-reads
 
 abbrev Inv-loop : tie.InvT-loop
 Inv-loop uses₀ resources bytes events times e₀ uses e = (e ≤ events) × (length uses ≡ length uses₀) × UsesOf times bytes resources e uses

@@ -10,10 +10,10 @@ ghost use Prim.Native.Nat.{ℕ};
 ghost use Rattle.scope.specs.Score.{infeasibility, objective};
 ghost use Rattle.instance.specs.Answers.{instanceOf};
 ghost use Rattle.instance.specs.Laws.{Accepted};
-ghost use Rattle.sheet.specs.Ready.{Scorable};
+ghost use Rattle.score.specs.Ready.{Scorable};
 
 // The uses are counted once, before the constraints are charged.
-pub fn scored(
+pub fn score_of(
     file: &[u8],
     bytes: &[u8],
     head: Head,

@@ -1,16 +1,12 @@
+-- `score::scored::score_of` meets its contract. The counted uses and the marks are those of the definitions, so the sums are the score.
 use mathlib.Core.Path.{refl}
 use lib.ListN.{replicate}
 use Rattle.instance.specs.Ready.{zeros}
-use Rattle.sheet.specs.Ready.{scorable-counts, scorable-walk}
-use Rattle.sheet.specs.Right.{infeasibility-right, objective-right}
+use Rattle.score.specs.Ready.{scorable-counts, scorable-walk}
+use Rattle.score.specs.Right.{infeasibility-right, objective-right}
 use borrow.Author.Needs.{needs}
-use Rattle.sheet.proofs.scored.scored.Statement.{statement}
-use Rattle.sheet.proofs.scored.scored.Tie as tie
-use Rattle.sheet.proofs.scored.scored.Reads as reads
-use Rattle.sheet.proofs.scored.scored.Lts as lts
-use Rattle.sheet.proofs.walk.charge_all.Reads as charge-all-reads
-use Rattle.timetable.proofs.uses.count_uses.Reads as count-uses-reads
-use Rattle.timetable.proofs.uses.mark_used.Reads as mark-used-reads
+use Rattle.score.proofs.scored.score_of.Statement.{statement}
+use Rattle.score.proofs.scored.score_of.Tie as tie
 
 cast-events : tie.Need-cast-events
 cast-events c = search needs
@@ -53,8 +49,8 @@ returns c = λ d a.
     let r = c .before .before .charge-all .ensures in
     (infeasibility-right a p (u .kept .0) (u .ensures) (m .ensures) (r .0), objective-right a p (u .kept .0) (u .ensures) (m .ensures) (r .1))
 
-pub scored-spec : {M : Type 1} → statement M
-scored-spec =
+pub score-of-spec : {M : Type 1} → statement M
+score-of-spec =
     tie.close
     (tie.spec
     cast-events

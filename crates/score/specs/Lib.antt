@@ -1,0 +1,4 @@
+pub mod Amounts
+pub mod Score
+pub mod Ready
+pub mod Right
