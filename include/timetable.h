@@ -18,6 +18,9 @@
  *    4   a counted list is longer than 255                     offset of the constraint's kind
  *    5   lo is above hi, or above the list's length            offset of the constraint's kind
  *    6   bytes are left over                                   offset of the first
+ *   10   a timetable has the wrong length                      length wanted
+ *   11   a timetable has a byte above 1                        offset of the first
+ *   12   not a timetable                                       first event that breaks it, from 1
  *
  * What every caller owes. A slice is a pointer and the number of its elements;
  * the pointer is good for that many elements. A pointer to an output is good
@@ -45,6 +48,29 @@ uint32_t timetable_read(const uint8_t *file, size_t file_length,
                         uint64_t *times, uint64_t *events,
                         uint64_t *resources, uint64_t *groups,
                         uint64_t *constraints, uint64_t *value);
+
+/*
+ * The score of a timetable: E x T bytes "taken", then E x T bytes "starts".
+ * Refusals: 1 to 6 for the file, then 10 to 12 for the timetable.
+ * Accepted: *infeasibility is the sum of the deviations of hard constraints,
+ * and *objective, the cost, the sum of weight x deviation of the others;
+ * *value is left alone.
+ */
+uint32_t timetable_score(const uint8_t *file, size_t file_length,
+                         const uint8_t *table, size_t table_length,
+                         uint64_t *infeasibility, uint64_t *objective,
+                         uint64_t *value);
+
+/*
+ * Whether two timetables are the same sheet: whether their bytes "taken" agree.
+ * Refusals: 1 to 6 for the file, then 10 to 12 for the first timetable, then
+ * 10 to 12 for the second.
+ * Accepted: *value is 1 if they are the same sheet, and 0 if they are not.
+ */
+uint32_t timetable_same_sheet(const uint8_t *file, size_t file_length,
+                              const uint8_t *first, size_t first_length,
+                              const uint8_t *second, size_t second_length,
+                              uint64_t *value);
 
 #ifdef __cplusplus
 }

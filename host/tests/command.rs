@@ -122,6 +122,78 @@ fn a_long_file_is_shown_around_the_offset() {
 }
 
 #[test]
+fn score_prints_both_amounts() {
+    let toy = [school("toy.instance"), school("toy.timetable")];
+    let found = run(&["score", &toy[0], &toy[1]]);
+    assert_eq!(found.printed, "infeasibility 0\nobjective 4\n");
+    assert_eq!((found.said.as_str(), found.status), ("", 0));
+}
+
+#[test]
+fn score_says_which_file_is_refused() {
+    let a = file("a-to-score", &hex(FILE_A));
+    let cut = file("cut-to-score", &hex(FILE_A)[..11]);
+    let [nowhere, short, two] = [
+        file("nowhere", &[0, 0]),
+        file("short", &[1]),
+        file("two", &[1, 2]),
+    ];
+    for (words, printed, said) in [
+        (
+            [&cut, &two],
+            "refused 1 11\n",
+            "timetable score: cut-to-score: refusal 1 11: ",
+        ),
+        (
+            [&a, &short],
+            "refused 10 2\n",
+            "timetable score: short: refusal 10 2: the length is wrong; 2 bytes are wanted\n",
+        ),
+        (
+            [&a, &two],
+            "refused 11 1\n",
+            "timetable score: two: refusal 11 1: a byte is above 1; the first is at offset 1\n  \
+             bytes from offset 0: 01 [02]\n",
+        ),
+        (
+            [&a, &nowhere],
+            "refused 12 1\n",
+            "timetable score: nowhere: refusal 12 1: this is not a timetable; \
+             event 1 is the first to break it\n",
+        ),
+    ] {
+        let found = run(&["score", words[0], words[1]]);
+        assert_eq!((found.printed.as_str(), found.status), (printed, 1));
+        assert!(found.said.starts_with(said), "{}", found.said);
+    }
+}
+
+#[test]
+fn same_compares_the_taken_bytes() {
+    let instance = file("two-times", &hex("02 01 00 01 00 00 00"));
+    let early = file("early", &[1, 0, 1, 0]);
+    let late = file("late", &[0, 1, 0, 1]);
+    for (words, printed) in [
+        ([&early, &early], "same\n"),
+        ([&early, &late], "different\n"),
+    ] {
+        let found = run(&["same", &instance, words[0], words[1]]);
+        assert_eq!(found.printed, printed);
+        assert_eq!((found.said.as_str(), found.status), ("", 0));
+    }
+    let bad = file("bad", &[0, 1, 0, 7]);
+    for (words, name) in [([&bad, &early], "bad"), ([&early, &bad], "bad")] {
+        let found = run(&["same", &instance, words[0], words[1]]);
+        assert_eq!(
+            (found.printed.as_str(), found.status),
+            ("refused 11 3\n", 1)
+        );
+        let said = format!("timetable same: {name}: refusal 11 3: ");
+        assert!(found.said.starts_with(&said), "{}", found.said);
+    }
+}
+
+#[test]
 fn every_refusal_is_told_in_words_with_its_numbers() {
     let mut told = Vec::new();
     for number in 1..=18 {
@@ -155,7 +227,7 @@ fn help_names_every_subcommand_and_each_has_its_own() {
     assert_eq!((overview.said.as_str(), overview.status), ("", 0));
     assert_eq!(overview, run(&["-h"]));
     assert_eq!(overview, run(&["help"]));
-    for name in ["read"] {
+    for name in ["read", "score", "same"] {
         assert!(overview.printed.contains(&format!("\n  {name} ")));
         let help = run(&[name, "--help"]);
         assert_eq!((help.said.as_str(), help.status), ("", 0));
@@ -178,6 +250,7 @@ fn help_lists_the_refusals_of_an_operation() {
 
 #[test]
 fn wrong_usage_is_told_and_prints_nothing() {
+    let twice = "timetable same: standard input can be read once only\n";
     let missing = school("no.instance");
     let toy = school("toy.instance");
     for (words, said) in [
@@ -196,6 +269,7 @@ fn wrong_usage_is_told_and_prints_nothing() {
             "timetable read: there is no option '--fast'\n",
         ),
         (vec!["read", &missing], "timetable read: "),
+        (vec!["same", &toy, "-", "-"], twice),
     ] {
         let found = run(&words);
         assert_eq!((found.printed.as_str(), found.status), ("", 2), "{words:?}");

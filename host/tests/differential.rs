@@ -10,13 +10,15 @@ use std::collections::BTreeMap;
 use std::env;
 use std::hint::black_box;
 use std::panic::{catch_unwind, AssertUnwindSafe};
+use std::thread;
 use std::time::{Duration, Instant};
 use support::cases::{self, Case};
 use timetable::engine::{self, call};
 use timetable::generate::{
-    damaged_bytes, damaged_instance, damaged_numbers, encode, instance, Random, Shape,
+    damaged_bytes, damaged_instance, damaged_numbers, damaged_table, encode, instance, school,
+    timetable, Random, Shape,
 };
-use timetable::reference;
+use timetable::reference::{self, Instance};
 
 /// Cases of a run, and how long they may take.
 const CASES: u64 = 20_000;
@@ -26,9 +28,13 @@ const LIMIT: Duration = Duration::from_secs(120);
 fn every_case_of_the_vectors_has_the_expected_answer() {
     let run = cases::compare(|case| match case {
         Case::Read(file) => Some(engine::read(file).map(cases::accepted)),
+        Case::Score(file, table) => Some(engine::score(file, table).map(cases::scored)),
+        Case::SameSheet(file, first, second) => {
+            Some(engine::same_sheet(file, first, second).map(cases::compared))
+        }
         _ => None,
     });
-    assert_eq!(run, 450);
+    assert_eq!(run, 450 + 240 + 240);
 }
 
 #[test]
@@ -38,6 +44,47 @@ fn files_are_read_alike() {
         read_alike(random, &file)
     });
     assert_eq!(seen, [0, 1, 2, 3, 4, 5, 6]);
+}
+
+#[test]
+fn timetables_are_scored_alike() {
+    let seen = each_seed(|random| {
+        let (file, instance) = mostly_accepted(random);
+        let table = any_table(random, &instance);
+        score_alike(random, &file, &table)
+    });
+    assert_eq!(seen, [0, 1, 2, 3, 4, 5, 6, 10, 11, 12]);
+}
+
+#[test]
+fn timetables_are_compared_alike() {
+    let seen = each_seed(|random| {
+        let (file, instance) = mostly_accepted(random);
+        let first = any_table(random, &instance);
+        let second = match random.below(3) {
+            0 => first.clone(),
+            1 => damaged_table(random, &first),
+            _ => any_table(random, &instance),
+        };
+        same_sheet_alike(random, &file, &first, &second)
+    });
+    assert_eq!(seen, [0, 1, 2, 3, 4, 5, 6, 10, 11, 12]);
+}
+
+#[test]
+fn large_timetables_are_scored_alike() {
+    for events in [400, 1_024] {
+        let mut random = Random::new(first_seed());
+        let instance = school(&mut random, events);
+        let file = encode(&instance);
+        for _ in 0..20 {
+            let table = timetable(&mut random, &instance);
+            assert_eq!(score_alike(&mut random, &file, &table), 0);
+            assert_eq!(same_sheet_alike(&mut random, &file, &table, &table), 0);
+            let damaged = damaged_table(&mut random, &table);
+            score_alike(&mut random, &file, &damaged);
+        }
+    }
 }
 
 #[test]
@@ -66,12 +113,26 @@ fn every_byte_of_a_file_changed_is_read_alike() {
     }
 }
 
+/// The stack that include/timetable.h names is enough.
+#[test]
+fn calls_fit_the_stack_that_the_header_names() {
+    let calls = thread::Builder::new().stack_size(512 * 1024).spawn(|| {
+        let file = include_bytes!("../schools/small.instance");
+        let table = include_bytes!("../schools/small.timetable");
+        assert!(engine::read(file).is_ok());
+        assert!(engine::score(file, table).is_ok());
+        assert!(engine::same_sheet(file, table, table).is_ok());
+    });
+    calls.expect("a thread").join().expect("the calls return");
+}
+
 /// Runs the cases of a test, each with its own seed, within the time limit.
 /// Gives the numbers that the engine returned.
 fn each_seed(case: impl Fn(&mut Random) -> u32) -> Vec<u32> {
     let first = first_seed();
     let count = number("DIFFERENTIAL_CASES").unwrap_or(CASES);
     println!("seeds {first} to {}", first + count - 1);
+    let limit = LIMIT * count.div_ceil(CASES) as u32;
     let start = Instant::now();
     let mut seen = BTreeMap::new();
     for seed in first..first + count {
@@ -81,8 +142,8 @@ fn each_seed(case: impl Fn(&mut Random) -> u32) -> Vec<u32> {
             Err(_) => panic!("seed {seed}"),
         }
         assert!(
-            start.elapsed() < LIMIT,
-            "seed {seed}: the cases take more than {LIMIT:?}"
+            start.elapsed() < limit,
+            "seed {seed}: the cases take more than {limit:?}"
         );
     }
     println!("numbers returned, with how often: {seen:?}");
@@ -98,16 +159,42 @@ fn number(variable: &str) -> Option<u64> {
     Some(text.parse().expect("a number"))
 }
 
-/// An instance file, valid or damaged, or any bytes.
-fn any_file(random: &mut Random) -> Vec<u8> {
+/// An instance of any shape.
+fn any_instance(random: &mut Random) -> Instance {
     let shape = match random.below(20) {
         0 => Shape::school(),
         1 => long_lists(),
         2..=7 => Shape::tiny(),
         _ => Shape::small(),
     };
-    let feasible = false; // a file is read alike whether it can be kept or not
-    let instance = instance(random, &Shape { feasible, ..shape });
+    // That a timetable keeps the hard constraints does not matter here.
+    let feasible = false;
+    instance(random, &Shape { feasible, ..shape })
+}
+
+/// An instance and its file; of ten files one is damaged.
+fn mostly_accepted(random: &mut Random) -> (Vec<u8>, Instance) {
+    let instance = any_instance(random);
+    let file = match random.below(20) {
+        0 => encode(&damaged_instance(random, &instance)),
+        1 => damaged_numbers(random, &encode(&instance)),
+        _ => encode(&instance),
+    };
+    (file, instance)
+}
+
+/// A timetable of an instance, or what damage makes of one.
+fn any_table(random: &mut Random, instance: &Instance) -> Vec<u8> {
+    let table = timetable(random, instance);
+    match random.below(3) {
+        0 => damaged_table(random, &table),
+        _ => table,
+    }
+}
+
+/// An instance file, valid or damaged, or any bytes.
+fn any_file(random: &mut Random) -> Vec<u8> {
+    let instance = any_instance(random);
     match random.below(6) {
         0 => encode(&instance),
         1 => encode(&damaged_instance(random, &instance)),
@@ -195,5 +282,52 @@ fn read_alike(random: &mut Random, file: &[u8]) -> u32 {
     };
     assert_eq!(found, expected, "file {file:02x?}");
     lent.assert_unchanged();
+    number
+}
+
+/// Scores `table` with both, and compares the answer and every output.
+fn score_alike(random: &mut Random, file: &[u8], table: &[u8]) -> u32 {
+    let lent = [Lent::new(random, file), Lent::new(random, table)];
+    let dirty = call::Amounts {
+        infeasibility: random.draw(),
+        objective: random.draw(),
+    };
+    let dirty_value = random.draw();
+    let mut amounts = dirty;
+    let mut value = dirty_value;
+    let number = call::score(lent[0].part(), lent[1].part(), &mut amounts, &mut value);
+    let (amounts, value) = black_box((amounts, value));
+    let found = (number, value, amounts);
+    let expected = match reference::score(file, table) {
+        Ok(score) => {
+            let amounts = call::Amounts {
+                infeasibility: score.infeasibility.0,
+                objective: score.objective.0,
+            };
+            (0, dirty_value, amounts)
+        }
+        Err(refusal) => (refusal.number, refusal.value, dirty),
+    };
+    assert_eq!(found, expected, "file {file:02x?}, timetable {table:02x?}");
+    lent.iter().for_each(Lent::assert_unchanged);
+    number
+}
+
+/// Compares two timetables with both, and compares the answer.
+fn same_sheet_alike(random: &mut Random, file: &[u8], first: &[u8], second: &[u8]) -> u32 {
+    let lent = [file, first, second].map(|part| Lent::new(random, part));
+    let mut value = random.draw();
+    let [lent_file, lent_first, lent_second] = lent.each_ref().map(Lent::part);
+    let number = call::same_sheet(lent_file, lent_first, lent_second, &mut value);
+    let found = (number, black_box(value));
+    let expected = match reference::same_sheet(file, first, second) {
+        Ok(same) => (0, u64::from(same)),
+        Err(refusal) => (refusal.number, refusal.value),
+    };
+    assert_eq!(
+        found, expected,
+        "file {file:02x?}, timetables {first:02x?} and {second:02x?}"
+    );
+    lent.iter().for_each(Lent::assert_unchanged);
     number
 }

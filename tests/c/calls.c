@@ -6,6 +6,10 @@
 /* One time, one event, an empty group, kind 3 at weight 4. */
 static const uint8_t file[] = {1, 1, 0, 1, 0, 1, 0, 1, 3, 4, 1, 1};
 
+/* The event at the time, and the event nowhere. */
+static const uint8_t table[] = {1, 1};
+static const uint8_t no_table[] = {0, 0};
+
 /* What stands in an output that is left alone. */
 static const uint64_t kept = 77;
 
@@ -51,10 +55,48 @@ static void read_refused(void)
     expect("constraints, cut", constraints, kept);
 }
 
+static void scored(void)
+{
+    uint64_t infeasibility = kept, objective = kept, value = kept;
+    uint32_t number = timetable_score(file, sizeof file, table, sizeof table,
+                                      &infeasibility, &objective, &value);
+    expect("score", number, 0);
+    expect("infeasibility", infeasibility, 0);
+    expect("objective", objective, 4);
+    expect("value, scored", value, kept);
+}
+
+static void score_refused(void)
+{
+    uint64_t infeasibility = kept, objective = kept, value = kept;
+    uint32_t number = timetable_score(file, sizeof file, no_table, sizeof no_table,
+                                      &infeasibility, &objective, &value);
+    expect("score, no timetable", number, 12);
+    expect("value, no timetable", value, 1);
+    expect("infeasibility, no timetable", infeasibility, kept);
+    expect("objective, no timetable", objective, kept);
+}
+
+static void same_sheet(void)
+{
+    uint64_t value = kept;
+    uint32_t number = timetable_same_sheet(file, sizeof file, table, sizeof table,
+                                           table, sizeof table, &value);
+    expect("same sheet", number, 0);
+    expect("value, same sheet", value, 1);
+    number = timetable_same_sheet(file, sizeof file, table, sizeof table,
+                                  no_table, 1, &value);
+    expect("same sheet, cut", number, 10);
+    expect("value, same sheet, cut", value, 2);
+}
+
 int main(void)
 {
     read_accepted();
     read_refused();
+    scored();
+    score_refused();
+    same_sheet();
     if (failures == 0)
         puts("ok");
     return failures != 0;

@@ -1,4 +1,5 @@
 pub mod Call
 pub mod Operations
 pub mod Within
+pub mod RunWithin
 pub mod Numbers

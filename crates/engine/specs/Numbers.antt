@@ -4,10 +4,17 @@ use mathlib.Core.Path.{_≡_, refl}
 use mathlib.Core.Bool.{true, false}
 use mathlib.Core.List.{List, [], _∷_}
 use native.Mathlib.Omega.{arith}
+use lib.Dec.{leb, eqb}
+use lib.ListN.{length}
 use Rattle.scope.specs.Parsed.{Answer, answered}
-use Rattle.scope.specs.Operations.{readOf}
+use Rattle.scope.specs.Cnf.{bit}
+use Rattle.scope.specs.Score.{firstAbove}
+use Rattle.scope.specs.Formula.{variables, hardOf, boundedVariables, boundedHard, mostBound, mostVariables}
+use Rattle.scope.specs.Text.{text}
+use Rattle.scope.specs.Operations.{readOf, scoreOf, sameSheetOf, sizesOf, textSizeOf, textOf, decodeOf, lowestFalse, Lent, formulaFits, limitsOf, checkOf}
 use Rattle.engine.specs.Call.{called}
-use Rattle.engine.specs.Within.{oneOf, Within, accepts, refuses, Reader, on-file}
+use Rattle.engine.specs.Within.{oneOf, Within, accepts, refuses, Reader, on-file, given-if, given-for, Timetables, on-timetable}
+use Rattle.engine.specs.RunWithin.{Proofs, a-plain-run}
 
 -- an answer that is no refusal
 pub record Accepted {A : Type 0} (a : Answer A) : Type 0 where
@@ -27,11 +34,77 @@ zero-accepted {ns} written before none (refuses e) z =
     let f : ⊥ = omega arith in
     absurd f
 
+-- the reader's numbers, before those of later places
+abbrev pub fromFile : List ℕ → List ℕ
+fromFile later = 1 ∷ 2 ∷ 3 ∷ 4 ∷ 5 ∷ 6 ∷ later
+
+of-file : (later : List ℕ) → Reader (fromFile later)
+of-file later = record { e1 = refl; e2 = refl; e3 = refl; e4 = refl; e5 = refl; e6 = refl }
+
 -- reading: 1 to 6
 abbrev pub readNumbers : List ℕ
-readNumbers = 1 ∷ 2 ∷ 3 ∷ 4 ∷ 5 ∷ 6 ∷ []
+readNumbers = fromFile []
 
 pub read-numbers : (file : List ℕ) → Within readNumbers (readOf file)
 unfolding readOf
-read-numbers file =
-    on-file (record { e1 = refl; e2 = refl; e3 = refl; e4 = refl; e5 = refl; e6 = refl }) file (λ i. accepts)
+read-numbers file = on-file (of-file _) file (λ i. accepts)
+
+-- scoring and the same sheet: 1 to 6, 10 to 12
+abbrev pub sheetNumbers : List ℕ
+sheetNumbers = fromFile (10 ∷ 11 ∷ 12 ∷ [])
+
+timetables : Timetables sheetNumbers
+timetables = record { e10 = refl; e11 = refl; e12 = refl }
+
+pub score-numbers : (file table : List ℕ) → Within sheetNumbers (scoreOf file table)
+unfolding scoreOf
+score-numbers file table = on-file (of-file _) file (λ i. on-timetable timetables i table accepts)
+
+pub same-sheet-numbers : (file first second : List ℕ) → Within sheetNumbers (sameSheetOf file first second)
+unfolding sameSheetOf
+same-sheet-numbers file first second =
+    on-file (of-file _) file (λ i. on-timetable timetables i first (on-timetable timetables i second accepts))
+
+-- sizes: 1 to 8
+pub sizes-numbers : (file : List ℕ) (B : ℕ) → Within (fromFile (7 ∷ 8 ∷ [])) (sizesOf file B)
+unfolding sizesOf
+sizes-numbers file B =
+    on-file (of-file _) file
+    (λ i. given-if (leb B mostBound) 7 B refl (given-if (leb (boundedVariables i B) mostVariables) 8 0 refl accepts))
+
+-- the text's size: 1 to 6, 8; the text: 9 too
+pub text-size-numbers : (file : List ℕ) → Within (fromFile (8 ∷ [])) (textSizeOf file)
+unfolding textSizeOf
+text-size-numbers file = on-file (of-file _) file (λ i. given-if (leb (variables i) mostVariables) 8 0 refl accepts)
+
+pub text-numbers : (file : List ℕ) (room : ℕ) → Within (fromFile (8 ∷ 9 ∷ [])) (textOf file room)
+unfolding textOf
+text-numbers file room =
+    on-file (of-file _) file
+    (λ i. given-if (leb (variables i) mostVariables) 8 0 refl (given-if (leb (length (text i)) room) 9 0 refl accepts))
+
+-- decoding: 1 to 6, 8, 10, 11, 13
+pub decode-numbers : (file m : List ℕ) → Within (fromFile (8 ∷ 10 ∷ 11 ∷ 13 ∷ [])) (decodeOf file m)
+unfolding decodeOf
+decode-numbers file m =
+    on-file (of-file _) file
+    (λ i.
+    given-if (leb (variables i) mostVariables) 8 0 refl
+    (given-if (eqb (length m) (variables i)) 10 (variables i) refl
+    (given-for 11 (firstAbove 0 m) refl (given-for 13 (lowestFalse (bit m) 1 (hardOf i)) refl accepts))))
+
+-- checking a bound proof: 1 to 9, 14 to 18
+abbrev pub checkNumbers : List ℕ
+checkNumbers = fromFile (7 ∷ 8 ∷ 9 ∷ 14 ∷ 15 ∷ 16 ∷ 17 ∷ 18 ∷ [])
+
+proofs : Proofs checkNumbers
+proofs = record { e14 = refl; e15 = refl; e16 = refl; e17 = refl; e18 = refl }
+
+pub check-numbers : (file : List ℕ) (B : ℕ) (proof : List ℕ) (l : Lent) → Within checkNumbers (checkOf file B proof l)
+unfolding checkOf
+check-numbers file B proof l =
+    on-file (of-file _) file
+    (λ i.
+    given-if (leb B mostBound) 7 B refl
+    (given-if (leb (boundedVariables i B) mostVariables) 8 0 refl
+    (given-if (formulaFits i B l) 9 0 refl (a-plain-run proofs (limitsOf i B l) (boundedHard i B) proof))))

@@ -1,14 +1,16 @@
--- Which numbers the refusals of an operation have; those of the reader are 1 to 6.
-use Prim.Native.Nat.{ℕ, zero, suc}
+-- Which numbers the refusals of an operation have, place by place.
+use Prim.Native.Nat.{ℕ, zero, suc, _*_}
 use mathlib.Core.Path.{_≡_, refl}
 use mathlib.Core.Bool.{Bool, true, false, cond, _||_}
 use mathlib.Core.List.{List, [], _∷_}
+use mathlib.Core.Option.{Option, none, some}
 use lib.Dec.{eqb, leb, ltb}
 use lib.ListN.{length, drop}
-use Rattle.scope.specs.Parsed.{Parsed, got, refused, Answer, answered, refusal, andThen, unless, cons, repeat, with}
+use Rattle.scope.specs.Parsed.{Parsed, got, refused, Answer, answered, refusal, andThen, unless, cons, repeat, with, provided}
 use Rattle.scope.specs.Number.{Front, broken, whole, within, front, numberFrom, number, limited, reference, references, listed}
 use Rattle.scope.specs.Kinds.{Event, Kind, Constraint, cluster, idle, lowOf, highOf, longest, rulesOf}
 use Rattle.scope.specs.Instance.{Counts, countsOf, Instance, eventAt, pairAt, boundsAt, clashAt, unavailableAt, preferredAt, splitAt, spreadAt, busyAt, overGroupsAt, fieldsAt, ended, constraintAt, sizesAt, groupsAt, constraintsAt, parse}
+use Rattle.scope.specs.Score.{cells, truth, firstWrong, firstAbove, unlessFound, ofTimetable}
 
 -- one of some numbers
 abbrev pub oneOf : List ℕ → ℕ → Bool
@@ -171,3 +173,26 @@ module _ {ns : List ℕ} (r : Reader ns) where
       of-parsed : {A : Type 0} {p : Parsed Instance} {f : Instance → Answer A} → Reads ns p → ((i : Instance) → Within ns (f i)) → Within ns (with p f)
       of-parsed reads h = h _
       of-parsed (stops e) h = refuses e
+
+module _ {ns : List ℕ} {A : Type 0} {a : Answer A} where
+  -- a test, and a search
+  pub given-if : (b : Bool) (k v : ℕ) → oneOf ns k ≡ true → Within ns a → Within ns (provided b k v a)
+  given-if true k v e h = h
+  given-if false k v e h = refuses e
+
+  pub given-for : (k : ℕ) (o : Option ℕ) → oneOf ns k ≡ true → Within ns a → Within ns (unlessFound k o a)
+  given-for k none e h = h
+  given-for k (some v) e h = refuses e
+
+-- a timetable gives 10 to 12
+pub record Timetables (ns : List ℕ) : Type 0 where
+  pub e10 : oneOf ns 10 ≡ true
+  pub e11 : oneOf ns 11 ≡ true
+  pub e12 : oneOf ns 12 ≡ true
+
+pub on-timetable : {ns : List ℕ} {A : Type 0} {a : Answer A} (t : Timetables ns) (i : Instance) (b : List ℕ)
+    → Within ns a
+    → Within ns (ofTimetable i b a)
+on-timetable t i b h =
+    given-if (eqb (length b) (2 * cells i)) 10 (2 * cells i) (t .e10)
+    (given-for 11 (firstAbove 0 b) (t .e11) (given-for 12 (firstWrong i (truth i b) 1 (i .events)) (t .e12) h))

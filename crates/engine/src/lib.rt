@@ -1,14 +1,18 @@
 // The engine's operations as C functions, which include/timetable.h declares.
 //
 // Each answers 0 if it is accepted, and else the number of the first refusal in document 01's order. Its contract is one
-// equation: what the call leaves (the number returned, *value and every other output) is what specs/Operations.antt says of the
-// operation's answer by the definitions. A slice can change only through a `&mut`, so inputs keep every byte. None asks
-// anything of its caller but good pointers.
+// equation: what the call leaves (the number returned, *value and every other output) is what specs/Operations.antt says of
+// the operation's answer by the definitions. An input is lent as `&`, so it keeps every byte. None asks anything of its caller
+// but good pointers. specs/Numbers.antt shows that 0 is returned for an accepted call alone.
 use instance::read_instance;
 use scope::ReadAnswer;
 use scope::Refusal;
+use scope::ScoreAnswer;
+use scope::SheetAnswer;
+use sheet::same_sheet;
+use sheet::score;
 ghost use mathlib.Core.Path.{_≡_};
-ghost use Rattle.engine.specs.Operations.{readCall};
+ghost use Rattle.engine.specs.Operations.{readCall, sameSheetCall, scoreCall};
 
 // A refusal: its value goes to *value, its number is returned.
 fn refuse(f: Refusal, value: &mut u64) -> u32
@@ -40,6 +44,52 @@ pub extern "C" fn timetable_read(
             *resources = z.resources as u64;
             *groups = z.groups as u64;
             *constraints = z.constraints as u64;
+            0
+        }
+    }
+}
+
+// The infeasibility and the objective of a timetable, or 1 to 6, 10 to 12.
+#[no_mangle]
+pub extern "C" fn timetable_score(
+    file: &[u8],
+    table: &[u8],
+    infeasibility: &mut u64,
+    objective: &mut u64,
+    value: &mut u64,
+) -> u32
+    ensures { λ r. ⌜ record { number = r; value = now (value .exit); outputs = (now (infeasibility .exit), now (objective .exit)) } ≡ scoreCall (now (file .entry)) (now (table .entry)) (now (value .entry)) (now (infeasibility .entry), now (objective .entry)) ⌝ }
+{
+    let answer = score(file, table);
+    match answer {
+        ScoreAnswer::Refused(f) => refuse(f, value),
+        ScoreAnswer::Scored(i, o) => {
+            *infeasibility = i.0;
+            *objective = o.0;
+            0
+        }
+    }
+}
+
+// Whether two timetables are the same sheet, 1 or 0 in *value, or 1 to 6, 10 to 12.
+#[no_mangle]
+pub extern "C" fn timetable_same_sheet(
+    file: &[u8],
+    first: &[u8],
+    second: &[u8],
+    value: &mut u64,
+) -> u32
+    ensures { λ r. ⌜ record { number = r; value = now (value .exit); outputs = tt } ≡ sameSheetCall (now (file .entry)) (now (first .entry)) (now (second .entry)) ⌝ }
+{
+    let answer = same_sheet(file, first, second);
+    match answer {
+        SheetAnswer::Refused(f) => refuse(f, value),
+        SheetAnswer::Same => {
+            *value = 1;
+            0
+        }
+        SheetAnswer::Different => {
+            *value = 0;
             0
         }
     }

@@ -7,6 +7,7 @@ mod operands;
 pub mod refusals;
 mod subcommands;
 
+use crate::reference::Refusal;
 use operands::{Operands, Role};
 use std::ffi::OsString;
 use std::io::Write;
@@ -69,24 +70,14 @@ fn answer(words: Vec<OsString>) -> Result<Vec<u8>, Fault> {
     let Some(subcommand) = SUBCOMMANDS.iter().find(|known| known.name == name) else {
         return Err(misused(&format!("there is no subcommand '{name}'")));
     };
-    let mut given = Vec::new();
-    let mut options_end = false;
-    for word in words {
-        match word.to_str() {
-            Some("--help" | "-h") if !options_end => return Ok(subcommand.help().into_bytes()),
-            Some("--") if !options_end => options_end = true,
-            Some(option) if !options_end && option.len() > 1 && option.starts_with('-') => {
-                return Err(subcommand.misused(&format!("there is no option '{option}'")));
-            }
-            _ => given.push(word),
-        }
-    }
+    let Some(given) = subcommand.operand_words(words)? else {
+        return Ok(subcommand.help().into_bytes());
+    };
     let operands = Operands::read(subcommand.operands, given)
         .map_err(|message| subcommand.misused(&message))?;
     (subcommand.run)(&operands).map_err(|refused| {
         let message = refused.message(&operands);
-        let number = refused.refusal.number;
-        let value = refused.refusal.value;
+        let Refusal { number, value } = refused.refusal;
         Fault::Refused(
             format!("refused {number} {value}\n"),
             format!("timetable {name}: {message}\n"),
@@ -119,6 +110,26 @@ impl Subcommand {
     fn call(&self) -> String {
         let names = self.operands.iter().map(|role| format!(" {}", role.name()));
         format!("{}{}", self.name, names.collect::<String>())
+    }
+
+    /// The words that are operands, or none where help is asked for.
+    fn operand_words(
+        &self,
+        words: impl Iterator<Item = OsString>,
+    ) -> Result<Option<Vec<OsString>>, Fault> {
+        let mut given = Vec::new();
+        let mut options_end = false;
+        for word in words {
+            match word.to_str() {
+                Some("--help" | "-h") if !options_end => return Ok(None),
+                Some("--") if !options_end => options_end = true,
+                Some(option) if !options_end && option.len() > 1 && option.starts_with('-') => {
+                    return Err(self.misused(&format!("there is no option '{option}'")));
+                }
+                _ => given.push(word),
+            }
+        }
+        Ok(Some(given))
     }
 
     fn misused(&self, message: &str) -> Fault {

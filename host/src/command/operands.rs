@@ -8,18 +8,28 @@ use std::io::{self, Read};
 #[derive(Clone, Copy, PartialEq, Eq)]
 pub enum Role {
     Instance,
+    Timetable,
+    /// Of two timetables.
+    First,
+    Second,
 }
 
 impl Role {
     pub fn name(self) -> &'static str {
         match self {
             Role::Instance => "INSTANCE",
+            Role::Timetable => "TIMETABLE",
+            Role::First => "FIRST",
+            Role::Second => "SECOND",
         }
     }
 
     pub fn about(self) -> &'static str {
         match self {
             Role::Instance => "the instance file",
+            Role::Timetable => "a timetable's bytes",
+            Role::First => "the first timetable's bytes",
+            Role::Second => "the second timetable's bytes",
         }
     }
 }

@@ -5,25 +5,63 @@ use super::{refusals, Subcommand};
 use crate::engine;
 use crate::reference::Refusal;
 
-pub const SUBCOMMANDS: &[Subcommand] = &[Subcommand {
-    name: "read",
-    operands: &[Role::Instance],
-    about: "whether an instance file is accepted, and how much it holds",
-    prints: "'accepted', then a line for each count: \
-             times, events, resources, groups, constraints",
-    refusals: &[1..=6],
-    run: |given| {
-        let found = engine::read(given.bytes(0))?;
-        let counts = [
-            ("times", found.times as u64),
-            ("events", found.events as u64),
-            ("resources", found.resources as u64),
-            ("groups", found.groups as u64),
-            ("constraints", found.constraints as u64),
-        ];
-        Ok([b"accepted\n".to_vec(), lines(&counts)].concat())
+pub const SUBCOMMANDS: &[Subcommand] = &[
+    Subcommand {
+        name: "read",
+        operands: &[Role::Instance],
+        about: "whether an instance file is accepted, and how much it holds",
+        prints: "'accepted', then times, events, resources, groups and constraints, \
+                 each with its number on a line",
+        refusals: &[1..=6],
+        run: |given| {
+            let found = engine::read(given.bytes(0))?;
+            let counts = [
+                ("times", found.times as u64),
+                ("events", found.events as u64),
+                ("resources", found.resources as u64),
+                ("groups", found.groups as u64),
+                ("constraints", found.constraints as u64),
+            ];
+            Ok([line("accepted"), lines(&counts)].concat())
+        },
     },
-}];
+    Subcommand {
+        name: "score",
+        operands: &[Role::Instance, Role::Timetable],
+        about: "the infeasibility and the objective of a timetable",
+        prints: "infeasibility and objective, each with its number on a line",
+        refusals: &[1..=6, 10..=12],
+        run: |given| {
+            let score = engine::score(given.bytes(0), given.bytes(1))?;
+            Ok(lines(&[
+                ("infeasibility", score.infeasibility.0),
+                ("objective", score.objective.0),
+            ]))
+        },
+    },
+    Subcommand {
+        name: "same",
+        operands: &[Role::Instance, Role::First, Role::Second],
+        about: "whether two timetables are the same sheet",
+        prints: "'same' or 'different'",
+        refusals: &[1..=6, 10..=12],
+        run: |given| {
+            let [file, first, second] = [0, 1, 2].map(|place| given.bytes(place));
+            match engine::same_sheet(file, first, second) {
+                Ok(true) => Ok(line("same")),
+                Ok(false) => Ok(line("different")),
+                Err(refusal) => Err(Refused {
+                    refusal,
+                    // The first timetable is judged first, as it is for its score.
+                    place: match engine::score(file, first) {
+                        Ok(_) => Some(2),
+                        Err(_) => None,
+                    },
+                }),
+            }
+        },
+    },
+];
 
 /// A refusal, with the place of the operand that earned it where its number
 /// does not tell.
@@ -54,14 +92,19 @@ impl Refused {
 /// The roles of the operands that can earn refusal `number`.
 fn roles(number: u32) -> &'static [Role] {
     match number {
+        10..=12 => &[Role::Timetable, Role::First],
         _ => &[Role::Instance],
     }
+}
+
+fn line(word: &str) -> Vec<u8> {
+    format!("{word}\n").into_bytes()
 }
 
 /// A line for each name with its number.
 fn lines(counts: &[(&str, u64)]) -> Vec<u8> {
     let lines = counts
         .iter()
-        .map(|(name, count)| format!("{name} {count}\n"));
-    lines.collect::<String>().into_bytes()
+        .map(|(name, count)| line(&format!("{name} {count}")));
+    lines.collect::<Vec<_>>().concat()
 }

@@ -31,6 +31,45 @@ pub fn read(file: &[u8], counts: &mut Counts, value: &mut u64) -> u32 {
     }
 }
 
+/// What a timetable is charged.
+#[derive(Clone, Copy, Debug, Default, PartialEq, Eq)]
+pub struct Amounts {
+    pub infeasibility: u64,
+    pub objective: u64,
+}
+
+/// 0 with the amounts written, or 1 to 6, 10 to 12 with `value` written.
+pub fn score(file: &[u8], table: &[u8], amounts: &mut Amounts, value: &mut u64) -> u32 {
+    // SAFETY: see the head of this file; the fields of `amounts` do not overlap.
+    unsafe {
+        c::timetable_score(
+            file.as_ptr(),
+            file.len(),
+            table.as_ptr(),
+            table.len(),
+            &mut amounts.infeasibility,
+            &mut amounts.objective,
+            value,
+        )
+    }
+}
+
+/// 0 with 1 or 0 in `value`, or 1 to 6, 10 to 12 with `value` written.
+pub fn same_sheet(file: &[u8], first: &[u8], second: &[u8], value: &mut u64) -> u32 {
+    // SAFETY: see the head of this file.
+    unsafe {
+        c::timetable_same_sheet(
+            file.as_ptr(),
+            file.len(),
+            first.as_ptr(),
+            first.len(),
+            second.as_ptr(),
+            second.len(),
+            value,
+        )
+    }
+}
+
 /// The declarations of `include/timetable.h`.
 mod c {
     extern "C" {
@@ -42,6 +81,26 @@ mod c {
             resources: *mut u64,
             groups: *mut u64,
             constraints: *mut u64,
+            value: *mut u64,
+        ) -> u32;
+
+        pub fn timetable_score(
+            file: *const u8,
+            file_length: usize,
+            table: *const u8,
+            table_length: usize,
+            infeasibility: *mut u64,
+            objective: *mut u64,
+            value: *mut u64,
+        ) -> u32;
+
+        pub fn timetable_same_sheet(
+            file: *const u8,
+            file_length: usize,
+            first: *const u8,
+            first_length: usize,
+            second: *const u8,
+            second_length: usize,
             value: *mut u64,
         ) -> u32;
     }

@@ -6,8 +6,8 @@
 
 pub mod call;
 
-use crate::reference::{Refusal, Summary};
-use call::Counts;
+use crate::reference::{Infeasibility, Objective, Refusal, Score, Summary};
+use call::{Amounts, Counts};
 
 /// Reads an instance file: accepted, or 1 to 6.
 pub fn read(file: &[u8]) -> Result<Summary, Refusal> {
@@ -22,6 +22,26 @@ pub fn read(file: &[u8]) -> Result<Summary, Refusal> {
         groups: counts.groups as usize,
         constraints: counts.constraints as usize,
     })
+}
+
+/// The score of a timetable, or 1 to 6, 10 to 12.
+pub fn score(file: &[u8], table: &[u8]) -> Result<Score, Refusal> {
+    let mut amounts = Amounts::default();
+    let mut value = 0;
+    let number = call::score(file, table, &mut amounts, &mut value);
+    accepted(number, value)?;
+    Ok(Score {
+        infeasibility: Infeasibility(amounts.infeasibility),
+        objective: Objective(amounts.objective),
+    })
+}
+
+/// Whether two timetables are the same sheet, or 1 to 6, 10 to 12.
+pub fn same_sheet(file: &[u8], first: &[u8], second: &[u8]) -> Result<bool, Refusal> {
+    let mut value = 0;
+    let number = call::same_sheet(file, first, second, &mut value);
+    accepted(number, value)?;
+    Ok(value == 1)
 }
 
 /// What a call answered: 0, or a refusal's number with the value it gives.
