@@ -1,16 +1,15 @@
 -- The turns of the loops that read a step, by the number at an offset.
 use mathlib.Core.Path.{_≡_, refl, sym, ap, _∙_}
-use mathlib.Core.Bool.{Bool, true, false, cond, _&&_}
+use mathlib.Core.Bool.{true, false, _&&_}
 use mathlib.Core.List.{List, [], _∷_}
-use Prim.Native.Nat.{ℕ, zero, suc, _+_, _-_, _/_, _%_, _≤_, _<_}
+use Prim.Native.Nat.{ℕ, _+_, _-_, _/_, _%_, _≤_}
 use native.Mathlib.Omega.{arith}
 use lib.Dec.{leb, eqb}
-use lib.ListN.{length, length-set}
+use lib.ListN.{length}
 use borrow.Author.Tests.{leb-true}
-use Rattle.scope.specs.Parsed.{Parsed, got, refused}
+use Rattle.scope.specs.Parsed.{got, refused}
 use Rattle.scope.specs.Number.{number}
-use Rattle.scope.specs.Steps as steps
-use Rattle.scope.specs.Steps.{Tokens, upTo0, before, Marks, makeFalse, allFalse, literalsOk}
+use Rattle.scope.specs.Steps.{before, makeFalse, allFalse, literalsOk}
 use Rattle.store.specs.Marks.{marksOf, putMark, mark-put, put-length}
 use Rattle.theory.specs.Cases.{impossible, and-true}
 use Rattle.theory.specs.Tokens.{tokens-got}
@@ -18,7 +17,7 @@ use Rattle.bound.specs.declared.steps.Numbers.{Numbers}
 use Rattle.bound.specs.declared.steps.Numbers.the-variants.{End, Cut}
 use Rattle.bound.specs.declared.steps.Literals.{Literals}
 use Rattle.bound.specs.declared.steps.Literals.the-variants as found
-use Rattle.bound.specs.Reading.{tokensAt, numbersAt, Listed, Passes, ends, cut, literalOk, LiteralsAt, ReadsLiterals, reads, bad-literals}
+use Rattle.bound.specs.Reading.{numbersAt, Passes, ends, cut, literalOk, ReadsLiterals, reads, bad-literals}
 use Rattle.bound.specs.Listing.{list-cut, list-more, list-end, listed-more, consed}
 
 module _ (s : List ℕ) (at n next : ℕ) (e : number s at ≡ got n next) where

@@ -1,26 +1,25 @@
 -- What a step comes to, by the parts of it that were read.
 use mathlib.Core.Path.{_≡_, refl, sym, ap, _∙_}
-use mathlib.Core.Bool.{Bool, true, false, cond, _&&_}
-use mathlib.Core.List.{List, [], _∷_}
-use Prim.Native.Nat.{ℕ, _+_, _≤_, _<_}
+use mathlib.Core.Bool.{Bool, true, false}
+use mathlib.Core.List.{List}
+use Prim.Native.Nat.{ℕ, _≤_, _<_}
 use native.Mathlib.Omega.{arith}
-use lib.Dec.{ltb, eqb}
-use lib.ListN.{length, drop}
+use lib.Dec.{ltb}
+use lib.ListN.{length}
 use borrow.Author.Tests.{lt-ltb, le-ltb, eq-eqb, ne-eqb, ltb-true, ltb-false}
-use Rattle.scope.specs.Parsed.{Parsed, got, refused}
+use Rattle.scope.specs.Parsed.{got, refused}
 use Rattle.scope.specs.Number.{number}
 use Rattle.scope.specs.Steps as steps
-use Rattle.scope.specs.Steps.{Tokens, stop, bad, num, upTo0, numbers, Step, add, delete, StepRead, read, misread, readHints, readLiterals, readAdd, readDelete, readStep, allOpen, allFalse, literalsOk, wellFormed}
+use Rattle.scope.specs.Steps.{Tokens, stop, bad, upTo0, numbers, Step, add, StepRead, read, misread, readHints, readLiterals, readAdd, readDelete, readStep, allFalse, literalsOk, wellFormed}
 use Rattle.store.specs.Marks.{marksOf}
 use Rattle.theory.specs.Cases.{impossible}
-use Rattle.theory.specs.Tokens.{TokenAt, tokens-got, tokens-bad, tokens-stop}
-use Rattle.bound.specs.declared.steps.Clause.{Clause}
+use Rattle.theory.specs.Tokens.{tokens-got, tokens-bad, tokens-stop}
 use Rattle.bound.specs.declared.steps.Numbers.the-variants.{End, Cut}
 use Rattle.bound.specs.declared.steps.Literals.the-variants as found
 use Rattle.bound.specs.declared.steps.Read.{Read}
 use Rattle.bound.specs.declared.steps.Read.the-variants.{Adds, Deletes, Misformed}
 use Rattle.bound.specs.Reading.{tokensAt, numbersAt, Listed, Passes, ends, cut, LiteralsAt, ReadsLiterals, reads, bad-literals}
-use Rattle.bound.specs.Reading.{AddsAt, DeletesAt, MisformedAt, Open, ReadsStep, adds, deletes, misformed}
+use Rattle.bound.specs.Reading.{MisformedAt, Open, ReadsStep, adds, deletes, misformed}
 
 -- the tokens at an offset with no number begin no step, nor the rest of one
 data Empty : Tokens → Type 0 where

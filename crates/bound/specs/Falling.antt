@@ -1,5 +1,5 @@
 -- A check ends: what is left of it falls with each turn.
-use mathlib.Core.Path.{_≡_, refl, sym, ap, _∙_}
+use mathlib.Core.Path.{_≡_, refl}
 use mathlib.Core.Bool.{Bool, true, false, cond, _&&_}
 use mathlib.Core.List.{List}
 use Prim.Native.Nat.{ℕ, zero, suc, _+_, _-_, _*_, _≤_, _<_}
@@ -20,7 +20,7 @@ use Rattle.bound.specs.declared.check.Check.{Check}
 use Rattle.bound.specs.Reading.{ReadsStep, adds, deletes, misformed}
 use Rattle.bound.specs.Machine as machine
 use Rattle.bound.specs.Machine.{turnOf, turn-phase, stopped, onward, walked, Advances, gone, broken, walks, wipes, idle}
-use Rattle.bound.specs.Check.{withPhase, verdict, judged, keptAs, firstId, enteredAt, entered, stepped, TakesStep, over, takes}
+use Rattle.bound.specs.Check.{verdict, firstId, enteredAt, entered, stepped, TakesStep, over, takes}
 use Rattle.bound.specs.Run as run
 use Rattle.bound.specs.Run.{World, Turn, looks, keeps, judges, reads}
 

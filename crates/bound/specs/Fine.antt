@@ -1,9 +1,8 @@
 -- What holds of a check between its turns: the plain run's answer A is what is still to come.
 use mathlib.Core.Path.{_≡_}
-use mathlib.Core.Bool.{Bool, true, false}
-use mathlib.Core.List.{List, [], _∷_}
-use mathlib.Core.Option.{Option}
-use Prim.Native.Nat.{ℕ, suc, _+_, _-_, _≤_, _<_}
+use mathlib.Core.Bool.{true, false}
+use mathlib.Core.List.{List, _∷_}
+use Prim.Native.Nat.{ℕ, _+_, _-_, _≤_, _<_}
 use lib.ListN.{length}
 use Rattle.scope.specs.Parsed.{Answer, answered, refusal}
 use Rattle.scope.specs.Steps.{Tokens, upTo0, Live, allOpen, allFalse, literalsOk, follows, hintsShow, deleted}

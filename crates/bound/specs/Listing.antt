@@ -1,21 +1,21 @@
 -- Laws of the numbers that stand up to a 0 in the bytes of a proof.
 use mathlib.Core.Path.{_≡_, refl, sym, ap, _∙_}
-use mathlib.Core.Bool.{Bool, true, false, cond}
+use mathlib.Core.Bool.{Bool, true, false}
 use mathlib.Core.List.{List, [], _∷_}
-use Prim.Native.Nat.{ℕ, zero, suc, _+_, _≤_, _<_}
+use Prim.Native.Nat.{ℕ, zero, suc}
 use native.Mathlib.Omega.{arith}
 use lib.Dec.{ltb}
 use lib.ListN.{length, drop}
 use borrow.Author.Tests.{ltb-true, ltb-false}
-use Rattle.scope.specs.Parsed.{Parsed, got, refused}
+use Rattle.scope.specs.Parsed.{got, refused}
 use Rattle.scope.specs.Number.{number}
 use Rattle.scope.specs.Steps as steps
-use Rattle.scope.specs.Steps.{Tokens, stop, bad, num, tokens, upTo0, numbers, before}
+use Rattle.scope.specs.Steps.{Tokens, num, tokens, upTo0, numbers, before}
 use Rattle.number.specs.Answers.{said}
 use Rattle.number.specs.declared.Number.{Number}
 use Rattle.number.specs.declared.Number.the-variants.{Value, Refused}
 use Rattle.theory.specs.Cases.{impossible}
-use Rattle.theory.specs.Tokens.{TokenAt, tokens-got, tokens-bad, tokens-stop}
+use Rattle.theory.specs.Tokens.{tokens-got, tokens-bad, tokens-stop}
 use Rattle.bound.specs.Reading.{tokensAt, numbersAt, Listed}
 
 -- what a call of the number reader tells

@@ -1,32 +1,29 @@
 -- A turn that looks at a clause keeps what holds of a check: a hint is judged, or the variables of a clause are opened again.
 use mathlib.Core.Path.{_≡_, refl, sym, ap, _∙_, fun-ext}
-use mathlib.Core.Bool.{Bool, true, false, cond, _||_}
+use mathlib.Core.Bool.{Bool, true, false, cond}
 use mathlib.Core.List.{List, [], _∷_}
-use mathlib.Core.Option.{Option, none, some}
-use Prim.Native.Nat.{ℕ, zero, suc, _+_, _-_, _/_, _%_, _≤_, _<_}
+use mathlib.Core.Option.{none, some}
+use Prim.Native.Nat.{ℕ, _+_, _/_, _%_, _≤_, _<_}
 use native.Mathlib.Omega.{arith}
-use lib.Dec.{eqb}
 use lib.ListN.{length}
-use borrow.Author.Tests.{eq-eqb, ne-eqb, eqb-true, eqb-false}
-use Rattle.scope.specs.Parsed.{Answer, answered, refusal, got, refused}
+use borrow.Author.Tests.{ne-eqb}
+use Rattle.scope.specs.Parsed.{Answer, refusal, got}
 use Rattle.scope.specs.Number.{number}
 use Rattle.scope.specs.Steps as steps
-use Rattle.scope.specs.Steps.{Tokens, upTo0, Marks, makeTrue, allOpen, Live, Standing, standing, hintOf, byStanding, hintsShow}
+use Rattle.scope.specs.Steps.{Marks, makeTrue, Standing, standing, byStanding, hintsShow}
 use Rattle.scope.specs.PlainRun.{Limits, byShown}
 use Rattle.number.specs.Laws.{number-got}
 use Rattle.store.specs.declared.directory.Row.{Row}
 use Rattle.store.specs.Marks.{marksOf, putMark, mark-put, put-length}
 use Rattle.store.specs.Clauses.{inClause, Wiped}
-use Rattle.store.specs.Live.{rowClause}
 use Rattle.store.specs.Holding.{All, Good, open-in}
 use Rattle.theory.specs.Cases.{impossible, or-false}
-use Rattle.bound.specs.declared.machine.Phase.the-variants.{Next, Walk, Followed, Keep, Wipe, Delete, Proved, Refused}
+use Rattle.bound.specs.declared.machine.Phase.the-variants.{Next, Walk, Wipe, Refused}
 use Rattle.bound.specs.declared.check.Check.{Check}
-use Rattle.bound.specs.Reading.{tokensAt, numbersAt}
 use Rattle.bound.specs.Listing.{Ahead, last-id, more-ids, ids-ahead}
-use Rattle.bound.specs.Machine.{stopped, onward, onward-end, onward-more, walked, walked-last, walked-early, walkedMarks}
-use Rattle.bound.specs.Hints.{inHint, inHints, AllLive, IsLive, open-inside}
-use Rattle.bound.specs.Fine.{Base, InStep, ending, Adding, before, liveIn, Reading, Walking, Following, Wiping, FineAt}
+use Rattle.bound.specs.Machine.{onward, onward-end, onward-more, walked, walked-last, walked-early, walkedMarks}
+use Rattle.bound.specs.Hints.{inHint, inHints, IsLive, open-inside}
+use Rattle.bound.specs.Fine.{Base, ending, Adding, before, liveIn, Walking, Wiping, FineAt}
 
 module _ (s : List ℕ) (lim : Limits) (A : Answer ℕ) (c : Check) (R : ℕ → Row) (ws ms : List ℕ) (h at : ℕ) where
   -- a hint that is not live

@@ -1,15 +1,13 @@
 -- What a check answers: the plain run's answer for the formula that stands in the stores.
 use mathlib.Core.Path.{_≡_, refl, sym, ap, _∙_}
-use mathlib.Core.Bool.{Bool, true, false, cond}
-use mathlib.Core.List.{List, [], _∷_}
-use mathlib.Core.Option.{Option, none, some}
-use Prim.Native.Nat.{ℕ, zero, suc, _+_, _-_, _≤_, _<_}
+use mathlib.Core.List.{List}
+use mathlib.Core.Option.{none, some}
+use Prim.Native.Nat.{ℕ, suc, _≤_}
 use native.Mathlib.Omega.{arith}
 use lib.ListN.{length}
 use borrow.Author.Tests.{eq-eqb, ne-eqb}
-use Rattle.scope.specs.Parsed.{Answer, answered, refusal, got, refused}
-use Rattle.scope.specs.Number.{number}
-use Rattle.scope.specs.Steps.{allOpen, upTo0, put}
+use Rattle.scope.specs.Parsed.{Answer}
+use Rattle.scope.specs.Steps.{allOpen}
 use Rattle.scope.specs.Formula.{words}
 use Rattle.scope.specs.PlainRun.{Limits, byId, start, run, plainRun}
 use Rattle.scope.specs.Answers.{checkMeans}
@@ -17,7 +15,7 @@ use Rattle.scope.specs.declared.CheckAnswer.{CheckAnswer}
 use Rattle.store.specs.declared.directory.Row.{Row}
 use Rattle.store.specs.declared.directory.Probe.{Probe}
 use Rattle.store.specs.Marks.{marksOf}
-use Rattle.store.specs.Rows.{noRow, dying, Found, hit, miss, Finds, Dies}
+use Rattle.store.specs.Rows.{Found, hit, miss, Finds, Dies}
 use Rattle.store.specs.Live.{held, rowClause, liveRows, live-found}
 use Rattle.store.specs.Holding.{Holding, Good, found-good}
 use Rattle.store.specs.Marked.{BuiltFor}
@@ -27,7 +25,6 @@ use Rattle.bound.specs.declared.machine.Phase.{Phase}
 use Rattle.bound.specs.declared.machine.Phase.the-variants.{Next, Walk, Followed, Keep, Wipe, Delete, Proved, Refused}
 use Rattle.bound.specs.declared.machine.Machine.{Machine}
 use Rattle.bound.specs.declared.check.Check.{Check}
-use Rattle.bound.specs.Reading.{tokensAt, numbersAt}
 use Rattle.bound.specs.Listing.{list-cut}
 use Rattle.bound.specs.Machine as machine
 use Rattle.bound.specs.Machine.{turnOf, turn-phase, Advances, gone, broken, walks, wipes, idle}
@@ -35,7 +32,7 @@ use Rattle.bound.specs.Check.{largest}
 use Rattle.bound.specs.Run as run
 use Rattle.bound.specs.Run.{World, Turn, looks, keeps, judges, reads, Ran, answerOf, Driven}
 use Rattle.bound.specs.Falling.{Past, turn-falls}
-use Rattle.bound.specs.Fine.{Base, liveIn, stateOf, Reading, Walking, Wiping, Deleting, FineIn, FineAt, Fine}
+use Rattle.bound.specs.Fine.{Base, liveIn, Walking, Wiping, Deleting, FineIn, FineAt, Fine}
 use Rattle.bound.specs.LookMeans.{hint-gone, hint-judged, clause-wiped}
 use Rattle.bound.specs.StepMeans.{id-gone, id-deleted, clause-kept, clause-judged}
 use Rattle.bound.specs.ReadMeans.{step-read}

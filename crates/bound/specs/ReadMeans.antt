@@ -1,18 +1,18 @@
 -- Reading a step keeps what holds of a check.
-use mathlib.Core.Path.{_≡_, refl, sym, ap, _∙_, fun-ext}
-use mathlib.Core.Bool.{Bool, true, false, cond, _&&_}
+use mathlib.Core.Path.{_≡_, refl, ap, _∙_}
+use mathlib.Core.Bool.{true}
 use mathlib.Core.List.{List, [], _∷_}
-use Prim.Native.Nat.{ℕ, zero, suc, _+_, _-_, _≤_, _<_, min}
+use Prim.Native.Nat.{ℕ, zero, suc, _+_, _-_, _≤_, _<_}
 use native.Mathlib.Omega.{arith}
 use lib.Dec.{ltb}
 use lib.ListN.{length, getD, drop}
 use lib.Seq.{drop-cons}
-use borrow.Author.Tests.{lt-ltb, ltb-true}
-use Rattle.scope.specs.Parsed.{Parsed, Answer, answered, refusal, got, refused}
+use borrow.Author.Tests.{ltb-true}
+use Rattle.scope.specs.Parsed.{Parsed, Answer, refusal, got, refused}
 use Rattle.scope.specs.Number.{Front, broken, whole, front, within, number}
 use Rattle.scope.specs.Steps as steps
-use Rattle.scope.specs.Steps.{Tokens, stop, bad, num, byFront, tokensAfter, upTo0, Step, add, delete, StepRead, read, misread, readStep, wellFormed, allOpen, allFalse, hintsShow, deleted}
-use Rattle.scope.specs.PlainRun.{State, Limits, Outcome, perform, byShown, byDeleted, byOutcome, byForm, byRead, run}
+use Rattle.scope.specs.Steps.{Tokens, byFront, tokensAfter, StepRead, read, misread, readStep, wellFormed, allOpen, hintsShow, deleted}
+use Rattle.scope.specs.PlainRun.{State, Limits, perform, byShown, byDeleted, byRead, run}
 use Rattle.number.specs.Laws.{number-got}
 use Rattle.store.specs.declared.directory.Row.{Row}
 use Rattle.store.specs.Marks.{marksOf}
@@ -20,17 +20,14 @@ use Rattle.theory.specs.Cases.{impossible, and-true}
 use Rattle.theory.specs.Tokens.{tokens-stop}
 use Rattle.bound.specs.declared.steps.Clause.{Clause}
 use Rattle.bound.specs.declared.steps.Read.{Read}
-use Rattle.bound.specs.declared.steps.Read.the-variants.{Adds, Deletes, Misformed}
-use Rattle.bound.specs.declared.machine.Phase.{Phase}
-use Rattle.bound.specs.declared.machine.Phase.the-variants.{Next, Walk, Followed, Keep, Wipe, Delete, Proved, Refused}
-use Rattle.bound.specs.declared.check.Tally.{Tally}
+use Rattle.bound.specs.declared.steps.Read.the-variants.{Adds, Deletes}
+use Rattle.bound.specs.declared.machine.Phase.the-variants.{Next, Walk, Delete, Refused}
 use Rattle.bound.specs.declared.check.Check.{Check}
-use Rattle.bound.specs.Reading.{tokensAt, numbersAt, Listed, AddsAt, DeletesAt, MisformedAt, Open, ReadsStep, adds, deletes, misformed}
+use Rattle.bound.specs.Reading.{tokensAt, AddsAt, DeletesAt, MisformedAt, Open, ReadsStep, adds, deletes, misformed}
 use Rattle.bound.specs.Listing.{Ahead, last-id, more-ids, ids-ahead, list-cut}
-use Rattle.bound.specs.Machine.{stopped, onward, onward-end, onward-more}
-use Rattle.bound.specs.Check.{withPhase, largest, firstId, entered, counted, stepped, TakesStep, over, takes}
-use Rattle.bound.specs.Hints.{inHints, AllLive}
-use Rattle.bound.specs.Fine.{Base, InStep, ending, Adding, before, liveIn, stateOf, Reading, Walking, Deleting, FineAt}
+use Rattle.bound.specs.Machine.{onward, onward-end, onward-more}
+use Rattle.bound.specs.Check.{largest, firstId, entered, counted, stepped, TakesStep, over, takes}
+use Rattle.bound.specs.Fine.{Base, InStep, ending, Adding, before, liveIn, stateOf, Reading, FineAt}
 
 -- where bytes are left, the run takes the step that is read
 run-step : (s : List ℕ) (at k : ℕ) (lim : Limits) (st : State) → at < length s

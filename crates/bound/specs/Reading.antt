@@ -1,12 +1,12 @@
 -- How a step's numbers stand in the bytes of a proof.
 use mathlib.Core.Path.{_≡_}
-use mathlib.Core.Bool.{Bool, true, false, cond, _&&_}
-use mathlib.Core.List.{List, [], _∷_}
-use Prim.Native.Nat.{ℕ, zero, suc, _+_, _/_, _≤_, _<_}
-use lib.Dec.{leb, ltb, eqb}
+use mathlib.Core.Bool.{Bool, true, false, _&&_}
+use mathlib.Core.List.{List}
+use Prim.Native.Nat.{ℕ, _+_, _/_, _≤_, _<_}
+use lib.Dec.{leb, eqb}
 use lib.ListN.{length, drop}
 use Rattle.scope.specs.Steps as steps
-use Rattle.scope.specs.Steps.{Tokens, tokens, upTo0, numbers, Step, add, delete, readStep, read, Marks, allOpen, allFalse, literalsOk, wellFormed}
+use Rattle.scope.specs.Steps.{Tokens, tokens, upTo0, numbers, Step, add, delete, read, Marks, allOpen, allFalse, literalsOk, wellFormed}
 use Rattle.store.specs.Marks.{marksOf}
 use Rattle.bound.specs.declared.steps.Numbers.{Numbers}
 use Rattle.bound.specs.declared.steps.Numbers.the-variants.{End, Cut}

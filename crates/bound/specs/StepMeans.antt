@@ -1,41 +1,39 @@
 -- A step-level turn keeps what holds of a check: a clause is deleted, kept or judged, and a step is read.
-use mathlib.Core.Path.{_≡_, refl, sym, ap, _∙_, fun-ext}
-use mathlib.Core.Bool.{Bool, true, false, cond, _&&_, _||_}
+use mathlib.Core.Path.{_≡_, refl, sym, ap, _∙_}
+use mathlib.Core.Bool.{Bool, true, false, cond, _&&_}
 use mathlib.Core.List.{List, [], _∷_}
 use mathlib.Core.Option.{Option, none, some}
-use Prim.Native.Nat.{ℕ, zero, suc, _+_, _-_, _/_, _%_, _≤_, _<_, min}
+use Prim.Native.Nat.{ℕ, suc, _+_, _-_, _≤_, _<_, min}
 use native.Mathlib.Omega.{arith}
 use native.Mathlib.Numerals.{add-one}
 use lib.Dec.{eqb, ltb, leb}
 use lib.ListN.{length, getD, drop}
 use lib.Seq.{sets, length-sets, drop-cons}
-use borrow.Author.Tests.{eq-eqb, ne-eqb, lt-ltb, le-ltb, le-leb, lt-leb, eqb-true, eqb-false, leb-true, ltb-true, ltb-false}
-use Rattle.scope.specs.Parsed.{Answer, answered, refusal, got}
+use borrow.Author.Tests.{eq-eqb, ne-eqb, leb-true, ltb-true, ltb-false}
+use Rattle.scope.specs.Parsed.{Answer, refusal, got}
 use Rattle.scope.specs.Number.{Front, broken, whole, front, within, number}
-use Rattle.scope.specs.Steps as steps
-use Rattle.scope.specs.Steps.{Tokens, stop, bad, num, byFront, tokensAfter, upTo0, allOpen, allFalse, Live, put, follows, hintsShow, deleted}
+use Rattle.scope.specs.Steps.{byFront, tokensAfter, allOpen, Live, put, follows, deleted}
 use Rattle.scope.specs.PlainRun as plain
-use Rattle.scope.specs.PlainRun.{State, Limits, Outcome, withClause, fits, byShown, byDeleted, atEnd, byOutcome}
+use Rattle.scope.specs.PlainRun.{State, Limits, withClause, fits, byShown, byDeleted, atEnd}
 use Rattle.number.specs.Laws.{number-got}
 use Rattle.store.specs.declared.directory.Row.{Row}
-use Rattle.store.specs.declared.directory.Probe.{Probe}
 use Rattle.store.specs.Marks.{marksOf}
 use Rattle.store.specs.Clauses.{inClause}
-use Rattle.store.specs.Rows.{noRow, dying, Found, hit, miss}
-use Rattle.store.specs.Live.{held, rowClause, liveRows, live-dead, put-same, put-other}
+use Rattle.store.specs.Rows.{dying}
+use Rattle.store.specs.Live.{liveRows, live-dead, put-same, put-other}
 use Rattle.store.specs.Holding.{All, Good, Holding, holding-kept, live-kept, id-free, holding-dead}
 use Rattle.theory.specs.Cases.{impossible, and-true, or-false}
 use Rattle.theory.specs.Tokens.{tokens-stop}
 use Rattle.bound.specs.declared.machine.Phase.{Phase}
-use Rattle.bound.specs.declared.machine.Phase.the-variants.{Next, Walk, Followed, Keep, Wipe, Delete, Proved, Refused}
+use Rattle.bound.specs.declared.machine.Phase.the-variants.{Next, Keep, Delete, Proved, Refused}
 use Rattle.bound.specs.declared.check.Check.{Check}
 use Rattle.bound.specs.declared.check.Tally.{Tally}
-use Rattle.bound.specs.Reading.{tokensAt, numbersAt}
+use Rattle.bound.specs.Reading.{tokensAt}
 use Rattle.bound.specs.Listing.{Ahead, last-id, more-ids, ids-ahead}
-use Rattle.bound.specs.Machine.{stopped, onward, onward-end, onward-more}
-use Rattle.bound.specs.Check.{withPhase, verdict, judged, rowOf, largest, keptAs, entered}
-use Rattle.bound.specs.Hints.{inHint, inHints, AllLive, IsLive, outside-false, literals-good, hints-same, live-same}
-use Rattle.bound.specs.Fine.{Base, InStep, ending, Adding, before, liveIn, stateOf, Reading, Walking, Following, Keeping, Wiping, Deleting, FineAt}
+use Rattle.bound.specs.Machine.{onward, onward-end, onward-more}
+use Rattle.bound.specs.Check.{withPhase, verdict, rowOf, largest, keptAs, entered}
+use Rattle.bound.specs.Hints.{inHint, inHints, IsLive, outside-false, literals-good, hints-same, live-same}
+use Rattle.bound.specs.Fine.{Base, ending, before, liveIn, stateOf, Following, Keeping, Deleting, FineAt}
 
 -- what a deletion leaves does not go by the clauses that were live before it
 not-by-live : (n : ℕ) (t : Tally) (L L′ : Live) (o : Option Live) → byDeleted (stateOf n t L) o ≡ byDeleted (stateOf n t L′) o

@@ -1,12 +1,12 @@
 -- The directory is built of marked words, with no code: what holds between the words, and what the rows come to.
 use mathlib.Core.Path.{_≡_, refl, sym, ap, _∙_}
-use mathlib.Core.Bool.{Bool, true, false, cond}
-use mathlib.Core.List.{List, [], _∷_, _++_, map, flatMap, map-append, append-assoc, append-nil}
-use Prim.Native.Nat.{ℕ, zero, suc, _+_, _-_, _≤_, _<_}
+use mathlib.Core.Bool.{cond}
+use mathlib.Core.List.{List, [], _∷_, _++_, map, flatMap, map-append}
+use Prim.Native.Nat.{ℕ, suc, _+_, _-_, _≤_, _<_}
 use native.Mathlib.Omega.{arith}
 use native.Mathlib.Numerals.{add-one}
 use lib.Dec.{leb}
-use lib.ListN.{length, getD, set, take, drop, length-append, length-map, length-take, length-drop}
+use lib.ListN.{length, getD, set, take, drop, length-append, length-map, length-drop}
 use lib.Seq.{slice, slice-cons, length-take-le, take-suc, drop-cons, append-snoc, set-at, getD-at, take-at, drop-at}
 use borrow.Author.Tests.{le-leb, lt-leb, eq-eqb, ne-eqb}
 use Rattle.scope.specs.Formula.{words}

@@ -1,12 +1,12 @@
 -- A directory that was built holds its formula.
 use mathlib.Core.Path.{_≡_, refl, sym, ap, _∙_, fun-ext}
-use mathlib.Core.Bool.{Bool, true, false, cond}
+use mathlib.Core.Bool.{Bool, true, false}
 use mathlib.Core.List.{List, [], _∷_, _++_, flatMap, append-assoc}
-use mathlib.Core.Option.{Option, none, some}
-use Prim.Native.Nat.{ℕ, zero, suc, _+_, _-_, _≤_, _<_}
+use mathlib.Core.Option.{none, some}
+use Prim.Native.Nat.{ℕ, zero, suc, _+_, _≤_, _<_}
 use native.Mathlib.Omega.{arith}
 use lib.Dec.{ltb}
-use lib.ListN.{length, getD, getElem?, take, drop, length-append, List·getD-append}
+use lib.ListN.{length, getD, getElem?, take, length-append, List·getD-append}
 use lib.Seq.{take-at, drop-append-add}
 use borrow.Author.Tests.{ltb-true, ltb-false}
 use Rattle.scope.specs.Formula.{words}
@@ -14,7 +14,7 @@ use Rattle.scope.specs.PlainRun.{byId}
 use Rattle.store.specs.declared.directory.Row.{Row}
 use Rattle.store.specs.Clauses.{part}
 use Rattle.store.specs.Rows.{Rising}
-use Rattle.store.specs.Live.{rowClause, liveRows, row-found, row-missing}
+use Rattle.store.specs.Live.{liveRows, row-found, row-missing}
 use Rattle.store.specs.Holding.{All, all-at, Good, Holding}
 use Rattle.store.specs.Marked.{flat, rowsFor, Hold, BuiltFor}
 
