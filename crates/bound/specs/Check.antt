@@ -101,5 +101,6 @@ stepped c (Deletes from) =
 
 pub data TakesStep (s : List ℕ) (c : Check) (at last : ℕ) (ms : List ℕ) (r : Check) (ms′ : List ℕ) : Type 0 where
   over : length s ≤ at → r ≡ withPhase c (Refused 18) → TakesStep s c at last ms r ms′
-  takes : (x : Read) → at < length s → ReadsStep (readStep (tokensAt s at)) s at (c .tally .highest) last ms ms′ x → r ≡ stepped c x
+  takes : (x : Read) → at < length s → ReadsStep (readStep (tokensAt s at)) s at (c .tally .highest) last ms ms′ x
+      → r ≡ stepped c x
       → TakesStep s c at last ms r ms′

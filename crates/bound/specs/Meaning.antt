@@ -44,7 +44,8 @@ gone-none live cl e = rw (eq-eqb live 0 e)
 live-some : (live : ℕ) (cl : List ℕ) → (live ≡ 0 → ⊥) → held live cl ≡ some cl
 live-some live cl e = rw (ne-eqb live 0 e)
 
-module _ (s : List ℕ) (lim : Limits) (A : Answer ℕ) (c : Check) (R : ℕ → Row) (ws ms : List ℕ) (m : Machine) (p : Probe) (r : Machine) (ms′ : List ℕ)
+module _ (s : List ℕ) (lim : Limits) (A : Answer ℕ) (c : Check) (R : ℕ
+    → Row) (ws ms : List ℕ) (m : Machine) (p : Probe) (r : Machine) (ms′ : List ℕ)
     (f : Finds (lim .rowsLent) R (c .tally .rows) (m .want) p) (a : Advances s m (p .hit) ws ms r ms′) where
   -- what was found, in a store that holds clauses
   module _ (b : Base lim (c .tally) R ws ms) where
@@ -54,7 +55,8 @@ module _ (s : List ℕ) (lim : Limits) (A : Answer ℕ) (c : Check) (R : ℕ →
     clause-is : liveIn (c .tally) R ws (m .want) ≡ held (p .hit .live) (rowClause (p .hit) ws)
     clause-is = live-found R ws (c .tally .rows) (m .want) p (b .holding .rising) what
 
-  walk-turn : m .phase ≡ Walk → Walking s lim A (c .tally) (c .clause) R ws ms (m .want) (m .at) → FineAt s lim A (c .tally) (c .clause) R ws ms′ r
+  walk-turn : m .phase ≡ Walk → Walking s lim A (c .tally) (c .clause) R ws ms (m .want) (m .at)
+      → FineAt s lim A (c .tally) (c .clause) R ws ms′ r
   walk-turn e w = by a
     where
       b : Base lim (c .tally) R ws ms
@@ -66,13 +68,15 @@ module _ (s : List ℕ) (lim : Limits) (A : Answer ℕ) (c : Check) (R : ℕ →
       by (walks id next l n z q t) =
           rw (q, t)
           (hint-judged s lim A c R ws ms (m .want) (m .at) w (rowClause (p .hit) ws) (clause-is b ∙ live-some _ _ l)
-          (found-good (lim .lastVariable) (lim .rowsLent) R ws (c .tally .rows) (c .tally .words) (c .tally .highest) (b .holding) (m .want) p (what b) l)
+          (found-good (lim .lastVariable) (lim .rowsLent) R ws (c .tally .rows) (c .tally .words) (c .tally .highest) (b .holding)
+          (m .want) p (what b) l)
           id next n)
       by (wipes id next l n z q t) = impossible (cc)
       by (machine.deletes id next l n z q t) = impossible (cc)
       by (idle z) = absurd (omega (arith, ap turnOf e))
 
-  wipe-turn : m .phase ≡ Wipe → c .clause .hints ≤ m .at → length ms′ ≡ length ms → Wiping s lim A (c .tally) (c .clause) R ws ms (m .want) (m .at)
+  wipe-turn : m .phase ≡ Wipe → c .clause .hints ≤ m .at → length ms′ ≡ length ms
+      → Wiping s lim A (c .tally) (c .clause) R ws ms (m .want) (m .at)
       → FineAt s lim A (c .tally) (c .clause) R ws ms′ r
   wipe-turn e past long w = by a
     where
@@ -82,7 +86,8 @@ module _ (s : List ℕ) (lim : Limits) (A : Answer ℕ) (c : Check) (R : ℕ →
       by (walks id next l n z q t) = impossible (cc)
       by (wipes id next l n z q t) =
           rw q
-          (clause-wiped s lim A c R ws ms (m .want) (m .at) w (rowClause (p .hit) ws) ms′ (clause-is (w .base) ∙ live-some _ _ l) t long id next n past)
+          (clause-wiped s lim A c R ws ms (m .want) (m .at) w (rowClause (p .hit) ws) ms′ (clause-is (w .base)
+          ∙ live-some _ _ l) t long id next n past)
       by (machine.deletes id next l n z q t) = impossible (cc)
       by (idle z) = absurd (omega (arith, ap turnOf e))
 
@@ -100,7 +105,8 @@ module _ (s : List ℕ) (lim : Limits) (A : Answer ℕ) (c : Check) (R : ℕ →
           found : Found R (c .tally .rows) (m .want) p → FineAt s lim A (c .tally) (c .clause) R′ ws ms′ r
           found (hit h i j) =
               rw (q, t, d .dies (omega (arith, w .base .holding .fit)))
-              (id-deleted s lim A c R ws ms (m .want) (m .at) (p .at) w (rowClause (p .hit) ws) (clause-is (w .base) ∙ live-some _ _ l) h
+              (id-deleted s lim A c R ws ms (m .want) (m .at) (p .at) w (rowClause (p .hit) ws) (clause-is (w .base)
+              ∙ live-some _ _ l) h
               (ap (λ x. x .id) (sym i) ∙ j) id next n past)
           found (miss i j) = absurd (l (ap (λ x. x .live) i))
       by (idle z) = absurd (omega (arith, ap turnOf e))
@@ -112,47 +118,63 @@ pub record Short (s : List ℕ) (lim : Limits) : Type 0 where
   pub few-rows : lim .rowsLent ≤ largest
 
 -- a turn keeps what holds
-module _ (s : List ℕ) (lim : Limits) (A : Answer ℕ) (short : Short s lim) (w v : World) (long : length (v .marks) ≡ length (w .marks)) (past : Past (w .check) (w .machine)) where
-  look-fine : (p : Probe) → turnOf (w .machine .phase) ≡ 0 → Finds (lim .rowsLent) (w .rows) (w .check .tally .rows) (w .machine .want) p
+module _ (s : List ℕ) (lim : Limits) (A : Answer ℕ) (short : Short s lim) (w v : World) (long : length (v .marks)
+    ≡ length (w .marks)) (past : Past (w .check) (w .machine)) where
+  look-fine : (p : Probe) → turnOf (w .machine .phase) ≡ 0
+      → Finds (lim .rowsLent) (w .rows) (w .check .tally .rows) (w .machine .want) p
       → Advances s (w .machine) (p .hit) (w .words) (w .marks) (v .machine) (v .marks)
       → Fine s lim A w → FineAt s lim A (w .check .tally) (w .check .clause) (w .rows) (w .words) (v .marks) (v .machine)
   look-fine p t f a = go (w .machine .phase) refl t
     where
       go : (ph : Phase) → w .machine .phase ≡ ph → turnOf ph ≡ 0
-          → FineIn s lim A (w .check .tally) (w .check .clause) (w .rows) (w .words) (w .marks) ph (w .machine .at) (w .machine .want)
+          → FineIn s lim A (w .check .tally) (w .check .clause) (w .rows) (w .words) (w .marks) ph (w .machine .at)
+          (w .machine .want)
           → FineAt s lim A (w .check .tally) (w .check .clause) (w .rows) (w .words) (v .marks) (v .machine)
       go Next e t x = absurd (omega arith)
       go Walk e t x = walk-turn s lim A (w .check) (w .rows) (w .words) (w .marks) (w .machine) p (v .machine) (v .marks) f a e x
       go Followed e t x = absurd (omega arith)
       go Keep e t x = absurd (omega arith)
-      go Wipe e t x = wipe-turn s lim A (w .check) (w .rows) (w .words) (w .marks) (w .machine) p (v .machine) (v .marks) f a e past long x
+      go Wipe e t x = wipe-turn s lim A (w .check) (w .rows) (w .words) (w .marks) (w .machine) p (v .machine) (v .marks) f a e
+          past long x
       go Delete e t x = absurd (omega arith)
       go Proved e t x = absurd (omega arith)
       go (Refused k) e t x = absurd (omega arith)
 
   -- what holds in the phase of a turn
   in-phase : (n : ℕ) → turnOf (w .machine .phase) ≡ n → 1 ≤ n → n ≤ 4 → Fine s lim A w
-      → FineIn s lim A (w .check .tally) (w .check .clause) (w .rows) (w .words) (w .marks) (machine.phaseOf n) (w .machine .at) (w .machine .want)
+      → FineIn s lim A (w .check .tally) (w .check .clause) (w .rows) (w .words) (w .marks) (machine.phaseOf n) (w .machine .at)
+      (w .machine .want)
   in-phase n t l h x = rw (turn-phase (w .machine .phase) t l h) at x
 
   pub turn-fine : Turn s (lim .lastVariable) (lim .rowsLent) w v → Fine s lim A w → Fine s lim A v
   turn-fine (looks p t f a c r ws) x = rw (c, r, ws) (look-fine p t f a x)
   turn-fine (run.deletes p t f d a c ws) x =
       rw (c, ws)
-      (delete-turn s lim A (w .check) (w .rows) (w .words) (w .marks) (w .machine) p (v .machine) (v .marks) f a (turn-phase (w .machine .phase) t (omega arith) (omega arith))
+      (delete-turn s lim A (w .check) (w .rows) (w .words) (w .marks) (w .machine) p (v .machine) (v .marks) f a
+      (turn-phase (w .machine .phase) t (omega arith) (omega arith))
       past (v .rows) d (in-phase 1 t (omega arith) (omega arith) x))
   turn-fine (keeps t a c k e ms) x =
       let y = in-phase 2 t (omega arith) (omega arith) x in
-      rw (e, c, ms, a .appends (omega (arith, y .rows-fit)), k .copies (y .adding .literals) (y .adding .middle) (y .adding .literals-at))
+      rw (
+        e,
+        c,
+        ms,
+        a .appends (omega (arith, y .rows-fit)),
+        k .copies (y .adding .literals) (y .adding .middle)
+            (y .adding .literals-at),
+      )
       (clause-kept s lim A (w .check) (w .rows) (w .words) (w .marks) y (short .few-rows) (short .few-words))
   turn-fine (judges t c e r ws ms) x =
-      rw (e, c, r, ws, ms) (clause-judged s lim A (w .check) (w .rows) (w .words) (w .marks) (w .machine .at) (in-phase 3 t (omega arith) (omega arith) x))
+      rw (e, c, r, ws, ms) (clause-judged s lim A (w .check) (w .rows) (w .words) (w .marks) (w .machine .at)
+      (in-phase 3 t (omega arith) (omega arith) x))
   turn-fine (reads t a e r ws) x =
       rw (e, r, ws)
-      (step-read s lim A (w .check) (w .rows) (w .words) (w .marks) (w .machine .at) (v .check) (v .marks) (in-phase 4 t (omega arith) (omega arith) x) (short .few-bytes) long a)
+      (step-read s lim A (w .check) (w .rows) (w .words) (w .marks) (w .machine .at) (v .check) (v .marks)
+      (in-phase 4 t (omega arith) (omega arith) x) (short .few-bytes) long a)
 
 -- a run keeps what holds
-ran-fine : (s : List ℕ) (lim : Limits) (A : Answer ℕ) → Short s lim → (w v : World) → Ran s (lim .lastVariable) (lim .rowsLent) w v
+ran-fine : (s : List ℕ) (lim : Limits) (A : Answer ℕ) → Short s lim → (w v : World)
+    → Ran s (lim .lastVariable) (lim .rowsLent) w v
     → Past (w .check) (w .machine) × Fine s lim A w → Past (v .check) (v .machine) × Fine s lim A v
 ran-fine s lim A short w v run.none x = x
 ran-fine s lim A short w v (run.more u v′ r t long) x =
@@ -165,7 +187,8 @@ ended-answer : (s : List ℕ) (lim : Limits) (A : Answer ℕ) (w : World) → 5 
 ended-answer s lim A w h = go (w .machine .phase) h
   where
     go : (ph : Phase) → 5 ≤ turnOf ph
-        → FineIn s lim A (w .check .tally) (w .check .clause) (w .rows) (w .words) (w .marks) ph (w .machine .at) (w .machine .want)
+        → FineIn s lim A (w .check .tally) (w .check .clause) (w .rows) (w .words) (w .marks) ph (w .machine .at)
+        (w .machine .want)
         → checkMeans (answerOf (w .check .tally .steps) ph) ≡ A
     go Next t x = absurd (omega arith)
     go Walk t x = absurd (omega arith)
@@ -187,7 +210,8 @@ pub record Stands (f : List (List ℕ)) (last cap n used : ℕ) (R : ℕ → Row
   pub unmarked : marksOf ms ≡ allOpen
 
 -- a formula of good literals whose directory was built, where the variables are open
-pub built-stands : (f : List (List ℕ)) (rest : List ℕ) (last cap n : ℕ) (R : ℕ → Row) (ws ms : List ℕ) → BuiltFor f rest ws R n → Each (Good last) f
+pub built-stands : (f : List (List ℕ)) (rest : List ℕ) (last cap n : ℕ) (R : ℕ → Row) (ws ms : List ℕ) → BuiltFor f rest ws R n
+    → Each (Good last) f
     → length f ≤ cap → last ≤ length ms → marksOf ms ≡ allOpen → Stands f last cap n (words f) R ws ms
 built-stands f rest last cap n R ws ms b good fits marked unmarked =
     record {
@@ -204,7 +228,8 @@ limits last words rows = record { lastVariable = last; wordsLent = words; rowsLe
 
 -- where a formula stands in the stores, a check answers what the plain run does
 pub driven-means : (s : List ℕ) (last cap n used : ℕ) (R : ℕ → Row) (ws ms : List ℕ) (r : CheckAnswer) (f : List (List ℕ))
-    → Driven s last cap n used R ws ms r → Stands f last cap n used R ws ms → checkMeans r ≡ plainRun (limits last (length ws) cap) f s
+    → Driven s last cap n used R ws ms r → Stands f last cap n used R ws ms
+    → checkMeans r ≡ plainRun (limits last (length ws) cap) f s
 unfolding plainRun start
 driven-means s last cap n used R ws ms r f d x =
     let lim = limits last (length ws) cap in
@@ -220,4 +245,7 @@ driven-means s last cap n used R ws ms r f d x =
       answer = rw (x .live, x .count, x .size);
     } in
     ap checkMeans (d .answer)
-    ∙ ended-answer s lim A (d .end) (d .over) (ran-fine s lim A short (run.ready n used R ws ms) (d .end) (d .ran) (omega arith, begins) .1)
+    ∙ ended-answer s lim A (d .end) (d .over) (ran-fine s lim A short (run.ready n used R ws ms) (d .end) (d .ran) (
+      omega arith,
+      begins,
+    ) .1)

@@ -57,12 +57,14 @@ non-empty lim st id (k ∷ ks) l ls t e f = rw f
 
 module _ (s : List ℕ) (lim : Limits) (A : Answer ℕ) (c : Check) (R : ℕ → Row) (ws ms : List ℕ) where
   -- an id to delete that is not live
-  pub id-gone : (h at : ℕ) → Deleting s lim A (c .tally) (c .clause) R ws ms h at → liveIn (c .tally) R ws h ≡ none → A ≡ refusal 15 (c .tally .steps)
+  pub id-gone : (h at : ℕ) → Deleting s lim A (c .tally) (c .clause) R ws ms h at → liveIn (c .tally) R ws h ≡ none
+      → A ≡ refusal 15 (c .tally .steps)
   unfolding deleted
   id-gone h at w e = w .answer ∙ rw (e, w .step .counts)
 
   -- a live clause is deleted
-  module _ (h at i : ℕ) (w : Deleting s lim A (c .tally) (c .clause) R ws ms h at) (cl : List ℕ) (e : liveIn (c .tally) R ws h ≡ some cl) (l : i < c .tally .rows) (same : R i .id ≡ h) where
+  module _ (h at i : ℕ) (w : Deleting s lim A (c .tally) (c .clause) R ws ms h at) (cl : List ℕ) (e : liveIn (c .tally) R ws h
+      ≡ some cl) (l : i < c .tally .rows) (same : R i .id ≡ h) where
     abbrev R′ : ℕ → Row
     R′ = put R i (dying (R i))
 
@@ -72,19 +74,22 @@ module _ (s : List ℕ) (lim : Limits) (A : Answer ℕ) (c : Check) (R : ℕ →
     deleted-base : Base lim (c .tally) R′ ws ms
     deleted-base =
         record {
-          holding = holding-dead (lim .lastVariable) (lim .rowsLent) R ws (c .tally .rows) (c .tally .words) (c .tally .highest) (w .base .holding) i;
+          holding = holding-dead (lim .lastVariable) (lim .rowsLent) R ws (c .tally .rows) (c .tally .words) (c .tally .highest)
+              (w .base .holding) i;
           lent = w .base .lent;
           marked = w .base .marked;
         }
 
-    pub id-deleted : (id next : ℕ) → number s at ≡ got id next → c .clause .hints ≤ at → FineAt s lim A (c .tally) (c .clause) R′ ws ms (onward Delete Next id next)
+    pub id-deleted : (id next : ℕ) → number s at ≡ got id next → c .clause .hints ≤ at
+        → FineAt s lim A (c .tally) (c .clause) R′ ws ms (onward Delete Next id next)
     unfolding deleted
     id-deleted id next n past = go (w .left) refl (ids-ahead s at id next (w .left) (w .step .after) n (w .left-at))
       where
         k : at < next
         k = number-got s at n .ahead
 
-        go : (left : List ℕ) → w .left ≡ left → Ahead s next id (w .step .after) left → FineAt s lim A (c .tally) (c .clause) R′ ws ms (onward Delete Next id next)
+        go : (left : List ℕ) → w .left ≡ left → Ahead s next id (w .step .after) left
+            → FineAt s lim A (c .tally) (c .clause) R′ ws ms (onward Delete Next id next)
         go left q (last-id z t) =
             rw (onward-end Delete Next id next z)
             (record {
@@ -105,7 +110,9 @@ module _ (s : List ℕ) (lim : Limits) (A : Answer ℕ) (c : Check) (R : ℕ →
               left-at = t;
               answer =
                   w .answer
-                  ∙ rw (e, q, now-live) (ap (ending lim (w .step)) (not-by-live (w .step .done) (c .tally) (liveIn (c .tally) R ws) (put (liveIn (c .tally) R ws) h none) (deleted (put (liveIn (c .tally) R ws) h none) (id ∷ rest))));
+                  ∙ rw (e, q, now-live) (ap (ending lim (w .step))
+                  (not-by-live (w .step .done) (c .tally) (liveIn (c .tally) R ws) (put (liveIn (c .tally) R ws) h none)
+                  (deleted (put (liveIn (c .tally) R ws) h none) (id ∷ rest))));
             })
 
   -- a clause is kept
@@ -128,26 +135,33 @@ module _ (s : List ℕ) (lim : Limits) (A : Answer ℕ) (c : Check) (R : ℕ →
     free : c .tally .rows < lim .rowsLent
     free = omega (arith, w .rows-fit)
 
-    kept-holding : Holding (lim .lastVariable) (lim .rowsLent) kept-rows kept-words (suc (c .tally .rows)) (c .tally .words + length (w .adding .literals)) (c .clause .id)
+    kept-holding : Holding (lim .lastVariable) (lim .rowsLent) kept-rows kept-words (suc (c .tally .rows))
+        (c .tally .words + length (w .adding .literals)) (c .clause .id)
     kept-holding =
-        holding-kept (lim .lastVariable) (lim .rowsLent) R ws (c .tally .rows) (c .tally .words) (c .tally .highest) (w .adding .base .holding)
+        holding-kept (lim .lastVariable) (lim .rowsLent) R ws (c .tally .rows) (c .tally .words) (c .tally .highest)
+        (w .adding .base .holding)
         row (w .adding .literals) (w .adding .fresh) refl (sym (w .adding .size)) room free good
 
-    kept-live : liveRows kept-rows kept-words (suc (c .tally .rows)) ≡ put (liveIn (c .tally) R ws) (c .clause .id) (some (w .adding .literals))
+    kept-live : liveRows kept-rows kept-words (suc (c .tally .rows))
+        ≡ put (liveIn (c .tally) R ws) (c .clause .id) (some (w .adding .literals))
     kept-live =
-        live-kept (lim .lastVariable) (lim .rowsLent) R ws (c .tally .rows) (c .tally .words) (c .tally .highest) (w .adding .base .holding)
+        live-kept (lim .lastVariable) (lim .rowsLent) R ws (c .tally .rows) (c .tally .words) (c .tally .highest)
+        (w .adding .base .holding)
         row (w .adding .literals) (w .adding .fresh) refl (sym (w .adding .size)) room free good refl
 
     -- the hints' clauses are as they were
-    hint-kept : (h : ℕ) → IsLive (liveIn (c .tally) R ws h) → put (liveIn (c .tally) R ws) (c .clause .id) (some (w .adding .literals)) h ≡ liveIn (c .tally) R ws h
+    hint-kept : (h : ℕ) → IsLive (liveIn (c .tally) R ws h)
+        → put (liveIn (c .tally) R ws) (c .clause .id) (some (w .adding .literals)) h ≡ liveIn (c .tally) R ws h
     hint-kept h a = put-other (liveIn (c .tally) R ws) (c .clause .id) h (some (w .adding .literals)) (λ z. other (rw z at a))
       where
         other : IsLive (liveIn (c .tally) R ws (c .clause .id)) → ⊥
         other a =
-            rw (id-free (lim .lastVariable) (lim .rowsLent) R ws (c .tally .rows) (c .tally .words) (c .tally .highest) (w .adding .base .holding) (c .clause .id) (w .adding .fresh)) at a
+            rw (id-free (lim .lastVariable) (lim .rowsLent) R ws (c .tally .rows) (c .tally .words) (c .tally .highest)
+            (w .adding .base .holding) (c .clause .id) (w .adding .fresh)) at a
 
     -- no mark stands outside the kept clause and its hints
-    kept-outside : (v : ℕ) → inHints (put (liveIn (c .tally) R ws) (c .clause .id) (some (w .adding .literals))) (c .clause .id ∷ w .adding .hints) v ≡ false
+    kept-outside : (v : ℕ) → inHints (put (liveIn (c .tally) R ws) (c .clause .id) (some (w .adding .literals)))
+        (c .clause .id ∷ w .adding .hints) v ≡ false
         → marksOf ms v ≡ 0
     unfolding inHints
     kept-outside v f =
@@ -187,7 +201,11 @@ module _ (s : List ℕ) (lim : Limits) (A : Answer ℕ) (c : Check) (R : ℕ →
                 };
             left = w .adding .hints;
             left-at = w .adding .hints-at;
-            live = rw (kept-count, kept-live) (rw (put-same (liveIn (c .tally) R ws) (c .clause .id) (some (w .adding .literals))) tt, live-same (liveIn (c .tally) R ws) _ hint-kept (w .adding .hints) (w .live));
+            live = rw (kept-count, kept-live) (
+              rw (put-same (liveIn (c .tally) R ws) (c .clause .id) (some (w .adding .literals)))
+                  tt,
+              live-same (liveIn (c .tally) R ws) _ hint-kept (w .adding .hints) (w .live),
+            );
             outside = rw (kept-count, kept-live) kept-outside;
             answer = w .answer ∙ rw (kept-count, kept-used, kept-live, add-one (c .tally .rows));
           }
@@ -200,26 +218,31 @@ module _ (s : List ℕ) (lim : Limits) (A : Answer ℕ) (c : Check) (R : ℕ →
     -- the empty clause
     empty-judged : w .adding .literals ≡ [] → (t : Bool) → ltb at (length s) ≡ t → Judged (cond t (Refused 18) Proved)
     empty-judged q true t =
-        w .answer ∙ rw (q, ← w .after-at, w .adding .step .counts) (more-bytes s at (w .adding .step .done + 1) (ltb-true at (length s) t))
+        w .answer ∙ rw (q, ← w .after-at, w .adding .step .counts)
+        (more-bytes s at (w .adding .step .done + 1) (ltb-true at (length s) t))
     empty-judged q false t =
         w .answer ∙ rw (q, ← w .after-at, tokens-stop s at (ltb-false at (length s) t), w .adding .step .counts)
 
     -- another
     other-judged : (l : ℕ) (ls : List ℕ) → w .adding .literals ≡ l ∷ ls
-        → (t : Bool) → (leb (c .tally .words + length (w .adding .literals)) (lim .wordsLent) && leb (c .tally .rows + 1) (lim .rowsLent)) ≡ t
+        → (t : Bool) → (leb (c .tally .words + length (w .adding .literals)) (lim .wordsLent) && leb (c .tally .rows + 1)
+        (lim .rowsLent)) ≡ t
         → Judged (cond t Keep (Refused 17))
     other-judged l ls q true t =
-        let p = and-true (leb (c .tally .words + length (w .adding .literals)) (lim .wordsLent)) (leb (c .tally .rows + 1) (lim .rowsLent)) t in
+        let p = and-true (leb (c .tally .words + length (w .adding .literals)) (lim .wordsLent))
+        (leb (c .tally .rows + 1) (lim .rowsLent)) t in
         record {
           adding = w .adding;
           live = w .live;
           words-fit = leb-true (c .tally .words + length (w .adding .literals)) (lim .wordsLent) (p .0);
           rows-fit = leb-true (c .tally .rows + 1) (lim .rowsLent) (p .1);
-          answer = w .answer ∙ ap (ending lim (w .adding .step)) (non-empty lim (before (w .adding)) (c .clause .id) (w .adding .literals) l ls true q t);
+          answer = w .answer ∙ ap (ending lim (w .adding .step))
+              (non-empty lim (before (w .adding)) (c .clause .id) (w .adding .literals) l ls true q t);
         }
     other-judged l ls q false t =
         w .answer
-        ∙ ap (ending lim (w .adding .step)) (non-empty lim (before (w .adding)) (c .clause .id) (w .adding .literals) l ls false q t)
+        ∙ ap (ending lim (w .adding .step)) (non-empty lim (before (w .adding)) (c .clause .id) (w .adding .literals) l ls false q
+        t)
         ∙ rw (w .adding .step .counts)
 
     pub clause-judged : Judged (verdict c at (length s) (length ws) (lim .rowsLent))
@@ -229,10 +252,13 @@ module _ (s : List ℕ) (lim : Limits) (A : Answer ℕ) (c : Check) (R : ℕ →
         go : (cl : List ℕ) → w .adding .literals ≡ cl
             → Judged
             (cond (eqb (c .clause .size) 0) (cond (ltb at (length s)) (Refused 18) Proved)
-            (cond (leb (c .tally .words + c .clause .size) (length ws) && leb (c .tally .rows + 1) (lim .rowsLent)) Keep (Refused 17)))
+            (cond (leb (c .tally .words + c .clause .size) (length ws) && leb (c .tally .rows + 1) (lim .rowsLent)) Keep
+            (Refused 17)))
         go [] q =
             let z : c .clause .size ≡ 0 = sym (w .adding .size) ∙ ap length q in
             rw (eq-eqb (c .clause .size) 0 z) (empty-judged q (ltb at (length s)) refl)
         go (l ∷ ls) q =
             let z = sym (w .adding .size) ∙ ap length q in
-            rw (ne-eqb (c .clause .size) 0 (λ y. omega arith)) (other-judged l ls q (leb (c .tally .words + c .clause .size) (length ws) && leb (c .tally .rows + 1) (lim .rowsLent)) (rw (w .adding .size, w .adding .base .lent)))
+            rw (ne-eqb (c .clause .size) 0 (λ y. omega arith))
+            (other-judged l ls q (leb (c .tally .words + c .clause .size) (length ws) && leb (c .tally .rows + 1)
+            (lim .rowsLent)) (rw (w .adding .size, w .adding .base .lent)))

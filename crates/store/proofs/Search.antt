@@ -57,7 +57,8 @@ module _ (R : ℕ → Row) (n : ℕ) (up : Rising R n) where
       go true t = ltb-true i k t
       go false t = absurd (not-before (ltb-false i k t) (ltb k i) refl)
 
-  pub looked : (id : ℕ) (p r : Probe) → Inside p → p .lo < p .hi → Seeking R n id p → Narrowed p (R (p .at)) id r → Seeking R n id r
+  pub looked : (id : ℕ) (p r : Probe) → Inside p → p .lo < p .hi → Seeking R n id p → Narrowed p (R (p .at)) id r
+      → Seeking R n id r
   looked id p r ins l (holds e a b c) _ = absurd (omega arith)
   looked id p r ins l (seeks h w z) (met e lo hi x y) =
       holds (omega arith) (omega (arith, ins l .1)) (y ∙ ap R (sym x)) (ap (λ q. q .id) y ∙ e)

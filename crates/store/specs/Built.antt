@@ -47,7 +47,8 @@ words-within [] i l = absurd (omega arith)
 words-within (c ∷ cs) zero l = omega arith
 words-within (c ∷ cs) (suc i) l = omega (arith, words-within cs i (omega arith))
 
-part-flat : (f : List (List ℕ)) (rest : List ℕ) (i : ℕ) → i < length f → part (wordsBefore f i) (length (clauseAt f i)) (flat f ++ rest) ≡ clauseAt f i
+part-flat : (f : List (List ℕ)) (rest : List ℕ) (i : ℕ) → i < length f
+    → part (wordsBefore f i) (length (clauseAt f i)) (flat f ++ rest) ≡ clauseAt f i
 unfolding words flatMap
 part-flat [] rest i l = absurd (omega arith)
 part-flat (c ∷ cs) rest zero l = rw append-assoc (take-at c (flat cs ++ rest) (length c) refl)
@@ -98,7 +99,8 @@ module _ (f : List (List ℕ)) (rest ws : List ℕ) (R : ℕ → Row) (n : ℕ) 
         rising = rows-rise;
         below = λ i l. rw (the-id i l) (omega arith);
         within = λ i l. rw (the-row i l) (words-within f i l);
-        good = λ k l. rw (b .unmarked, List·getD-append (flat f) rest 0 k (rw (length-flat f) l)) (all-at (Good last) (flat f) (all-flat (Good last) f good) k (rw (length-flat f) l));
+        good = λ k l. rw (b .unmarked, List·getD-append (flat f) rest 0 k (rw (length-flat f) l))
+            (all-at (Good last) (flat f) (all-flat (Good last) f good) k (rw (length-flat f) l));
         room = rw (b .unmarked, length-append, length-flat f) (omega arith);
         fit = fits;
       }

@@ -122,7 +122,8 @@ module _ (last cap : ℕ) (R : ℕ → Row) (ws : List ℕ) (n used highest : �
 
     kept-within : (i : ℕ) → i < suc n → put R n row i .first + put R n row i .len ≤ used + length ls
     kept-within i h =
-        put-elim (λ r. r .first + r .len ≤ used + length ls) R n i row (λ e. omega arith) (λ d. omega (arith, b .within i (omega arith)))
+        put-elim (λ r. r .first + r .len ≤ used + length ls) R n i row (λ e. omega arith)
+        (λ d. omega (arith, b .within i (omega arith)))
 
     module _ (fits : used + length ls ≤ length ws) (free : n < cap) (good : All (Good last) ls) where
       kept-good : (k : ℕ) → k < used + length ls → Good last (getD (sets ws used ls) k 0)
@@ -162,7 +163,8 @@ module _ (last cap : ℕ) (R : ℕ → Row) (ws : List ℕ) (n used highest : �
       record {
         rising = rising-dead R i n (b .rising);
         below = λ k h. rw (same-id R i k) (b .below k h);
-        within = λ k h. put-elim (λ r. r .first + r .len ≤ used) R i k (dying (R i)) (λ e. rw (← e) (b .within k h)) (λ d. b .within k h);
+        within = λ k h. put-elim (λ r. r .first + r .len ≤ used) R i k (dying (R i)) (λ e. rw (← e) (b .within k h))
+            (λ d. b .within k h);
         good = b .good;
         room = b .room;
         fit = b .fit;

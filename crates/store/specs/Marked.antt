@@ -43,4 +43,5 @@ pub record BuiltFor (f : List (List ℕ)) (rest ws′ : List ℕ) (R : ℕ → R
   pub count : n ≡ length f
 
 pub record Built (ws ws′ : List ℕ) (cap : ℕ) (R : ℕ → Row) (total n : ℕ) : Type 0 where
-  pub built : (f : List (List ℕ)) (rest : List ℕ) → Plain f → ws ≡ flatMap mark f ++ rest → total ≡ words f → length f ≤ cap → BuiltFor f rest ws′ R n
+  pub built : (f : List (List ℕ)) (rest : List ℕ) → Plain f → ws ≡ flatMap mark f ++ rest → total ≡ words f → length f ≤ cap
+      → BuiltFor f rest ws′ R n
