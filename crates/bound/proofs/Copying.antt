@@ -1,15 +1,13 @@
 -- The turns of the loop that copies a clause's literals into the words.
-use mathlib.Core.Path.{_≡_, refl, sym, ap, _∙_}
+use mathlib.Core.Path.{_≡_, refl, sym, _∙_}
 use mathlib.Core.List.{List, [], _∷_}
-use Prim.Native.Nat.{ℕ, suc, _+_, _≤_, _<_}
+use Prim.Native.Nat.{ℕ, suc, _+_, _≤_}
 use native.Mathlib.Omega.{arith}
 use native.Mathlib.Numerals.{add-one}
-use lib.ListN.{length, set, length-set}
+use lib.ListN.{length, set}
 use lib.Seq.{sets, set-out}
 use Rattle.scope.specs.Parsed.{got, refused}
 use Rattle.scope.specs.Number.{number}
-use Rattle.scope.specs.Steps as steps
-use Rattle.scope.specs.Steps.{Tokens, upTo0}
 use Rattle.laws.specs.Booleans.{impossible}
 use Rattle.bound.specs.Reading.{numbersAt}
 use Rattle.bound.specs.Listing.{list-cut, list-more, list-end, consed}

@@ -1,16 +1,15 @@
 -- The turns of the loops that read a step, by the number at an offset.
 use mathlib.Core.Path.{_≡_, refl, sym, ap, _∙_}
-use mathlib.Core.Bool.{Bool, true, false, cond, _&&_}
+use mathlib.Core.Bool.{true, false, _&&_}
 use mathlib.Core.List.{List, [], _∷_}
-use Prim.Native.Nat.{ℕ, zero, suc, _+_, _-_, _/_, _%_, _≤_, _<_}
+use Prim.Native.Nat.{ℕ, _+_, _-_, _/_, _%_, _≤_}
 use native.Mathlib.Omega.{arith}
 use lib.Dec.{leb, eqb}
-use lib.ListN.{length, length-set}
+use lib.ListN.{length}
 use borrow.Author.Tests.{leb-true}
-use Rattle.scope.specs.Parsed.{Parsed, got, refused}
+use Rattle.scope.specs.Parsed.{got, refused}
 use Rattle.scope.specs.Number.{number}
-use Rattle.scope.specs.Steps as steps
-use Rattle.scope.specs.Steps.{Tokens, upTo0, before, Marks, makeFalse, allFalse, literalsOk}
+use Rattle.scope.specs.Steps.{before, makeFalse, allFalse, literalsOk}
 use Rattle.store.specs.Marks.{marksOf, putMark, mark-put, put-length}
 use Rattle.laws.specs.Booleans.{impossible, and-true}
 use Rattle.theory.specs.Tokens.{tokens-got}
@@ -18,7 +17,7 @@ use Rattle.bound.specs.declared.steps.Numbers.{Numbers}
 use Rattle.bound.specs.declared.steps.Numbers.the-variants.{End, Cut}
 use Rattle.bound.specs.declared.steps.Literals.{Literals}
 use Rattle.bound.specs.declared.steps.Literals.the-variants as found
-use Rattle.bound.specs.Reading.{tokensAt, numbersAt, Listed, Passes, ends, cut, literalOk, LiteralsAt, ReadsLiterals, reads, bad-literals}
+use Rattle.bound.specs.Reading.{numbersAt, Passes, ends, cut, literalOk, ReadsLiterals, reads, bad-literals}
 use Rattle.bound.specs.Listing.{list-cut, list-more, list-end, listed-more, consed}
 
 module _ (s : List ℕ) (at n next : ℕ) (e : number s at ≡ got n next) where
@@ -33,7 +32,8 @@ pub passes-cut : (s : List ℕ) (at k o : ℕ) → number s at ≡ refused k o �
 passes-cut s at k o e = cut (list-cut s at k o e)
 
 -- the literals of a new clause
-pub literals-cut : (s : List ℕ) (at last : ℕ) (ms : List ℕ) (j k o : ℕ) → number s at ≡ refused k o → ReadsLiterals s at last ms j ms found.Misformed
+pub literals-cut : (s : List ℕ) (at last : ℕ) (ms : List ℕ) (j k o : ℕ) → number s at ≡ refused k o
+    → ReadsLiterals s at last ms j ms found.Misformed
 literals-cut s at last ms j k o e = bad-literals (λ h ls ts f. let c = list-cut s at k o e in impossible (cc))
 
 module _ (s : List ℕ) (at n next : ℕ) (e : number s at ≡ got n next) (last : ℕ) (ms : List ℕ) (k : ℕ) where
@@ -41,7 +41,8 @@ module _ (s : List ℕ) (at n next : ℕ) (e : number s at ≡ got n next) (last
   unfolding literalsOk allFalse
   literals-end h =
       let t = tokens-got s at n next e in
-      reads k next (t .forward) (t .inside) (λ _. record { literals = []; stand = list-end s at n next e h; count = omega arith; good = refl; marks = refl })
+      reads k next (t .forward) (t .inside)
+      (λ _. record { literals = []; stand = list-end s at n next e h; count = omega arith; good = refl; marks = refl })
 
   module _ (h : n ≡ 0 → ⊥) where
     pub literals-bad : (ms′ : List ℕ) → literalOk last (marksOf ms) n ≡ false → ReadsLiterals s at last ms k ms′ found.Misformed
@@ -49,7 +50,8 @@ module _ (s : List ℕ) (at n next : ℕ) (e : number s at ≡ got n next) (last
     literals-bad ms′ b =
         bad-literals (λ _ ls ts f. let c = consed (numbersAt s next) (sym (list-more s at n next e h) ∙ f) in rw (c .2, b))
 
-    pub literals-more : literalOk last (marksOf ms) n ≡ true → (ms₁ ms′ : List ℕ) (r : Literals) → ms₁ ≡ putMark ms (n / 2) (2 - n % 2)
+    pub literals-more : literalOk last (marksOf ms) n ≡ true → (ms₁ ms′ : List ℕ) (r : Literals)
+        → ms₁ ≡ putMark ms (n / 2) (2 - n % 2)
         → ReadsLiterals s next last ms₁ (k + 1) ms′ r → ReadsLiterals s at last ms k ms′ r
     unfolding literalsOk allFalse
     literals-more b ms₁ ms′ r p t = go r t
@@ -61,7 +63,8 @@ module _ (s : List ℕ) (at n next : ℕ) (e : number s at ≡ got n next) (last
         most = and-true (leb 2 n) (leb (n / 2) last) (and-true (leb 2 n && leb (n / 2) last) (eqb (marksOf ms (n / 2)) 0) b .0) .1
 
         same : last ≤ length ms → marksOf ms₁ ≡ makeFalse (marksOf ms) n
-        same l = rw p (mark-put ms (n / 2) (2 - n % 2) (omega (arith, leb-true 2 n two)) (omega (arith, leb-true (n / 2) last most)))
+        same l = rw p (mark-put ms (n / 2) (2 - n % 2) (omega (arith, leb-true 2 n two))
+            (omega (arith, leb-true (n / 2) last most)))
 
         room : last ≤ length ms → last ≤ length ms₁
         room l = rw (p, put-length ms (n / 2) (2 - n % 2)) l

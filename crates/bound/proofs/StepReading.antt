@@ -1,26 +1,25 @@
 -- What a step comes to, by the parts of it that were read.
 use mathlib.Core.Path.{_≡_, refl, sym, ap, _∙_}
-use mathlib.Core.Bool.{Bool, true, false, cond, _&&_}
-use mathlib.Core.List.{List, [], _∷_}
-use Prim.Native.Nat.{ℕ, _+_, _≤_, _<_}
+use mathlib.Core.Bool.{Bool, true, false}
+use mathlib.Core.List.{List}
+use Prim.Native.Nat.{ℕ, _≤_, _<_}
 use native.Mathlib.Omega.{arith}
-use lib.Dec.{ltb, eqb}
-use lib.ListN.{length, drop}
+use lib.Dec.{ltb}
+use lib.ListN.{length}
 use borrow.Author.Tests.{lt-ltb, le-ltb, eq-eqb, ne-eqb, ltb-true, ltb-false}
-use Rattle.scope.specs.Parsed.{Parsed, got, refused}
+use Rattle.scope.specs.Parsed.{got, refused}
 use Rattle.scope.specs.Number.{number}
 use Rattle.scope.specs.Steps as steps
-use Rattle.scope.specs.Steps.{Tokens, stop, bad, num, upTo0, numbers, Step, add, delete, StepRead, read, misread, readHints, readLiterals, readAdd, readDelete, readStep, allOpen, allFalse, literalsOk, wellFormed}
+use Rattle.scope.specs.Steps.{Tokens, stop, bad, upTo0, numbers, Step, add, StepRead, read, misread, readHints, readLiterals, readAdd, readDelete, readStep, allFalse, literalsOk, wellFormed}
 use Rattle.store.specs.Marks.{marksOf}
 use Rattle.laws.specs.Booleans.{impossible}
-use Rattle.theory.specs.Tokens.{TokenAt, tokens-got, tokens-bad, tokens-stop}
-use Rattle.bound.specs.declared.steps.Clause.{Clause}
+use Rattle.theory.specs.Tokens.{tokens-got, tokens-bad, tokens-stop}
 use Rattle.bound.specs.declared.steps.Numbers.the-variants.{End, Cut}
 use Rattle.bound.specs.declared.steps.Literals.the-variants as found
 use Rattle.bound.specs.declared.steps.Read.{Read}
 use Rattle.bound.specs.declared.steps.Read.the-variants.{Adds, Deletes, Misformed}
 use Rattle.bound.specs.Reading.{tokensAt, numbersAt, Listed, Passes, ends, cut, LiteralsAt, ReadsLiterals, reads, bad-literals}
-use Rattle.bound.specs.Reading.{AddsAt, DeletesAt, MisformedAt, Open, ReadsStep, adds, deletes, misformed}
+use Rattle.bound.specs.Reading.{MisformedAt, Open, ReadsStep, adds, deletes, misformed}
 
 -- the tokens at an offset with no number begin no step, nor the rest of one
 data Empty : Tokens → Type 0 where
@@ -53,7 +52,8 @@ cut-numbers (cut e) = e
 passed-numbers : {s : List ℕ} {at next : ℕ} → Passes s at (End next) → (ns : List ℕ) × Listed s at ns next
 passed-numbers (ends ns next l) = (ns, l)
 
-misformed-literals : {s : List ℕ} {at last : ℕ} {ms : List ℕ} {k : ℕ} {ms′ : List ℕ} → ReadsLiterals s at last ms k ms′ found.Misformed
+misformed-literals : {s : List ℕ} {at last : ℕ} {ms : List ℕ} {k : ℕ} {ms′ : List ℕ}
+    → ReadsLiterals s at last ms k ms′ found.Misformed
     → last ≤ length ms → (ls : List ℕ) (ts : Tokens) → numbersAt s at ≡ upTo0 ls ts → literalsOk last (marksOf ms) ls ≡ false
 misformed-literals (bad-literals f) = f
 
@@ -63,7 +63,8 @@ read-literals : {s : List ℕ} {at last : ℕ} {ms : List ℕ} {k : ℕ} {ms′ 
 read-literals (reads size next a i f) = (a, i, f)
 
 -- a step that was read further on
-earlier : {x : StepRead} {s : List ℕ} {at at′ highest last : ℕ} {ms ms′ : List ℕ} (r : Read) → ReadsStep x s at′ highest last ms ms′ r → at < at′
+earlier : {x : StepRead} {s : List ℕ} {at at′ highest last : ℕ} {ms ms′ : List ℕ} (r : Read)
+    → ReadsStep x s at′ highest last ms ms′ r → at < at′
     → ReadsStep x s at highest last ms ms′ r
 earlier r (adds c a i f) h = adds c (omega arith) i f
 earlier r (deletes from a i e d) h = deletes from (omega arith) i e d
@@ -100,7 +101,8 @@ module _ (s : List ℕ) (at highest last : ℕ) (ms : List ℕ) where
 
     pub add-low : id ≤ highest → ReadsStep (readAdd (tokensAt s at)) s at highest last ms ms Misformed
     unfolding wellFormed
-    add-low h = misformed (λ w st ts f. let a = add-read id (numbersAt s lits) (sym rest ∙ f) in rw (a .whole, le-ltb highest id h))
+    add-low h = misformed (λ w st ts f. let a = add-read id (numbersAt s lits) (sym rest ∙ f) in
+        rw (a .whole, le-ltb highest id h))
 
     module _ (h : highest < id) (ms′ : List ℕ) where
       pub add-misformed : ReadsLiterals s lits last ms 0 ms′ found.Misformed
@@ -125,7 +127,8 @@ module _ (s : List ℕ) (at highest last : ℕ) (ms : List ℕ) where
             (rest ∙ ap (readLiterals id) (a .stand .listed) ∙ ap (readHints id (a .literals)) (cut-numbers p)))
 
         pub add-done : (next : ℕ) → Passes s hints (End next)
-            → ReadsStep (readAdd (tokensAt s at)) s at highest last ms ms′ (Adds (record { id = id; literals = lits; size = size; hints = hints }))
+            → ReadsStep (readAdd (tokensAt s at)) s at highest last ms ms′
+            (Adds (record { id = id; literals = lits; size = size; hints = hints }))
         unfolding wellFormed
         add-done next p =
             adds (record { id = id; literals = lits; size = size; hints = hints })
@@ -151,7 +154,8 @@ module _ (s : List ℕ) (at highest last : ℕ) (ms : List ℕ) where
         → ReadsStep (readStep (tokensAt s at)) s at highest last ms ms′ r
     unfolding readStep
     step-adds h ms′ r t =
-        let x : readStep (tokensAt s at) ≡ readAdd (tokensAt s next) = ap readStep (tokens-got s at k next e .first) ∙ rw (eq-eqb k 97 h) in
+        let x : readStep (tokensAt s at) ≡ readAdd (tokensAt s next) = ap readStep (tokens-got s at k next e .first)
+        ∙ rw (eq-eqb k 97 h) in
         rw x (earlier r t (tokens-got s at k next e .forward))
 
     module _ (h : k ≡ 97 → ⊥) where
@@ -171,7 +175,8 @@ module _ (s : List ℕ) (at highest last : ℕ) (ms : List ℕ) where
         pub step-cut : Passes s next Cut → ReadsStep (readStep (tokensAt s at)) s at highest last ms ms Misformed
         step-cut p = misformed (λ w. misread-misformed highest last (ids ∙ ap readDelete (cut-numbers p)))
 
-        pub step-deletes : (end : ℕ) → Passes s next (End end) → ReadsStep (readStep (tokensAt s at)) s at highest last ms ms (Deletes next)
+        pub step-deletes : (end : ℕ) → Passes s next (End end)
+            → ReadsStep (readStep (tokensAt s at)) s at highest last ms ms (Deletes next)
         step-deletes end p =
             let b = passed-numbers p in
             let t = tokens-got s at k next e in

@@ -1,8 +1,8 @@
 -- A check between two walks over ids: what is counted, and what each step-level turn makes of it.
 use mathlib.Core.Path.{_≡_}
-use mathlib.Core.Bool.{Bool, true, false, cond, _&&_}
+use mathlib.Core.Bool.{cond, _&&_}
 use mathlib.Core.List.{List}
-use Prim.Native.Nat.{ℕ, zero, suc, _+_, _≤_, _<_, min}
+use Prim.Native.Nat.{ℕ, _+_, _≤_, _<_, min}
 use lib.Dec.{eqb, ltb, leb}
 use lib.ListN.{length}
 use lib.Seq.{sets}
@@ -101,5 +101,6 @@ stepped c (Deletes from) =
 
 pub data TakesStep (s : List ℕ) (c : Check) (at last : ℕ) (ms : List ℕ) (r : Check) (ms′ : List ℕ) : Type 0 where
   over : length s ≤ at → r ≡ withPhase c (Refused 18) → TakesStep s c at last ms r ms′
-  takes : (x : Read) → at < length s → ReadsStep (readStep (tokensAt s at)) s at (c .tally .highest) last ms ms′ x → r ≡ stepped c x
+  takes : (x : Read) → at < length s → ReadsStep (readStep (tokensAt s at)) s at (c .tally .highest) last ms ms′ x
+      → r ≡ stepped c x
       → TakesStep s c at last ms r ms′

@@ -1,5 +1,5 @@
 -- A check ends: what is left of it falls with each turn.
-use mathlib.Core.Path.{_≡_, refl, sym, ap, _∙_}
+use mathlib.Core.Path.{_≡_, refl}
 use mathlib.Core.Bool.{Bool, true, false, cond, _&&_}
 use mathlib.Core.List.{List}
 use Prim.Native.Nat.{ℕ, zero, suc, _+_, _-_, _*_, _≤_, _<_}
@@ -20,7 +20,7 @@ use Rattle.bound.specs.declared.check.Check.{Check}
 use Rattle.bound.specs.Reading.{ReadsStep, adds, deletes, misformed}
 use Rattle.bound.specs.Machine as machine
 use Rattle.bound.specs.Machine.{turnOf, turn-phase, stopped, onward, walked, Advances, gone, broken, walks, wipes, idle}
-use Rattle.bound.specs.Check.{withPhase, verdict, judged, keptAs, firstId, enteredAt, entered, stepped, TakesStep, over, takes}
+use Rattle.bound.specs.Check.{verdict, firstId, enteredAt, entered, stepped, TakesStep, over, takes}
 use Rattle.bound.specs.Run as run
 use Rattle.bound.specs.Run.{World, Turn, looks, keeps, judges, reads}
 
@@ -73,9 +73,14 @@ next-stage P h k j at next l = omega (arith, mul-le-mul-right {m = k + 1} {n = j
 next-step : (P h g k at next : ℕ) → h < g → g ≤ P → k ≤ 4 → budget P g k at < budget P h 0 next
 unfolding budget
 next-step P h g k at next l i j =
-    omega (arith, mul-le-mul-right {m = P - g + 1} {n = P - h} (5 * suc P) (omega arith), mul-le-mul-right {m = k} {n = 4} (suc P) j)
+    omega (
+      arith,
+      mul-le-mul-right {m = P - g + 1} {n = P - h} (5 * suc P) (omega arith),
+      mul-le-mul-right {m = k} {n = 4} (suc P) j,
+    )
 
-walk-lower : (P h at : ℕ) (x : Standing) (id next : ℕ) → h ≤ at → at < next → next ≤ P → Lower P h (budget P h 4 at) (walked x id next)
+walk-lower : (P h at : ℕ) (x : Standing) (id next : ℕ) → h ≤ at → at < next → next ≤ P
+    → Lower P h (budget P h 4 at) (walked x id next)
 unfolding walked leftAt budget
 walk-lower P h at falsified zero next l a i = record { past = omega arith; less = omega arith }
 walk-lower P h at falsified (suc id) next l a i = record { past = omega arith; less = omega arith }
@@ -99,11 +104,14 @@ unfolding budget
 some-budget P h k at = omega arith
 
 -- a turn with a row
-advance-lower : (s : List ℕ) (h : ℕ) (m : Machine) {row : Row} {ws ms : List ℕ} {r : Machine} {ms′ : List ℕ} → Advances s m row ws ms r ms′
+advance-lower : (s : List ℕ) (h : ℕ) (m : Machine) {row : Row} {ws ms : List ℕ} {r : Machine} {ms′ : List ℕ}
+    → Advances s m row ws ms r ms′
     → turnOf (m .phase) ≤ 1 → h ≤ m .at → Lower (length s) h (leftAt (length s) h (m .at) (m .phase)) r
 unfolding leftAt
-advance-lower s h m (gone e q) t l = rw q (ended-lower (length s) h _ (m .at) 15 l (some-left (length s) h (m .at) (m .phase) (omega arith)))
-advance-lower s h m (broken k v e q) t l = rw q (ended-lower (length s) h _ (m .at) 14 l (some-left (length s) h (m .at) (m .phase) (omega arith)))
+advance-lower s h m (gone e q) t l = rw q
+    (ended-lower (length s) h _ (m .at) 15 l (some-left (length s) h (m .at) (m .phase) (omega arith)))
+advance-lower s h m (broken k v e q) t l = rw q
+    (ended-lower (length s) h _ (m .at) 14 l (some-left (length s) h (m .at) (m .phase) (omega arith)))
 advance-lower s h m (walks id next a e p q w) t l =
     let k = number-got s (m .at) e in rw (q, p) (walk-lower (length s) h (m .at) _ id next l (k .ahead) (k .inside))
 advance-lower s h m (wipes id next a e p q w) t l =
@@ -142,7 +150,8 @@ module _ (s : List ℕ) (h n : ℕ) (z : 0 < n) where
   enter-lower id (Refused k) f g = record { past = omega arith; less = f h }
 
 -- what a judged clause leaves
-verdict-less : (P h at e : ℕ) (c : Check) (to bytes words rows : ℕ) → leftAt P h at (verdict c to bytes words rows) < budget P h 3 e
+verdict-less : (P h at e : ℕ) (c : Check) (to bytes words rows : ℕ)
+    → leftAt P h at (verdict c to bytes words rows) < budget P h 3 e
 unfolding verdict leftAt
 verdict-less P h at e c to bytes words rows =
     go (eqb (c .clause .size) 0) (ltb to bytes) (leb (c .tally .words + c .clause .size) words && leb (c .tally .rows + 1) rows)
@@ -157,8 +166,10 @@ verdict-less P h at e c to bytes words rows =
     go false y false = some 3
 
 -- what a step that was read leaves
-step-lower : (s : List ℕ) (c : Check) (e highest last : ℕ) {x : StepRead} {ms ms′ : List ℕ} (r : Read) → ReadsStep x s e highest last ms ms′ r
-    → c .clause .hints ≤ e → Lower (length s) (stepped c r .clause .hints) (budget (length s) (c .clause .hints) 0 e) (entered s (stepped c r))
+step-lower : (s : List ℕ) (c : Check) (e highest last : ℕ) {x : StepRead} {ms ms′ : List ℕ} (r : Read)
+    → ReadsStep x s e highest last ms ms′ r
+    → c .clause .hints ≤ e → Lower (length s) (stepped c r .clause .hints) (budget (length s) (c .clause .hints) 0 e)
+    (entered s (stepped c r))
 unfolding leftAt
 step-lower s c e highest last r (adds k a i f) l =
     enter-lower s (k .hints) _ (some-budget (length s) (c .clause .hints) 0 e) (k .id) Walk
@@ -169,24 +180,28 @@ step-lower s c e highest last r (deletes from a i m d) l =
     (λ at. next-step (length s) (c .clause .hints) from 4 at e (omega arith) i (omega arith))
     (λ at. next-step (length s) (c .clause .hints) from 0 at e (omega arith) i (omega arith))
 step-lower s c e highest last r (misformed f) l =
-    ended-lower (length s) (c .clause .hints) _ (c .clause .hints) 14 (omega arith) (some-budget (length s) (c .clause .hints) 0 e)
+    ended-lower (length s) (c .clause .hints) _ (c .clause .hints) 14 (omega arith)
+    (some-budget (length s) (c .clause .hints) 0 e)
 
 takes-lower : (s : List ℕ) (c : Check) (e last : ℕ) {ms : List ℕ} {d : Check} {ms′ : List ℕ} → TakesStep s c e last ms d ms′
     → c .clause .hints ≤ e → Lower (length s) (d .clause .hints) (budget (length s) (c .clause .hints) 0 e) (entered s d)
 takes-lower s c e last (over h q) l =
-    rw q (ended-lower (length s) (c .clause .hints) _ (c .clause .hints) 18 (omega arith) (some-budget (length s) (c .clause .hints) 0 e))
+    rw q (ended-lower (length s) (c .clause .hints) _ (c .clause .hints) 18 (omega arith)
+    (some-budget (length s) (c .clause .hints) 0 e))
 takes-lower s c e last (takes r h x q) l = rw q (step-lower s c e (c .tally .highest) last r x l)
 
 -- what a turn does to what is left
 abbrev pub Falls : ℕ → World → World → Type 0
 Falls P w v = Past (v .check) (v .machine) × (left P (v .check) (v .machine) < left P (w .check) (w .machine))
 
-lower-falls : (P : ℕ) (w v : World) (h : ℕ) → Lower P h (leftAt P (w .check .clause .hints) (w .machine .at) (w .machine .phase)) (v .machine)
+lower-falls : (P : ℕ) (w v : World) (h : ℕ)
+    → Lower P h (leftAt P (w .check .clause .hints) (w .machine .at) (w .machine .phase)) (v .machine)
     → v .check .clause .hints ≡ h → Falls P w v
 unfolding left
 lower-falls P w v h l e = (rw e (l .past), rw e (l .less))
 
-pub turn-falls : (s : List ℕ) (last cap : ℕ) (w v : World) → Turn s last cap w v → Past (w .check) (w .machine) → Falls (length s) w v
+pub turn-falls : (s : List ℕ) (last cap : ℕ) (w v : World) → Turn s last cap w v → Past (w .check) (w .machine)
+    → Falls (length s) w v
 unfolding leftAt
 turn-falls s last cap w v (looks p t f a c r ws) l =
     lower-falls (length s) w v _ (advance-lower s (w .check .clause .hints) (w .machine) a (omega arith) l) (rw c)
@@ -211,4 +226,5 @@ turn-falls s last cap w v (judges t c e r ws ms) l =
     (rw c)
 turn-falls s last cap w v (reads t x e r ws) l =
     lower-falls (length s) w v _
-    (rw (turn-phase (w .machine .phase) t (omega arith) (omega arith), e) (takes-lower s (w .check) (w .machine .at) last x l)) refl
+    (rw (turn-phase (w .machine .phase) t (omega arith) (omega arith), e) (takes-lower s (w .check) (w .machine .at) last x l))
+    refl

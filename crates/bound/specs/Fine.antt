@@ -1,9 +1,8 @@
 -- What holds of a check between its turns: the plain run's answer A is what is still to come.
 use mathlib.Core.Path.{_≡_}
-use mathlib.Core.Bool.{Bool, true, false}
-use mathlib.Core.List.{List, [], _∷_}
-use mathlib.Core.Option.{Option}
-use Prim.Native.Nat.{ℕ, suc, _+_, _-_, _≤_, _<_}
+use mathlib.Core.Bool.{true, false}
+use mathlib.Core.List.{List, _∷_}
+use Prim.Native.Nat.{ℕ, _+_, _-_, _≤_, _<_}
 use lib.ListN.{length}
 use Rattle.scope.specs.Parsed.{Answer, answered, refusal}
 use Rattle.scope.specs.Steps.{Tokens, upTo0, Live, allOpen, allFalse, literalsOk, follows, hintsShow, deleted}
@@ -63,7 +62,8 @@ pub record Adding (s : List ℕ) (lim : Limits) (tally : Tally) (clause : Clause
   pub outside : (v : ℕ) → inHints (liveIn tally R ws) hints v ≡ false → marksOf ms v ≡ allFalse allOpen literals v
 
 -- the state before such a step
-abbrev pub before : {s : List ℕ} {lim : Limits} {tally : Tally} {clause : Clause} {R : ℕ → Row} {ws ms : List ℕ} → Adding s lim tally clause R ws ms → State
+abbrev pub before : {s : List ℕ} {lim : Limits} {tally : Tally} {clause : Clause} {R : ℕ → Row} {ws ms : List ℕ}
+    → Adding s lim tally clause R ws ms → State
 before {tally = tally} {R = R} {ws = ws} a = stateOf (a .step .done) tally (liveIn tally R ws)
 
 -- by the phase
@@ -84,7 +84,8 @@ module _ (s : List ℕ) (lim : Limits) (A : Answer ℕ) (tally : Tally) (clause 
     pub left-at : numbersAt s at ≡ upTo0 left (adding .step .after)
     pub among : (v : ℕ) → inHints (liveIn tally R ws) (adding .hints) v ≡ false → inHints (liveIn tally R ws) (h ∷ left) v ≡ false
     pub live : AllLive (liveIn tally R ws) (h ∷ left) → AllLive (liveIn tally R ws) (adding .hints)
-    pub answer : A ≡ ending lim (adding .step) (byShown (hintsShow (liveIn tally R ws) (marksOf ms) (h ∷ left)) lim (before adding) (clause .id) (adding .literals))
+    pub answer : A ≡ ending lim (adding .step) (byShown (hintsShow (liveIn tally R ws) (marksOf ms) (h ∷ left)) lim
+        (before adding) (clause .id) (adding .literals))
 
   -- the clause follows
   pub record Following (at : ℕ) : Type 0 where
@@ -99,7 +100,8 @@ module _ (s : List ℕ) (lim : Limits) (A : Answer ℕ) (tally : Tally) (clause 
     pub live : AllLive (liveIn tally R ws) (adding .hints)
     pub words-fit : tally .words + length (adding .literals) ≤ lim .wordsLent
     pub rows-fit : tally .rows + 1 ≤ lim .rowsLent
-    pub answer : A ≡ run (adding .step .fuel) lim (withClause (before adding) (clause .id) (adding .literals)) (adding .step .after)
+    pub answer : A ≡ run (adding .step .fuel) lim (withClause (before adding) (clause .id) (adding .literals))
+        (adding .step .after)
 
   -- the clauses of h, and then of the ids at an offset, are to be wiped
   pub record Wiping (h at : ℕ) : Type 0 where
@@ -118,7 +120,8 @@ module _ (s : List ℕ) (lim : Limits) (A : Answer ℕ) (tally : Tally) (clause 
     pub step : InStep s tally clause
     pub left : List ℕ
     pub left-at : numbersAt s at ≡ upTo0 left (step .after)
-    pub answer : A ≡ ending lim step (byDeleted (stateOf (step .done) tally (liveIn tally R ws)) (deleted (liveIn tally R ws) (h ∷ left)))
+    pub answer : A ≡ ending lim step (byDeleted (stateOf (step .done) tally (liveIn tally R ws))
+        (deleted (liveIn tally R ws) (h ∷ left)))
 
   abbrev pub FineIn : Phase → ℕ → ℕ → Type 0
   FineIn Next at want = Reading at

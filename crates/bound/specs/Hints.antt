@@ -1,16 +1,15 @@
 -- The variables that the hints of a step touch, and the literals of its clause.
-use mathlib.Core.Path.{_≡_, refl, sym, ap, _∙_}
-use mathlib.Core.Bool.{Bool, true, false, cond, _&&_, _||_}
+use mathlib.Core.Path.{_≡_, refl, sym, _∙_}
+use mathlib.Core.Bool.{Bool, true, false, _&&_, _||_}
 use mathlib.Core.List.{List, [], _∷_}
 use mathlib.Core.Option.{Option, none, some}
-use Prim.Native.Nat.{ℕ, zero, suc, _+_, _/_, _%_, _≤_, _<_}
-use native.Mathlib.Omega.{arith}
+use Prim.Native.Nat.{ℕ, _/_}
 use lib.Dec.{leb, eqb}
-use borrow.Author.Tests.{leb-true, eq-eqb, ne-eqb, eqb-true, eqb-false}
-use Rattle.scope.specs.Steps.{Marks, put, makeFalse, makeTrue, allFalse, literalsOk, Standing, falsified, oneOpen, standing, Live}
+use borrow.Author.Tests.{leb-true, eq-eqb, ne-eqb, eqb-false}
+use Rattle.scope.specs.Steps.{Marks, makeFalse, allFalse, literalsOk, falsified, oneOpen, standing, Live}
 use Rattle.store.specs.Clauses.{inClause}
 use Rattle.store.specs.Holding.{All, Good, open-in}
-use Rattle.laws.specs.Booleans.{impossible, and-true, or-false}
+use Rattle.laws.specs.Booleans.{and-true, or-false}
 
 -- a variable stands in the clause of an id, in those of some ids
 abbrev pub inHint : Option (List ℕ) → ℕ → Bool

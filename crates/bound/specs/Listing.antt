@@ -1,28 +1,30 @@
 -- Laws of the numbers that stand up to a 0 in the bytes of a proof.
 use mathlib.Core.Path.{_≡_, refl, sym, ap, _∙_}
-use mathlib.Core.Bool.{Bool, true, false, cond}
+use mathlib.Core.Bool.{Bool, true, false}
 use mathlib.Core.List.{List, [], _∷_}
-use Prim.Native.Nat.{ℕ, zero, suc, _+_, _≤_, _<_}
+use Prim.Native.Nat.{ℕ, zero, suc}
 use native.Mathlib.Omega.{arith}
 use lib.Dec.{ltb}
 use lib.ListN.{length, drop}
 use borrow.Author.Tests.{ltb-true, ltb-false}
-use Rattle.scope.specs.Parsed.{Parsed, got, refused}
+use Rattle.scope.specs.Parsed.{got, refused}
 use Rattle.scope.specs.Number.{number}
 use Rattle.scope.specs.Steps as steps
-use Rattle.scope.specs.Steps.{Tokens, stop, bad, num, tokens, upTo0, numbers, before}
+use Rattle.scope.specs.Steps.{Tokens, num, tokens, upTo0, numbers, before}
 use Rattle.number.specs.Answers.{said}
 use Rattle.number.specs.declared.Number.{Number}
 use Rattle.number.specs.declared.Number.the-variants.{Value, Refused}
 use Rattle.laws.specs.Booleans.{impossible}
-use Rattle.theory.specs.Tokens.{TokenAt, tokens-got, tokens-bad, tokens-stop}
+use Rattle.theory.specs.Tokens.{tokens-got, tokens-bad, tokens-stop}
 use Rattle.bound.specs.Reading.{tokensAt, numbersAt, Listed}
 
 -- what a call of the number reader tells
-pub value-at : (s : List ℕ) (at : ℕ) (x : Number) {v next : ℕ} → said x ≡ number s at → x ≡ Value v next → number s at ≡ got v next
+pub value-at : (s : List ℕ) (at : ℕ) (x : Number) {v next : ℕ} → said x ≡ number s at → x ≡ Value v next
+    → number s at ≡ got v next
 value-at s at x e h = sym e ∙ ap said h
 
-pub no-value-at : (s : List ℕ) (at : ℕ) (x : Number) {f : _} → said x ≡ number s at → x ≡ Refused f → number s at ≡ refused (f .number) (f .value)
+pub no-value-at : (s : List ℕ) (at : ℕ) (x : Number) {f : _} → said x ≡ number s at → x ≡ Refused f
+    → number s at ≡ refused (f .number) (f .value)
 no-value-at s at x e h = sym e ∙ ap said h
 
 numbers-more : (n : ℕ) (ts : Tokens) → (n ≡ 0 → ⊥) → numbers (num n ts) ≡ before n (numbers ts)
@@ -69,7 +71,8 @@ pub data Ahead (s : List ℕ) (next id : ℕ) (after : Tokens) : List ℕ → Ty
   last-id : id ≡ 0 → tokensAt s next ≡ after → Ahead s next id after []
   more-ids : (id ≡ 0 → ⊥) → (left : List ℕ) → numbersAt s next ≡ upTo0 left after → Ahead s next id after (id ∷ left)
 
-pub ids-ahead : (s : List ℕ) (at id next : ℕ) (left : List ℕ) (after : Tokens) → number s at ≡ got id next → numbersAt s at ≡ upTo0 left after
+pub ids-ahead : (s : List ℕ) (at id next : ℕ) (left : List ℕ) (after : Tokens) → number s at ≡ got id next
+    → numbersAt s at ≡ upTo0 left after
     → Ahead s next id after left
 ids-ahead s at zero next left after e h =
     let l = list-end s at zero next e refl .listed in

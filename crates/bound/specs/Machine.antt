@@ -28,7 +28,8 @@ unfolding onward
 onward-end p over zero next h = refl
 onward-end p over (suc id) next h = absurd (omega arith)
 
-pub onward-more : (p over : Phase) (id next : ℕ) → (id ≡ 0 → ⊥) → onward p over id next ≡ record { phase = p; at = next; want = id }
+pub onward-more : (p over : Phase) (id next : ℕ) → (id ≡ 0 → ⊥)
+    → onward p over id next ≡ record { phase = p; at = next; want = id }
 unfolding onward
 onward-more p over zero next h = absurd (h refl)
 onward-more p over (suc id) next h = refl
@@ -98,6 +99,7 @@ pub data Advances (s : List ℕ) (m : Machine) (row : Row) (ws ms : List ℕ) (r
       → ms′ ≡ walkedMarks (standing (marksOf ms) falsified (rowClause row ws)) ms → Advances s m row ws ms r ms′
   wipes : (id next : ℕ) → (row .live ≡ 0 → ⊥) → number s (m .at) ≡ got id next → m .phase ≡ Wipe → r ≡ onward Wipe Next id next
       → Wiped (inClause (rowClause row ws)) ms ms′ → Advances s m row ws ms r ms′
-  deletes : (id next : ℕ) → (row .live ≡ 0 → ⊥) → number s (m .at) ≡ got id next → m .phase ≡ Delete → r ≡ onward Delete Next id next
+  deletes : (id next : ℕ) → (row .live ≡ 0 → ⊥) → number s (m .at) ≡ got id next → m .phase ≡ Delete
+      → r ≡ onward Delete Next id next
       → ms′ ≡ ms → Advances s m row ws ms r ms′
   idle : 2 ≤ turnOf (m .phase) → Advances s m row ws ms r ms′

@@ -1,18 +1,18 @@
 -- Reading a step keeps what holds of a check.
-use mathlib.Core.Path.{_≡_, refl, sym, ap, _∙_, fun-ext}
-use mathlib.Core.Bool.{Bool, true, false, cond, _&&_}
+use mathlib.Core.Path.{_≡_, refl, ap, _∙_}
+use mathlib.Core.Bool.{true}
 use mathlib.Core.List.{List, [], _∷_}
-use Prim.Native.Nat.{ℕ, zero, suc, _+_, _-_, _≤_, _<_, min}
+use Prim.Native.Nat.{ℕ, zero, suc, _+_, _-_, _≤_, _<_}
 use native.Mathlib.Omega.{arith}
 use lib.Dec.{ltb}
 use lib.ListN.{length, getD, drop}
 use lib.Seq.{drop-cons}
-use borrow.Author.Tests.{lt-ltb, ltb-true}
-use Rattle.scope.specs.Parsed.{Parsed, Answer, answered, refusal, got, refused}
+use borrow.Author.Tests.{ltb-true}
+use Rattle.scope.specs.Parsed.{Parsed, Answer, refusal, got, refused}
 use Rattle.scope.specs.Number.{Front, broken, whole, front, within, number}
 use Rattle.scope.specs.Steps as steps
-use Rattle.scope.specs.Steps.{Tokens, stop, bad, num, byFront, tokensAfter, upTo0, Step, add, delete, StepRead, read, misread, readStep, wellFormed, allOpen, allFalse, hintsShow, deleted}
-use Rattle.scope.specs.PlainRun.{State, Limits, Outcome, perform, byShown, byDeleted, byOutcome, byForm, byRead, run}
+use Rattle.scope.specs.Steps.{Tokens, byFront, tokensAfter, StepRead, read, misread, readStep, wellFormed, allOpen, hintsShow, deleted}
+use Rattle.scope.specs.PlainRun.{State, Limits, perform, byShown, byDeleted, byRead, run}
 use Rattle.number.specs.Laws.{number-got}
 use Rattle.store.specs.declared.directory.Row.{Row}
 use Rattle.store.specs.Marks.{marksOf}
@@ -20,17 +20,14 @@ use Rattle.laws.specs.Booleans.{impossible, and-true}
 use Rattle.theory.specs.Tokens.{tokens-stop}
 use Rattle.bound.specs.declared.steps.Clause.{Clause}
 use Rattle.bound.specs.declared.steps.Read.{Read}
-use Rattle.bound.specs.declared.steps.Read.the-variants.{Adds, Deletes, Misformed}
-use Rattle.bound.specs.declared.machine.Phase.{Phase}
-use Rattle.bound.specs.declared.machine.Phase.the-variants.{Next, Walk, Followed, Keep, Wipe, Delete, Proved, Refused}
-use Rattle.bound.specs.declared.check.Tally.{Tally}
+use Rattle.bound.specs.declared.steps.Read.the-variants.{Adds, Deletes}
+use Rattle.bound.specs.declared.machine.Phase.the-variants.{Next, Walk, Delete, Refused}
 use Rattle.bound.specs.declared.check.Check.{Check}
-use Rattle.bound.specs.Reading.{tokensAt, numbersAt, Listed, AddsAt, DeletesAt, MisformedAt, Open, ReadsStep, adds, deletes, misformed}
+use Rattle.bound.specs.Reading.{tokensAt, AddsAt, DeletesAt, MisformedAt, Open, ReadsStep, adds, deletes, misformed}
 use Rattle.bound.specs.Listing.{Ahead, last-id, more-ids, ids-ahead, list-cut}
-use Rattle.bound.specs.Machine.{stopped, onward, onward-end, onward-more}
-use Rattle.bound.specs.Check.{withPhase, largest, firstId, entered, counted, stepped, TakesStep, over, takes}
-use Rattle.bound.specs.Hints.{inHints, AllLive}
-use Rattle.bound.specs.Fine.{Base, InStep, ending, Adding, before, liveIn, stateOf, Reading, Walking, Deleting, FineAt}
+use Rattle.bound.specs.Machine.{onward, onward-end, onward-more}
+use Rattle.bound.specs.Check.{largest, firstId, entered, counted, stepped, TakesStep, over, takes}
+use Rattle.bound.specs.Fine.{Base, InStep, ending, Adding, before, liveIn, stateOf, Reading, FineAt}
 
 -- where bytes are left, the run takes the step that is read
 run-step : (s : List ℕ) (at k : ℕ) (lim : Limits) (st : State) → at < length s
@@ -44,7 +41,8 @@ run-step s at k lim st h = rw (drop-cons s at 0 h) (go (within (front (getD s at
     go broken = refl
     go (whole v n) = refl
 
-misformed-answer : (lim : Limits) (st : State) (x : StepRead) (go : Tokens → State → Answer ℕ) → MisformedAt x (st .highest) (lim .lastVariable)
+misformed-answer : (lim : Limits) (st : State) (x : StepRead) (go : Tokens → State → Answer ℕ)
+    → MisformedAt x (st .highest) (lim .lastVariable)
     → byRead x lim st go ≡ refusal 14 (st .steps + 1)
 misformed-answer lim st misread go m = refl
 misformed-answer lim st (read t ts) go m = rw (m t ts refl)
@@ -56,7 +54,8 @@ module _ (s : List ℕ) (lim : Limits) (A : Answer ℕ) (c : Check) (R : ℕ →
   unfolding run
   no-step h = w .answer ∙ go (w .fuel) (w .enough)
     where
-      go : (k : ℕ) → length s - at < k → run k lim (stateOf (c .tally .steps) (c .tally) (liveIn (c .tally) R ws)) (tokensAt s at) ≡ refusal 18 (c .tally .steps)
+      go : (k : ℕ) → length s - at < k → run k lim (stateOf (c .tally .steps) (c .tally) (liveIn (c .tally) R ws)) (tokensAt s at)
+          ≡ refusal 18 (c .tally .steps)
       go zero l = absurd (omega arith)
       go (suc k) l = rw (tokens-stop s at h)
 
@@ -76,7 +75,8 @@ module _ (s : List ℕ) (lim : Limits) (A : Answer ℕ) (c : Check) (R : ℕ →
     one-more : counted (c .tally) .steps ≡ c .tally .steps + 1
     one-more = omega (arith, w .early)
 
-    pub step-misformed : MisformedAt (readStep (tokensAt s at)) (c .tally .highest) (lim .lastVariable) → A ≡ refusal 14 (counted (c .tally) .steps)
+    pub step-misformed : MisformedAt (readStep (tokensAt s at)) (c .tally .highest) (lim .lastVariable)
+        → A ≡ refusal 14 (counted (c .tally) .steps)
     step-misformed m = taken .2 ∙ misformed-answer lim state (readStep (tokensAt s at)) _ m ∙ rw one-more
 
     -- the counts and the stores within the step, whose hints or ids stand at k .hints
@@ -119,11 +119,13 @@ module _ (s : List ℕ) (lim : Limits) (A : Answer ℕ) (c : Check) (R : ℕ →
           }
 
       answer-adds : (hs : List ℕ) → a .hints ≡ hs
-          → A ≡ ending lim (adding .step) (byShown (hintsShow (liveIn (c .tally) R ws) (marksOf ms′) hs) lim (before adding) (k .id) (a .literals))
+          → A ≡ ending lim (adding .step) (byShown (hintsShow (liveIn (c .tally) R ws) (marksOf ms′) hs) lim (before adding)
+          (k .id) (a .literals))
       unfolding perform
       answer-adds hs q = taken .2 ∙ rw (a .step, a .formed, a .marks, q)
 
-      none-show : ending lim (adding .step) (byShown (hintsShow (liveIn (c .tally) R ws) (marksOf ms′) []) lim (before adding) (k .id) (a .literals))
+      none-show : ending lim (adding .step) (byShown (hintsShow (liveIn (c .tally) R ws) (marksOf ms′) []) lim (before adding)
+          (k .id) (a .literals))
           ≡ refusal 16 (counted (c .tally) .steps)
       unfolding hintsShow
       none-show = rw one-more
@@ -145,8 +147,10 @@ module _ (s : List ℕ) (lim : Limits) (A : Answer ℕ) (c : Check) (R : ℕ →
                 answer = answer-adds (id ∷ rest) q;
               })
 
-          go : (x : Parsed ℕ) → number s (k .hints) ≡ x → FineAt s lim A (counted (c .tally)) k R ws ms′ (firstId Walk (Refused 16) (k .hints) x)
-          go (got id next) e = by id next (a .hints) refl (ids-ahead s (k .hints) id next (a .hints) (tokensAt s (a .next)) e (a .hints-stand .listed))
+          go : (x : Parsed ℕ) → number s (k .hints) ≡ x
+              → FineAt s lim A (counted (c .tally)) k R ws ms′ (firstId Walk (Refused 16) (k .hints) x)
+          go (got id next) e = by id next (a .hints) refl (ids-ahead s (k .hints) id next (a .hints) (tokensAt s (a .next)) e
+              (a .hints-stand .listed))
           go (refused j o) e = let x = list-cut s (k .hints) j o e in let y = a .hints-stand .listed in impossible (cc)
 
     -- ids are to be deleted
@@ -158,7 +162,8 @@ module _ (s : List ℕ) (lim : Limits) (A : Answer ℕ) (c : Check) (R : ℕ →
       deleting-step = in-step ids-clause ahead ms refl (tokensAt s (d .next))
 
       answer-deletes : (ids : List ℕ) → d .ids ≡ ids
-          → A ≡ ending lim deleting-step (byDeleted (stateOf (c .tally .steps) (counted (c .tally)) (liveIn (c .tally) R ws)) (deleted (liveIn (c .tally) R ws) ids))
+          → A ≡ ending lim deleting-step (byDeleted (stateOf (c .tally .steps) (counted (c .tally)) (liveIn (c .tally) R ws))
+          (deleted (liveIn (c .tally) R ws) ids))
       unfolding perform wellFormed
       answer-deletes ids q = taken .2 ∙ rw (d .step, q)
 
@@ -189,12 +194,15 @@ module _ (s : List ℕ) (lim : Limits) (A : Answer ℕ) (c : Check) (R : ℕ →
                 answer = answer-deletes (id ∷ rest) q;
               })
 
-          go : (x : Parsed ℕ) → number s from ≡ x → FineAt s lim A (counted (c .tally)) ids-clause R ws ms (firstId Delete Next from x)
-          go (got id next) e = by id next (number-got s from e .ahead) (d .ids) refl (ids-ahead s from id next (d .ids) (tokensAt s (d .next)) e (d .stand .listed))
+          go : (x : Parsed ℕ) → number s from ≡ x
+              → FineAt s lim A (counted (c .tally)) ids-clause R ws ms (firstId Delete Next from x)
+          go (got id next) e = by id next (number-got s from e .ahead) (d .ids) refl
+              (ids-ahead s from id next (d .ids) (tokensAt s (d .next)) e (d .stand .listed))
           go (refused j o) e = let x = list-cut s from j o e in let y = d .stand .listed in impossible (cc)
 
 -- the step at an offset
-pub step-read : (s : List ℕ) (lim : Limits) (A : Answer ℕ) (c : Check) (R : ℕ → Row) (ws ms : List ℕ) (at : ℕ) (r : Check) (ms′ : List ℕ)
+pub step-read : (s : List ℕ) (lim : Limits) (A : Answer ℕ) (c : Check) (R : ℕ
+    → Row) (ws ms : List ℕ) (at : ℕ) (r : Check) (ms′ : List ℕ)
     → Reading s lim A (c .tally) (c .clause) R ws ms at → length s ≤ largest → length ms′ ≡ length ms
     → TakesStep s c at (lim .lastVariable) ms r ms′ → FineAt s lim A (r .tally) (r .clause) R ws ms′ (entered s r)
 step-read s lim A c R ws ms at r ms′ w short long (over h q) = rw q (no-step s lim A c R ws ms at w h)

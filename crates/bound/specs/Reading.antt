@@ -1,12 +1,12 @@
 -- How a step's numbers stand in the bytes of a proof.
 use mathlib.Core.Path.{_≡_}
-use mathlib.Core.Bool.{Bool, true, false, cond, _&&_}
-use mathlib.Core.List.{List, [], _∷_}
-use Prim.Native.Nat.{ℕ, zero, suc, _+_, _/_, _≤_, _<_}
-use lib.Dec.{leb, ltb, eqb}
+use mathlib.Core.Bool.{Bool, true, false, _&&_}
+use mathlib.Core.List.{List}
+use Prim.Native.Nat.{ℕ, _+_, _/_, _≤_, _<_}
+use lib.Dec.{leb, eqb}
 use lib.ListN.{length, drop}
 use Rattle.scope.specs.Steps as steps
-use Rattle.scope.specs.Steps.{Tokens, tokens, upTo0, numbers, Step, add, delete, readStep, read, Marks, allOpen, allFalse, literalsOk, wellFormed}
+use Rattle.scope.specs.Steps.{Tokens, tokens, upTo0, numbers, Step, add, delete, read, Marks, allOpen, allFalse, literalsOk, wellFormed}
 use Rattle.store.specs.Marks.{marksOf}
 use Rattle.bound.specs.declared.steps.Numbers.{Numbers}
 use Rattle.bound.specs.declared.steps.Numbers.the-variants.{End, Cut}
@@ -47,8 +47,10 @@ pub record LiteralsAt (s : List ℕ) (at last : ℕ) (ms : List ℕ) (k : ℕ) (
   pub marks : marksOf ms′ ≡ allFalse (marksOf ms) literals
 
 pub data ReadsLiterals (s : List ℕ) (at last : ℕ) (ms : List ℕ) (k : ℕ) (ms′ : List ℕ) : Literals → Type 0 where
-  reads : (size next : ℕ) → at < next → next ≤ length s → (last ≤ length ms → LiteralsAt s at last ms k ms′ size next) → ReadsLiterals s at last ms k ms′ (found.Read size next)
-  bad-literals : (last ≤ length ms → (ls : List ℕ) (ts : Tokens) → numbersAt s at ≡ upTo0 ls ts → literalsOk last (marksOf ms) ls ≡ false)
+  reads : (size next : ℕ) → at < next → next ≤ length s → (last ≤ length ms → LiteralsAt s at last ms k ms′ size next)
+      → ReadsLiterals s at last ms k ms′ (found.Read size next)
+  bad-literals : (last ≤ length ms → (ls : List ℕ) (ts : Tokens) → numbersAt s at ≡ upTo0 ls ts
+      → literalsOk last (marksOf ms) ls ≡ false)
       → ReadsLiterals s at last ms k ms′ found.Misformed
 
 -- A step x that is read at an offset. It adds a clause
@@ -81,5 +83,6 @@ Open last ms = (last ≤ length ms) × (marksOf ms ≡ allOpen)
 pub data ReadsStep (x : steps.StepRead) (s : List ℕ) (at highest last : ℕ) (ms ms′ : List ℕ) : Read → Type 0 where
   adds : (c : Clause) → at < c .hints → c .hints ≤ length s → (Open last ms → AddsAt x s highest last ms′ c)
       → ReadsStep x s at highest last ms ms′ (Adds c)
-  deletes : (from : ℕ) → at < from → from ≤ length s → ms′ ≡ ms → DeletesAt x s from → ReadsStep x s at highest last ms ms′ (Deletes from)
+  deletes : (from : ℕ) → at < from → from ≤ length s → ms′ ≡ ms → DeletesAt x s from
+      → ReadsStep x s at highest last ms ms′ (Deletes from)
   misformed : (Open last ms → MisformedAt x highest last) → ReadsStep x s at highest last ms ms′ Misformed

@@ -1,41 +1,39 @@
 -- A step-level turn keeps what holds of a check: a clause is deleted, kept or judged, and a step is read.
-use mathlib.Core.Path.{_≡_, refl, sym, ap, _∙_, fun-ext}
-use mathlib.Core.Bool.{Bool, true, false, cond, _&&_, _||_}
+use mathlib.Core.Path.{_≡_, refl, sym, ap, _∙_}
+use mathlib.Core.Bool.{Bool, true, false, cond, _&&_}
 use mathlib.Core.List.{List, [], _∷_}
 use mathlib.Core.Option.{Option, none, some}
-use Prim.Native.Nat.{ℕ, zero, suc, _+_, _-_, _/_, _%_, _≤_, _<_, min}
+use Prim.Native.Nat.{ℕ, suc, _+_, _-_, _≤_, _<_, min}
 use native.Mathlib.Omega.{arith}
 use native.Mathlib.Numerals.{add-one}
 use lib.Dec.{eqb, ltb, leb}
 use lib.ListN.{length, getD, drop}
 use lib.Seq.{sets, length-sets, drop-cons}
-use borrow.Author.Tests.{eq-eqb, ne-eqb, lt-ltb, le-ltb, le-leb, lt-leb, eqb-true, eqb-false, leb-true, ltb-true, ltb-false}
-use Rattle.scope.specs.Parsed.{Answer, answered, refusal, got}
+use borrow.Author.Tests.{eq-eqb, ne-eqb, leb-true, ltb-true, ltb-false}
+use Rattle.scope.specs.Parsed.{Answer, refusal, got}
 use Rattle.scope.specs.Number.{Front, broken, whole, front, within, number}
-use Rattle.scope.specs.Steps as steps
-use Rattle.scope.specs.Steps.{Tokens, stop, bad, num, byFront, tokensAfter, upTo0, allOpen, allFalse, Live, put, follows, hintsShow, deleted}
+use Rattle.scope.specs.Steps.{byFront, tokensAfter, allOpen, Live, put, follows, deleted}
 use Rattle.scope.specs.PlainRun as plain
-use Rattle.scope.specs.PlainRun.{State, Limits, Outcome, withClause, fits, byShown, byDeleted, atEnd, byOutcome}
+use Rattle.scope.specs.PlainRun.{State, Limits, withClause, fits, byShown, byDeleted, atEnd}
 use Rattle.number.specs.Laws.{number-got}
 use Rattle.store.specs.declared.directory.Row.{Row}
-use Rattle.store.specs.declared.directory.Probe.{Probe}
 use Rattle.store.specs.Marks.{marksOf}
 use Rattle.store.specs.Clauses.{inClause}
-use Rattle.store.specs.Rows.{noRow, dying, Found, hit, miss}
-use Rattle.store.specs.Live.{held, rowClause, liveRows, live-dead, put-same, put-other}
+use Rattle.store.specs.Rows.{dying}
+use Rattle.store.specs.Live.{liveRows, live-dead, put-same, put-other}
 use Rattle.store.specs.Holding.{All, Good, Holding, holding-kept, live-kept, id-free, holding-dead}
 use Rattle.laws.specs.Booleans.{impossible, and-true, or-false}
 use Rattle.theory.specs.Tokens.{tokens-stop}
 use Rattle.bound.specs.declared.machine.Phase.{Phase}
-use Rattle.bound.specs.declared.machine.Phase.the-variants.{Next, Walk, Followed, Keep, Wipe, Delete, Proved, Refused}
+use Rattle.bound.specs.declared.machine.Phase.the-variants.{Next, Keep, Delete, Proved, Refused}
 use Rattle.bound.specs.declared.check.Check.{Check}
 use Rattle.bound.specs.declared.check.Tally.{Tally}
-use Rattle.bound.specs.Reading.{tokensAt, numbersAt}
+use Rattle.bound.specs.Reading.{tokensAt}
 use Rattle.bound.specs.Listing.{Ahead, last-id, more-ids, ids-ahead}
-use Rattle.bound.specs.Machine.{stopped, onward, onward-end, onward-more}
-use Rattle.bound.specs.Check.{withPhase, verdict, judged, rowOf, largest, keptAs, entered}
-use Rattle.bound.specs.Hints.{inHint, inHints, AllLive, IsLive, outside-false, literals-good, hints-same, live-same}
-use Rattle.bound.specs.Fine.{Base, InStep, ending, Adding, before, liveIn, stateOf, Reading, Walking, Following, Keeping, Wiping, Deleting, FineAt}
+use Rattle.bound.specs.Machine.{onward, onward-end, onward-more}
+use Rattle.bound.specs.Check.{withPhase, verdict, rowOf, largest, keptAs, entered}
+use Rattle.bound.specs.Hints.{inHint, inHints, IsLive, outside-false, literals-good, hints-same, live-same}
+use Rattle.bound.specs.Fine.{Base, ending, before, liveIn, stateOf, Following, Keeping, Deleting, FineAt}
 
 -- what a deletion leaves does not go by the clauses that were live before it
 not-by-live : (n : ℕ) (t : Tally) (L L′ : Live) (o : Option Live) → byDeleted (stateOf n t L) o ≡ byDeleted (stateOf n t L′) o
@@ -59,12 +57,14 @@ non-empty lim st id (k ∷ ks) l ls t e f = rw f
 
 module _ (s : List ℕ) (lim : Limits) (A : Answer ℕ) (c : Check) (R : ℕ → Row) (ws ms : List ℕ) where
   -- an id to delete that is not live
-  pub id-gone : (h at : ℕ) → Deleting s lim A (c .tally) (c .clause) R ws ms h at → liveIn (c .tally) R ws h ≡ none → A ≡ refusal 15 (c .tally .steps)
+  pub id-gone : (h at : ℕ) → Deleting s lim A (c .tally) (c .clause) R ws ms h at → liveIn (c .tally) R ws h ≡ none
+      → A ≡ refusal 15 (c .tally .steps)
   unfolding deleted
   id-gone h at w e = w .answer ∙ rw (e, w .step .counts)
 
   -- a live clause is deleted
-  module _ (h at i : ℕ) (w : Deleting s lim A (c .tally) (c .clause) R ws ms h at) (cl : List ℕ) (e : liveIn (c .tally) R ws h ≡ some cl) (l : i < c .tally .rows) (same : R i .id ≡ h) where
+  module _ (h at i : ℕ) (w : Deleting s lim A (c .tally) (c .clause) R ws ms h at) (cl : List ℕ) (e : liveIn (c .tally) R ws h
+      ≡ some cl) (l : i < c .tally .rows) (same : R i .id ≡ h) where
     abbrev R′ : ℕ → Row
     R′ = put R i (dying (R i))
 
@@ -74,19 +74,22 @@ module _ (s : List ℕ) (lim : Limits) (A : Answer ℕ) (c : Check) (R : ℕ →
     deleted-base : Base lim (c .tally) R′ ws ms
     deleted-base =
         record {
-          holding = holding-dead (lim .lastVariable) (lim .rowsLent) R ws (c .tally .rows) (c .tally .words) (c .tally .highest) (w .base .holding) i;
+          holding = holding-dead (lim .lastVariable) (lim .rowsLent) R ws (c .tally .rows) (c .tally .words) (c .tally .highest)
+              (w .base .holding) i;
           lent = w .base .lent;
           marked = w .base .marked;
         }
 
-    pub id-deleted : (id next : ℕ) → number s at ≡ got id next → c .clause .hints ≤ at → FineAt s lim A (c .tally) (c .clause) R′ ws ms (onward Delete Next id next)
+    pub id-deleted : (id next : ℕ) → number s at ≡ got id next → c .clause .hints ≤ at
+        → FineAt s lim A (c .tally) (c .clause) R′ ws ms (onward Delete Next id next)
     unfolding deleted
     id-deleted id next n past = go (w .left) refl (ids-ahead s at id next (w .left) (w .step .after) n (w .left-at))
       where
         k : at < next
         k = number-got s at n .ahead
 
-        go : (left : List ℕ) → w .left ≡ left → Ahead s next id (w .step .after) left → FineAt s lim A (c .tally) (c .clause) R′ ws ms (onward Delete Next id next)
+        go : (left : List ℕ) → w .left ≡ left → Ahead s next id (w .step .after) left
+            → FineAt s lim A (c .tally) (c .clause) R′ ws ms (onward Delete Next id next)
         go left q (last-id z t) =
             rw (onward-end Delete Next id next z)
             (record {
@@ -107,7 +110,9 @@ module _ (s : List ℕ) (lim : Limits) (A : Answer ℕ) (c : Check) (R : ℕ →
               left-at = t;
               answer =
                   w .answer
-                  ∙ rw (e, q, now-live) (ap (ending lim (w .step)) (not-by-live (w .step .done) (c .tally) (liveIn (c .tally) R ws) (put (liveIn (c .tally) R ws) h none) (deleted (put (liveIn (c .tally) R ws) h none) (id ∷ rest))));
+                  ∙ rw (e, q, now-live) (ap (ending lim (w .step))
+                  (not-by-live (w .step .done) (c .tally) (liveIn (c .tally) R ws) (put (liveIn (c .tally) R ws) h none)
+                  (deleted (put (liveIn (c .tally) R ws) h none) (id ∷ rest))));
             })
 
   -- a clause is kept
@@ -130,26 +135,33 @@ module _ (s : List ℕ) (lim : Limits) (A : Answer ℕ) (c : Check) (R : ℕ →
     free : c .tally .rows < lim .rowsLent
     free = omega (arith, w .rows-fit)
 
-    kept-holding : Holding (lim .lastVariable) (lim .rowsLent) kept-rows kept-words (suc (c .tally .rows)) (c .tally .words + length (w .adding .literals)) (c .clause .id)
+    kept-holding : Holding (lim .lastVariable) (lim .rowsLent) kept-rows kept-words (suc (c .tally .rows))
+        (c .tally .words + length (w .adding .literals)) (c .clause .id)
     kept-holding =
-        holding-kept (lim .lastVariable) (lim .rowsLent) R ws (c .tally .rows) (c .tally .words) (c .tally .highest) (w .adding .base .holding)
+        holding-kept (lim .lastVariable) (lim .rowsLent) R ws (c .tally .rows) (c .tally .words) (c .tally .highest)
+        (w .adding .base .holding)
         row (w .adding .literals) (w .adding .fresh) refl (sym (w .adding .size)) room free good
 
-    kept-live : liveRows kept-rows kept-words (suc (c .tally .rows)) ≡ put (liveIn (c .tally) R ws) (c .clause .id) (some (w .adding .literals))
+    kept-live : liveRows kept-rows kept-words (suc (c .tally .rows))
+        ≡ put (liveIn (c .tally) R ws) (c .clause .id) (some (w .adding .literals))
     kept-live =
-        live-kept (lim .lastVariable) (lim .rowsLent) R ws (c .tally .rows) (c .tally .words) (c .tally .highest) (w .adding .base .holding)
+        live-kept (lim .lastVariable) (lim .rowsLent) R ws (c .tally .rows) (c .tally .words) (c .tally .highest)
+        (w .adding .base .holding)
         row (w .adding .literals) (w .adding .fresh) refl (sym (w .adding .size)) room free good refl
 
     -- the hints' clauses are as they were
-    hint-kept : (h : ℕ) → IsLive (liveIn (c .tally) R ws h) → put (liveIn (c .tally) R ws) (c .clause .id) (some (w .adding .literals)) h ≡ liveIn (c .tally) R ws h
+    hint-kept : (h : ℕ) → IsLive (liveIn (c .tally) R ws h)
+        → put (liveIn (c .tally) R ws) (c .clause .id) (some (w .adding .literals)) h ≡ liveIn (c .tally) R ws h
     hint-kept h a = put-other (liveIn (c .tally) R ws) (c .clause .id) h (some (w .adding .literals)) (λ z. other (rw z at a))
       where
         other : IsLive (liveIn (c .tally) R ws (c .clause .id)) → ⊥
         other a =
-            rw (id-free (lim .lastVariable) (lim .rowsLent) R ws (c .tally .rows) (c .tally .words) (c .tally .highest) (w .adding .base .holding) (c .clause .id) (w .adding .fresh)) at a
+            rw (id-free (lim .lastVariable) (lim .rowsLent) R ws (c .tally .rows) (c .tally .words) (c .tally .highest)
+            (w .adding .base .holding) (c .clause .id) (w .adding .fresh)) at a
 
     -- no mark stands outside the kept clause and its hints
-    kept-outside : (v : ℕ) → inHints (put (liveIn (c .tally) R ws) (c .clause .id) (some (w .adding .literals))) (c .clause .id ∷ w .adding .hints) v ≡ false
+    kept-outside : (v : ℕ) → inHints (put (liveIn (c .tally) R ws) (c .clause .id) (some (w .adding .literals)))
+        (c .clause .id ∷ w .adding .hints) v ≡ false
         → marksOf ms v ≡ 0
     unfolding inHints
     kept-outside v f =
@@ -189,7 +201,11 @@ module _ (s : List ℕ) (lim : Limits) (A : Answer ℕ) (c : Check) (R : ℕ →
                 };
             left = w .adding .hints;
             left-at = w .adding .hints-at;
-            live = rw (kept-count, kept-live) (rw (put-same (liveIn (c .tally) R ws) (c .clause .id) (some (w .adding .literals))) tt, live-same (liveIn (c .tally) R ws) _ hint-kept (w .adding .hints) (w .live));
+            live = rw (kept-count, kept-live) (
+              rw (put-same (liveIn (c .tally) R ws) (c .clause .id) (some (w .adding .literals)))
+                  tt,
+              live-same (liveIn (c .tally) R ws) _ hint-kept (w .adding .hints) (w .live),
+            );
             outside = rw (kept-count, kept-live) kept-outside;
             answer = w .answer ∙ rw (kept-count, kept-used, kept-live, add-one (c .tally .rows));
           }
@@ -202,26 +218,31 @@ module _ (s : List ℕ) (lim : Limits) (A : Answer ℕ) (c : Check) (R : ℕ →
     -- the empty clause
     empty-judged : w .adding .literals ≡ [] → (t : Bool) → ltb at (length s) ≡ t → Judged (cond t (Refused 18) Proved)
     empty-judged q true t =
-        w .answer ∙ rw (q, ← w .after-at, w .adding .step .counts) (more-bytes s at (w .adding .step .done + 1) (ltb-true at (length s) t))
+        w .answer ∙ rw (q, ← w .after-at, w .adding .step .counts)
+        (more-bytes s at (w .adding .step .done + 1) (ltb-true at (length s) t))
     empty-judged q false t =
         w .answer ∙ rw (q, ← w .after-at, tokens-stop s at (ltb-false at (length s) t), w .adding .step .counts)
 
     -- another
     other-judged : (l : ℕ) (ls : List ℕ) → w .adding .literals ≡ l ∷ ls
-        → (t : Bool) → (leb (c .tally .words + length (w .adding .literals)) (lim .wordsLent) && leb (c .tally .rows + 1) (lim .rowsLent)) ≡ t
+        → (t : Bool) → (leb (c .tally .words + length (w .adding .literals)) (lim .wordsLent) && leb (c .tally .rows + 1)
+        (lim .rowsLent)) ≡ t
         → Judged (cond t Keep (Refused 17))
     other-judged l ls q true t =
-        let p = and-true (leb (c .tally .words + length (w .adding .literals)) (lim .wordsLent)) (leb (c .tally .rows + 1) (lim .rowsLent)) t in
+        let p = and-true (leb (c .tally .words + length (w .adding .literals)) (lim .wordsLent))
+        (leb (c .tally .rows + 1) (lim .rowsLent)) t in
         record {
           adding = w .adding;
           live = w .live;
           words-fit = leb-true (c .tally .words + length (w .adding .literals)) (lim .wordsLent) (p .0);
           rows-fit = leb-true (c .tally .rows + 1) (lim .rowsLent) (p .1);
-          answer = w .answer ∙ ap (ending lim (w .adding .step)) (non-empty lim (before (w .adding)) (c .clause .id) (w .adding .literals) l ls true q t);
+          answer = w .answer ∙ ap (ending lim (w .adding .step))
+              (non-empty lim (before (w .adding)) (c .clause .id) (w .adding .literals) l ls true q t);
         }
     other-judged l ls q false t =
         w .answer
-        ∙ ap (ending lim (w .adding .step)) (non-empty lim (before (w .adding)) (c .clause .id) (w .adding .literals) l ls false q t)
+        ∙ ap (ending lim (w .adding .step)) (non-empty lim (before (w .adding)) (c .clause .id) (w .adding .literals) l ls false q
+        t)
         ∙ rw (w .adding .step .counts)
 
     pub clause-judged : Judged (verdict c at (length s) (length ws) (lim .rowsLent))
@@ -231,10 +252,13 @@ module _ (s : List ℕ) (lim : Limits) (A : Answer ℕ) (c : Check) (R : ℕ →
         go : (cl : List ℕ) → w .adding .literals ≡ cl
             → Judged
             (cond (eqb (c .clause .size) 0) (cond (ltb at (length s)) (Refused 18) Proved)
-            (cond (leb (c .tally .words + c .clause .size) (length ws) && leb (c .tally .rows + 1) (lim .rowsLent)) Keep (Refused 17)))
+            (cond (leb (c .tally .words + c .clause .size) (length ws) && leb (c .tally .rows + 1) (lim .rowsLent)) Keep
+            (Refused 17)))
         go [] q =
             let z : c .clause .size ≡ 0 = sym (w .adding .size) ∙ ap length q in
             rw (eq-eqb (c .clause .size) 0 z) (empty-judged q (ltb at (length s)) refl)
         go (l ∷ ls) q =
             let z = sym (w .adding .size) ∙ ap length q in
-            rw (ne-eqb (c .clause .size) 0 (λ y. omega arith)) (other-judged l ls q (leb (c .tally .words + c .clause .size) (length ws) && leb (c .tally .rows + 1) (lim .rowsLent)) (rw (w .adding .size, w .adding .base .lent)))
+            rw (ne-eqb (c .clause .size) 0 (λ y. omega arith))
+            (other-judged l ls q (leb (c .tally .words + c .clause .size) (length ws) && leb (c .tally .rows + 1)
+            (lim .rowsLent)) (rw (w .adding .size, w .adding .base .lent)))

@@ -11,7 +11,6 @@ use number::number_at;
 use store::directory::Row;
 ghost use mathlib.Core.Path.{_≡_};
 ghost use Prim.Native.Nat.{_+_, min};
-ghost use lib.ListN.{length};
 ghost use Rattle.scope.specs.Number.{number as numberAt};
 ghost use Rattle.bound.specs.Check.{begun, withPhase, judged, rowOf, keptAs, Copies, firstId, entered, TakesStep};
 

@@ -1,12 +1,12 @@
 -- The directory is built of marked words, with no code: what holds between the words, and what the rows come to.
 use mathlib.Core.Path.{_≡_, refl, sym, ap, _∙_}
-use mathlib.Core.Bool.{Bool, true, false, cond}
-use mathlib.Core.List.{List, [], _∷_, _++_, map, flatMap, map-append, append-assoc, append-nil}
-use Prim.Native.Nat.{ℕ, zero, suc, _+_, _-_, _≤_, _<_}
+use mathlib.Core.Bool.{cond}
+use mathlib.Core.List.{List, [], _∷_, _++_, map, flatMap, map-append}
+use Prim.Native.Nat.{ℕ, suc, _+_, _-_, _≤_, _<_}
 use native.Mathlib.Omega.{arith}
 use native.Mathlib.Numerals.{add-one}
 use lib.Dec.{leb}
-use lib.ListN.{length, getD, set, take, drop, length-append, length-map, length-take, length-drop}
+use lib.ListN.{length, getD, set, take, drop, length-append, length-map, length-drop}
 use lib.Seq.{slice, slice-cons, length-take-le, take-suc, drop-cons, append-snoc, set-at, getD-at, take-at, drop-at}
 use borrow.Author.Tests.{le-leb, lt-leb, eq-eqb, ne-eqb}
 use Rattle.scope.specs.Formula.{words}
@@ -27,7 +27,8 @@ plainTo ws i = map plain (take i ws) ++ drop i ws
 unfoldable pub rowsIn : ℕ → ℕ → ℕ → List ℕ → List Row
 rowsIn id first i [] = []
 rowsIn id first i (w ∷ ws) =
-    cond (leb 2147483648 w) (record { id = id; first = first; len = suc i - first; live = 1 } ∷ rowsIn (suc id) (suc i) (suc i) ws)
+    cond (leb 2147483648 w) (record { id = id; first = first; len = suc i - first; live = 1 } ∷ rowsIn (suc id) (suc i) (suc i)
+    ws)
     (rowsIn id first (suc i) ws)
 
 unfoldable front : List ℕ → ℕ → List ℕ
@@ -77,7 +78,8 @@ module _ (id first i : ℕ) (ws : List ℕ) (end : ℕ) (h : i < end) (k : end �
   unfolding rowsIn
   rows-marked m = rw (slice-cons i end ws 0 h k, le-leb 2147483648 (getD ws i 0) m, add-one i, add-one id)
 
-  pub rows-unmarked : getD ws i 0 < 2147483648 → rowsIn id first i (slice i end ws) ≡ rowsIn id first (i + 1) (slice (i + 1) end ws)
+  pub rows-unmarked : getD ws i 0 < 2147483648
+      → rowsIn id first i (slice i end ws) ≡ rowsIn id first (i + 1) (slice (i + 1) end ws)
   unfolding rowsIn
   rows-unmarked m = rw (slice-cons i end ws 0 h k, lt-leb 2147483648 (getD ws i 0) m, add-one)
 
@@ -101,9 +103,17 @@ pub record Building (ws₀ ws : List ℕ) (cap : ℕ) (R : ℕ → Row) (end n f
 
 pub build-start : (ws₀ : List ℕ) (cap : ℕ) (R : ℕ → Row) (end : ℕ) → Building ws₀ ws₀ cap R end 0 0 0
 build-start ws₀ cap R end =
-    record { few = omega arith; begun = omega arith; passed = omega arith; words = refl; count = omega arith; hold = λ h R′ s t. t }
+    record {
+      few = omega arith;
+      begun = omega arith;
+      passed = omega arith;
+      words = refl;
+      count = omega arith;
+      hold = λ h R′ s t. t;
+    }
 
-module _ (ws₀ ws : List ℕ) (cap : ℕ) (R : ℕ → Row) (end n first i : ℕ) (b : Building ws₀ ws cap R end n first i) (h : i < end) (k : end ≤ length ws₀) where
+module _ (ws₀ ws : List ℕ) (cap : ℕ) (R : ℕ
+    → Row) (end n first i : ℕ) (b : Building ws₀ ws cap R end n first i) (h : i < end) (k : end ≤ length ws₀) where
   pub build-unmarked : getD ws i 0 < 2147483648 → Building ws₀ ws cap R end n first (i + 1)
   build-unmarked m =
       let m₀ : getD ws₀ i 0 < 2147483648 = rw (word-is ws₀ ws i (omega arith) (b .words)) at m in
@@ -140,7 +150,8 @@ module _ (ws₀ ws : List ℕ) (cap : ℕ) (R : ℕ → Row) (end n first i : �
 module _ (id first : ℕ) (ws : List ℕ) where
   rows-clause : (i l : ℕ) (ls : List ℕ) → first ≤ i → Small (l ∷ ls)
       → rowsIn id first i (mark (l ∷ ls) ++ ws)
-      ≡ record { id = id; first = first; len = i + length (l ∷ ls) - first; live = 1 } ∷ rowsIn (suc id) (i + length (l ∷ ls)) (i + length (l ∷ ls)) ws
+      ≡ record { id = id; first = first; len = i + length (l ∷ ls) - first; live = 1 } ∷ rowsIn (suc id) (i + length (l ∷ ls))
+      (i + length (l ∷ ls)) ws
   unfolding rowsIn mark
   rows-clause i l [] h s =
       let e : suc i ≡ i + 1 = omega arith in rw (le-leb 2147483648 (l + 2147483648) (omega arith), e)
@@ -150,7 +161,8 @@ module _ (id first : ℕ) (ws : List ℕ) where
 
 plain-clause : (l : ℕ) (ls : List ℕ) → Small (l ∷ ls) → map plain (mark (l ∷ ls)) ≡ l ∷ ls
 unfolding plain mark
-plain-clause l [] s = let e : l + 2147483648 - 2147483648 ≡ l = omega arith in rw (le-leb 2147483648 (l + 2147483648) (omega arith), e)
+plain-clause l [] s = let e : l + 2147483648 - 2147483648 ≡ l = omega arith in
+    rw (le-leb 2147483648 (l + 2147483648) (omega arith), e)
 plain-clause l (k ∷ ks) s = rw (lt-leb 2147483648 l (s .0), plain-clause k ks (s .1))
 
 rows-marks : (id first : ℕ) (f : List (List ℕ)) → Plain f → rowsIn id first first (flatMap mark f) ≡ rowsFor id first f
@@ -185,7 +197,8 @@ length-rows id first [] = refl
 length-rows id first (c ∷ cs) = ap suc (length-rows (suc id) (first + length c) cs)
 
 -- all words are passed
-module _ (f : List (List ℕ)) (rest ws₀ ws : List ℕ) (cap : ℕ) (R : ℕ → Row) (total end n first i : ℕ) (b : Building ws₀ ws cap R end n first i) (h : end ≤ i) where
+module _ (f : List (List ℕ)) (rest ws₀ ws : List ℕ) (cap : ℕ) (R : ℕ
+    → Row) (total end n first i : ℕ) (b : Building ws₀ ws cap R end n first i) (h : end ≤ i) where
   pub build-end : Plain f → ws₀ ≡ flatMap mark f ++ rest → total ≡ words f → (total ≤ length ws₀ → end ≡ total) → length f ≤ cap
       → BuiltFor f rest ws R n
   build-end p e t to fits =
@@ -212,7 +225,8 @@ module _ (f : List (List ℕ)) (rest ws₀ ws : List ℕ) (cap : ℕ) (R : ℕ �
       hold-done : (n first i : ℕ) → Hold R n (rowsIn (n + 1) first i [])
       hold-done n first i = rw (rows-none (n + 1) first i) (hold-nil R n)
 
-pub build-length : {ws₀ ws : List ℕ} {cap : ℕ} {R : ℕ → Row} {end n first i : ℕ} → Building ws₀ ws cap R end n first i → end ≤ length ws₀
+pub build-length : {ws₀ ws : List ℕ} {cap : ℕ} {R : ℕ → Row} {end n first i : ℕ} → Building ws₀ ws cap R end n first i
+    → end ≤ length ws₀
     → length ws ≡ length ws₀
 build-length {ws₀} {ws} {cap} {R} {end} {n} {first} {i} b h =
     ap length (b .words)

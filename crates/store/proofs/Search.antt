@@ -1,7 +1,7 @@
 -- The search by halves, with no code: what holds of a search between its looks, and what a look does to it.
 use mathlib.Core.Path.{_≡_, refl, sym, ap, _∙_}
 use mathlib.Core.Bool.{Bool, true, false}
-use Prim.Native.Nat.{ℕ, _<_, _≤_, _+_, _-_}
+use Prim.Native.Nat.{ℕ, _<_, _≤_, _-_}
 use native.Mathlib.Omega.{arith}
 use borrow.Author.Tests.{ltb-true, ltb-false}
 use lib.Dec.{ltb}
@@ -57,7 +57,8 @@ module _ (R : ℕ → Row) (n : ℕ) (up : Rising R n) where
       go true t = ltb-true i k t
       go false t = absurd (not-before (ltb-false i k t) (ltb k i) refl)
 
-  pub looked : (id : ℕ) (p r : Probe) → Inside p → p .lo < p .hi → Seeking R n id p → Narrowed p (R (p .at)) id r → Seeking R n id r
+  pub looked : (id : ℕ) (p r : Probe) → Inside p → p .lo < p .hi → Seeking R n id p → Narrowed p (R (p .at)) id r
+      → Seeking R n id r
   looked id p r ins l (holds e a b c) _ = absurd (omega arith)
   looked id p r ins l (seeks h w z) (met e lo hi x y) =
       holds (omega arith) (omega (arith, ins l .1)) (y ∙ ap R (sym x)) (ap (λ q. q .id) y ∙ e)

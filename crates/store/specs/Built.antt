@@ -1,12 +1,12 @@
 -- A directory that was built holds its formula.
 use mathlib.Core.Path.{_≡_, refl, sym, ap, _∙_, fun-ext}
-use mathlib.Core.Bool.{Bool, true, false, cond}
+use mathlib.Core.Bool.{Bool, true, false}
 use mathlib.Core.List.{List, [], _∷_, _++_, flatMap, append-assoc}
-use mathlib.Core.Option.{Option, none, some}
-use Prim.Native.Nat.{ℕ, zero, suc, _+_, _-_, _≤_, _<_}
+use mathlib.Core.Option.{none, some}
+use Prim.Native.Nat.{ℕ, zero, suc, _+_, _≤_, _<_}
 use native.Mathlib.Omega.{arith}
 use lib.Dec.{ltb}
-use lib.ListN.{length, getD, getElem?, take, drop, length-append, List·getD-append}
+use lib.ListN.{length, getD, getElem?, take, length-append, List·getD-append}
 use lib.Seq.{take-at, drop-append-add}
 use borrow.Author.Tests.{ltb-true, ltb-false}
 use Rattle.scope.specs.Formula.{words}
@@ -14,7 +14,7 @@ use Rattle.scope.specs.PlainRun.{byId}
 use Rattle.store.specs.declared.directory.Row.{Row}
 use Rattle.store.specs.Clauses.{part}
 use Rattle.store.specs.Rows.{Rising}
-use Rattle.store.specs.Live.{rowClause, liveRows, row-found, row-missing}
+use Rattle.store.specs.Live.{liveRows, row-found, row-missing}
 use Rattle.store.specs.Holding.{All, all-at, Good, Holding}
 use Rattle.store.specs.Marked.{flat, rowsFor, Hold, BuiltFor}
 
@@ -47,7 +47,8 @@ words-within [] i l = absurd (omega arith)
 words-within (c ∷ cs) zero l = omega arith
 words-within (c ∷ cs) (suc i) l = omega (arith, words-within cs i (omega arith))
 
-part-flat : (f : List (List ℕ)) (rest : List ℕ) (i : ℕ) → i < length f → part (wordsBefore f i) (length (clauseAt f i)) (flat f ++ rest) ≡ clauseAt f i
+part-flat : (f : List (List ℕ)) (rest : List ℕ) (i : ℕ) → i < length f
+    → part (wordsBefore f i) (length (clauseAt f i)) (flat f ++ rest) ≡ clauseAt f i
 unfolding words flatMap
 part-flat [] rest i l = absurd (omega arith)
 part-flat (c ∷ cs) rest zero l = rw append-assoc (take-at c (flat cs ++ rest) (length c) refl)
@@ -98,7 +99,8 @@ module _ (f : List (List ℕ)) (rest ws : List ℕ) (R : ℕ → Row) (n : ℕ) 
         rising = rows-rise;
         below = λ i l. rw (the-id i l) (omega arith);
         within = λ i l. rw (the-row i l) (words-within f i l);
-        good = λ k l. rw (b .unmarked, List·getD-append (flat f) rest 0 k (rw (length-flat f) l)) (all-at (Good last) (flat f) (all-flat (Good last) f good) k (rw (length-flat f) l));
+        good = λ k l. rw (b .unmarked, List·getD-append (flat f) rest 0 k (rw (length-flat f) l))
+            (all-at (Good last) (flat f) (all-flat (Good last) f good) k (rw (length-flat f) l));
         room = rw (b .unmarked, length-append, length-flat f) (omega arith);
         fit = fits;
       }

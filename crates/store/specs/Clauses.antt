@@ -6,9 +6,9 @@ use Prim.Native.Nat.{ℕ, zero, suc, _+_, _/_, _≤_, _<_, min}
 use native.Mathlib.Omega.{arith}
 use native.Mathlib.Numerals.{add-one}
 use lib.Dec.{eqb, leb}
-use lib.ListN.{length, getD, set, take, drop, length-take, drop-of-length-le}
-use lib.Seq.{slice, slice-cons, slice-empty, take-all, take-length}
-use borrow.Author.Tests.{eqb-true, eqb-false, leb-true, leb-false}
+use lib.ListN.{length, getD, take, drop, length-take, drop-of-length-le}
+use lib.Seq.{slice, slice-cons, take-all, take-length}
+use borrow.Author.Tests.{leb-true, leb-false}
 use Rattle.scope.specs.Steps as steps
 use Rattle.scope.specs.Steps.{Marks, alsoLiteral, standing}
 use Rattle.store.specs.declared.clauses.Standing.{Standing}

@@ -34,13 +34,23 @@ rows-put xs ys n row e same = fun-ext λ i. go i (eqb i n) refl
     go i true t = let p = eqb-true i n t in rw p e
     go i false t =
         let d = eqb-false i n t in
-        rw (same (4 * i) (λ e. d (omega arith)), same (4 * i + 1) (λ e. d (omega arith)), same (4 * i + 2) (λ e. d (omega arith)), same (4 * i + 3) (λ e. d (omega arith)))
+        rw (
+          same (4 * i) (λ e. d (omega arith)),
+          same (4 * i + 1) (λ e. d (omega arith)),
+          same (4 * i + 2) (λ e. d (omega arith)),
+          same (4 * i + 3) (λ e. d (omega arith)),
+        )
 
 -- a row that dies
 pub row-dies : (xs : List ℕ) (n : ℕ) → n < length xs / 4 → rowsOf (set xs (4 * n + 3) 0) ≡ put (rowsOf xs) n (dying (rowsOf xs n))
 row-dies xs n h =
     rows-put xs (set xs (4 * n + 3) 0) n (dying (rowsOf xs n))
-    (rw (getD-set-other xs (4 * n + 3) (4 * n) 0 0 (λ e. omega arith), getD-set-other xs (4 * n + 3) (4 * n + 1) 0 0 (λ e. omega arith), getD-set-other xs (4 * n + 3) (4 * n + 2) 0 0 (λ e. omega arith), getD-set-same xs (4 * n + 3) 0 0 (omega arith)))
+    (rw (
+      getD-set-other xs (4 * n + 3) (4 * n) 0 0 (λ e. omega arith),
+      getD-set-other xs (4 * n + 3) (4 * n + 1) 0 0 (λ e. omega arith),
+      getD-set-other xs (4 * n + 3) (4 * n + 2) 0 0 (λ e. omega arith),
+      getD-set-same xs (4 * n + 3) 0 0 (omega arith),
+    ))
     (λ j d. getD-set-other xs (4 * n + 3) j 0 0 (λ e. d (omega arith)))
 
 -- the numbers with a row stored, number by number

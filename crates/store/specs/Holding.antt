@@ -2,20 +2,20 @@
 use mathlib.Core.Path.{_≡_, refl, sym, ap, _∙_}
 use mathlib.Core.Bool.{Bool, true, false, cond}
 use mathlib.Core.List.{List, [], _∷_, _++_, append-assoc}
-use mathlib.Core.Option.{Option, none, some}
+use mathlib.Core.Option.{none, some}
 use Prim.Native.Nat.{ℕ, zero, suc, _+_, _-_, _/_, _≤_, _<_}
 use native.Mathlib.Omega.{arith}
 use lib.Dec.{eqb, ltb}
-use lib.ListN.{length, getD, set, take, drop, length-append, length-set, List·getD-append}
+use lib.ListN.{length, getD, set, take, drop, List·getD-append}
 use lib.Seq.{sets, sets-eq, length-sets, length-take-le, drop-cons, take-at, drop-at, take-set-le, getD-set-other, getD-append-add}
 use borrow.Author.Tests.{eqb-true, eqb-false, ltb-true, ltb-false}
 use Rattle.scope.specs.Steps as steps
-use Rattle.scope.specs.Steps.{Marks, Live, put, Standing, alsoOpen, alsoLiteral, standing}
+use Rattle.scope.specs.Steps.{Marks, put, Standing, alsoOpen, alsoLiteral, standing}
 use Rattle.store.specs.declared.directory.Row.{Row}
 use Rattle.store.specs.declared.directory.Probe.{Probe}
 use Rattle.store.specs.Clauses.{part, drop-take}
-use Rattle.store.specs.Rows.{noRow, dying, Rising, Found, hit, miss}
-use Rattle.store.specs.Live.{rowClause, held, liveRows, rising-append, rising-dead, live-append, row-missing, put-same, put-other, same-id}
+use Rattle.store.specs.Rows.{dying, Rising, Found, hit, miss}
+use Rattle.store.specs.Live.{rowClause, liveRows, rising-append, rising-dead, live-append, row-missing, same-id}
 
 -- P of every literal of a clause
 abbrev pub All : (ℕ → Type 0) → List ℕ → Type 0
@@ -122,7 +122,8 @@ module _ (last cap : ℕ) (R : ℕ → Row) (ws : List ℕ) (n used highest : �
 
     kept-within : (i : ℕ) → i < suc n → put R n row i .first + put R n row i .len ≤ used + length ls
     kept-within i h =
-        put-elim (λ r. r .first + r .len ≤ used + length ls) R n i row (λ e. omega arith) (λ d. omega (arith, b .within i (omega arith)))
+        put-elim (λ r. r .first + r .len ≤ used + length ls) R n i row (λ e. omega arith)
+        (λ d. omega (arith, b .within i (omega arith)))
 
     module _ (fits : used + length ls ≤ length ws) (free : n < cap) (good : All (Good last) ls) where
       kept-good : (k : ℕ) → k < used + length ls → Good last (getD (sets ws used ls) k 0)
@@ -162,7 +163,8 @@ module _ (last cap : ℕ) (R : ℕ → Row) (ws : List ℕ) (n used highest : �
       record {
         rising = rising-dead R i n (b .rising);
         below = λ k h. rw (same-id R i k) (b .below k h);
-        within = λ k h. put-elim (λ r. r .first + r .len ≤ used) R i k (dying (R i)) (λ e. rw (← e) (b .within k h)) (λ d. b .within k h);
+        within = λ k h. put-elim (λ r. r .first + r .len ≤ used) R i k (dying (R i)) (λ e. rw (← e) (b .within k h))
+            (λ d. b .within k h);
         good = b .good;
         room = b .room;
         fit = b .fit;

@@ -3,7 +3,7 @@ use mathlib.Core.Path.{_≡_, refl, sym, ap, _∙_, fun-ext}
 use mathlib.Core.Bool.{Bool, true, false, cond}
 use mathlib.Core.List.{List}
 use mathlib.Core.Option.{Option, none, some}
-use Prim.Native.Nat.{ℕ, zero, suc, _+_, _≤_, _<_}
+use Prim.Native.Nat.{ℕ, zero, suc, _<_}
 use native.Mathlib.Omega.{arith}
 use lib.Dec.{eqb, ltb}
 use borrow.Author.Tests.{eq-eqb, ne-eqb, eqb-true, eqb-false, ltb-true, ltb-false}
@@ -36,7 +36,8 @@ row-found R ws zero r id up h e = absurd (omega arith)
 row-found R ws (suc n) r id up h e = go (row-found R ws n r id (fewer up)) (ltb r n) refl
   where
     go : (r < n → R r .id ≡ id → liveRows R ws n id ≡ held (R r .live) (rowClause (R r) ws)) → (b : Bool) → ltb r n ≡ b
-        → cond (eqb (R n .id) id) (held (R n .live) (rowClause (R n) ws)) (liveRows R ws n id) ≡ held (R r .live) (rowClause (R r) ws)
+        → cond (eqb (R n .id) id) (held (R n .live) (rowClause (R n) ws)) (liveRows R ws n id)
+        ≡ held (R r .live) (rowClause (R r) ws)
     go ih true t =
         let l = ltb-true r n t in
         let q = up .up r n l (omega arith) in
@@ -92,11 +93,17 @@ module _ (R : ℕ → Row) (n : ℕ) (row : Row) where
           rw (e, put-other R n i row (λ e. omega arith), put-same R n row) (h i (omega arith))
 
   pub live-append : (ws ws′ c : List ℕ) → ((i : ℕ) → i < n → rowClause (R i) ws′ ≡ rowClause (R i) ws)
-      → held (row .live) (rowClause row ws′) ≡ some c → liveRows (put R n row) ws′ (suc n) ≡ put (liveRows R ws n) (row .id) (some c)
+      → held (row .live) (rowClause row ws′) ≡ some c
+      → liveRows (put R n row) ws′ (suc n) ≡ put (liveRows R ws n) (row .id) (some c)
   unfolding liveRows
   live-append ws ws′ c k e =
       fun-ext λ j.
-      rw (put-same R n row, e, live-same R (put R n row) ws ws′ n j (λ i l. put-other R n i row (λ z. omega arith)) k, eqb-sym (row .id) j)
+      rw (
+        put-same R n row,
+        e,
+        live-same R (put R n row) ws ws′ n j (λ i l. put-other R n i row (λ z. omega arith)) k,
+        eqb-sym (row .id) j,
+      )
 
 -- a row that dies
 module _ (R : ℕ → Row) (i : ℕ) where
@@ -141,7 +148,13 @@ module _ (R : ℕ → Row) (i : ℕ) where
           rw (put-other R i n (dying (R i)) (λ z. omega arith)) (earlier-dead ws n up l j (eqb (R n .id) j) refl (ih l j))
       go ih false t =
           let p : n ≡ i = omega (arith, ltb-false i n t) in
-          rw (p, put-same R i (dying (R i)), live-same R R′ ws ws i j (λ k l. put-other R i k (dying (R i)) (λ z. omega arith)) (λ k l. refl), eqb-sym j (R i .id))
+          rw (
+            p,
+            put-same R i (dying (R i)),
+            live-same R R′ ws ws i j (λ k l. put-other R i k (dying (R i)) (λ z. omega arith))
+                (λ k l. refl),
+            eqb-sym j (R i .id),
+          )
           (last-dead (eqb (R i .id) j) (liveRows R ws i j) (held (R i .live) (rowClause (R i) ws)))
 
   pub live-dead : (ws : List ℕ) (n : ℕ) → Rising R n → i < n → liveRows R′ ws n ≡ put (liveRows R ws n) (R i .id) none

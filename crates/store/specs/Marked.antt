@@ -1,11 +1,8 @@
 -- Clauses in the words, the last word of each marked, and the rows that are made of them.
-use mathlib.Core.Path.{_≡_, refl, sym, ap, _∙_}
-use mathlib.Core.Bool.{Bool, true, false, cond}
-use mathlib.Core.List.{List, [], _∷_, _++_, map, flatMap}
-use Prim.Native.Nat.{ℕ, zero, suc, _+_, _-_, _≤_, _<_}
-use native.Mathlib.Omega.{arith}
-use lib.Dec.{leb}
-use lib.ListN.{length, take, drop}
+use mathlib.Core.Path.{_≡_}
+use mathlib.Core.List.{List, [], _∷_, _++_, flatMap}
+use Prim.Native.Nat.{ℕ, suc, _+_, _≤_, _<_}
+use lib.ListN.{length}
 use Rattle.scope.specs.Formula.{words}
 use Rattle.store.specs.declared.directory.Row.{Row}
 
@@ -46,4 +43,5 @@ pub record BuiltFor (f : List (List ℕ)) (rest ws′ : List ℕ) (R : ℕ → R
   pub count : n ≡ length f
 
 pub record Built (ws ws′ : List ℕ) (cap : ℕ) (R : ℕ → Row) (total n : ℕ) : Type 0 where
-  pub built : (f : List (List ℕ)) (rest : List ℕ) → Plain f → ws ≡ flatMap mark f ++ rest → total ≡ words f → length f ≤ cap → BuiltFor f rest ws′ R n
+  pub built : (f : List (List ℕ)) (rest : List ℕ) → Plain f → ws ≡ flatMap mark f ++ rest → total ≡ words f → length f ≤ cap
+      → BuiltFor f rest ws′ R n

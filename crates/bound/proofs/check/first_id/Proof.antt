@@ -1,4 +1,3 @@
-use mathlib.Core.Path.{_≡_, refl, sym, ap, _∙_}
 use Rattle.bound.specs.Listing.{value-at, no-value-at}
 use borrow.Author.Needs.{needs}
 use Rattle.bound.proofs.check.first_id.Statement.{statement}

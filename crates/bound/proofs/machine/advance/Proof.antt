@@ -1,5 +1,5 @@
 use native.Mathlib.Omega.{arith}
-use mathlib.Core.Path.{_≡_, refl, sym, ap, _∙_}
+use mathlib.Core.Path.{_≡_, refl}
 use Rattle.scope.specs.Parsed.{got}
 use Rattle.scope.specs.Number.{number}
 use Rattle.bound.specs.Machine.{gone, broken, walks, wipes, deletes, idle}

@@ -1,4 +1,4 @@
-use mathlib.Core.Path.{_≡_, refl, sym, ap, _∙_}
+use mathlib.Core.Path.{sym, ap, _∙_}
 use Rattle.store.specs.Clauses.{stands}
 use Rattle.bound.specs.Machine.{walked, walkedMarks, walked-last, walked-early}
 use borrow.Author.Needs.{needs}

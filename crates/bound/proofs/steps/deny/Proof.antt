@@ -1,8 +1,6 @@
 use mathlib.Core.Path.{refl, _∙_}
-use mathlib.Core.Bool.{true, false}
 use Prim.Native.Nat.{_/_}
 use Rattle.store.specs.Marks.{marksOf}
-use native.Mathlib.Omega.{arith}
 use borrow.Author.Tests.{lt-leb, le-leb, eq-eqb, ne-eqb}
 use borrow.Author.Needs.{needs}
 use Rattle.bound.proofs.steps.deny.Statement.{statement}

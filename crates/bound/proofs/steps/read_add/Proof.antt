@@ -1,9 +1,6 @@
-use mathlib.Core.Path.{_≡_, refl, sym, ap, _∙_}
-use native.Mathlib.Omega.{arith}
+use mathlib.Core.Path.{_≡_}
 use Rattle.scope.specs.Parsed.{got}
 use Rattle.scope.specs.Number.{number}
-use Rattle.bound.specs.declared.steps.Literals.the-variants as found
-use Rattle.bound.specs.Reading.{ReadsLiterals}
 use Rattle.bound.specs.Listing.{value-at, no-value-at}
 use Rattle.bound.proofs.StepReading.{add-none, add-low, add-misformed, add-cut, add-done}
 use borrow.Author.Needs.{needs}

@@ -1,5 +1,4 @@
-use mathlib.Core.Path.{_≡_, refl, sym, ap, _∙_}
-use native.Mathlib.Omega.{arith}
+use mathlib.Core.Path.{_≡_}
 use Rattle.scope.specs.Parsed.{got}
 use Rattle.scope.specs.Number.{number}
 use Rattle.bound.specs.Listing.{value-at, no-value-at}

@@ -1,6 +1,3 @@
-use mathlib.Core.Path.{sym, ap}
-use Rattle.scope.specs.Steps.{alsoOpen}
-use Rattle.store.specs.Clauses.{stands}
 use borrow.Author.Needs.{needs}
 use Rattle.store.proofs.clauses.also_open.Statement.{statement}
 use Rattle.store.proofs.clauses.also_open.Tie as tie

@@ -1,7 +1,7 @@
 use mathlib.Core.Path.{_≡_, refl, _∙_}
-use Prim.Native.Nat.{_-_, _≤_}
+use Prim.Native.Nat.{_-_}
 use native.Mathlib.Omega.{arith}
-use lib.ListN.{length, length-set}
+use lib.ListN.{length}
 use Rattle.store.specs.Directory.{rowsOf, capacity}
 use Rattle.store.proofs.Building.{Building, build-start, build-marked, build-unmarked, build-end, build-length}
 use borrow.Author.Needs.{needs}
