@@ -1,3 +1,4 @@
 pub mod Shapes
 pub mod Groups
 pub mod Sizable
+pub mod Before
