@@ -2,3 +2,5 @@ pub mod Shapes
 pub mod Groups
 pub mod Sizable
 pub mod Before
+pub mod Meant
+pub mod Walked

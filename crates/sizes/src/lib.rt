@@ -3,5 +3,7 @@
 mod before;
 mod shape;
 mod size;
+mod walk;
 
 pub use size::constraint_size;
+pub use walk::Total;
