@@ -4,3 +4,5 @@ pub mod Sizable
 pub mod Before
 pub mod Meant
 pub mod Walked
+pub mod Whole
+pub mod Opened

@@ -4,6 +4,8 @@ mod before;
 mod shape;
 mod size;
 mod walk;
+mod whole;
 
 pub use size::constraint_size;
 pub use walk::Total;
+pub use whole::whole_size;
