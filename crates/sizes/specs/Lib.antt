@@ -6,3 +6,4 @@ pub mod Meant
 pub mod Walked
 pub mod Whole
 pub mod Opened
+pub mod Measured

@@ -36,6 +36,20 @@ pub record Opened (s d te tg list : List ℕ) (h : Head) (B : ℕ) : Type 0 wher
   pub stores : Stores d te tg list
   pub bound : B ≤ 4095
 
+-- stores of the same lengths
+pub stores-kept : {d te tg l d′ te′ tg′ l′ : List ℕ} → Stores d te tg l → length d′ ≡ length d → length te′ ≡ length te
+    → length tg′ ≡ length tg → length l′ ≡ length l → Stores d′ te′ tg′ l′
+stores-kept s a b c e =
+    record {
+      tables =
+          record {
+            durations-long = a ∙ s .tables .durations-long;
+            resources-long = b ∙ s .tables .resources-long;
+            groups-long = c ∙ s .tables .groups-long;
+          };
+      list-long = e ∙ s .list-long;
+    }
+
 -- the instance of an accepted file is valid
 pub accepted-instance : {s d te tg : List ℕ} {h : Head} → Accepted s d te tg h → ValidInstance (instanceOf s d te tg h)
 accepted-instance {s} a = gives-instance s .known _ _ (a .parsed)
