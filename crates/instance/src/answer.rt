@@ -11,10 +11,10 @@ ghost use Rattle.scope.specs.Operations.{readOf};
 pub fn read_instance(file: &[u8]) -> ReadAnswer
     ensures { λ r. ⌜ readMeans r ≡ readOf (now (file .entry)) ⌝ }
 {
-    let mut durations = [0u8; 1024];
-    let mut resources = [0u8; 129024];
-    let mut groups = [0u8; 258048];
-    let mut list = [0u16; 2048];
+    let mut durations = tables::durations();
+    let mut resources = tables::resource_rows();
+    let mut groups = tables::group_rows();
+    let mut list = tables::list();
     let f = read(file, &mut durations, &mut resources, &mut groups, &mut list);
     match f {
         File::Accepted(h) => ReadAnswer::Accepted(InstanceSize {

@@ -2,6 +2,7 @@
 // time groups; beside them the durations of events.
 mod read;
 mod row;
+mod store;
 mod users;
 
 pub use read::events_at;
@@ -9,4 +10,8 @@ pub use read::groups_at;
 pub use row::row_has;
 pub use row::row_len;
 pub use row::row_member;
+pub use store::durations;
+pub use store::group_rows;
+pub use store::list;
+pub use store::resource_rows;
 pub use users::count_members;

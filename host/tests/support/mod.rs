@@ -1,6 +1,8 @@
 //! Helpers shared by the tests.
 #![allow(dead_code)]
 
+pub mod cases;
+
 use timetable::prover::clause_list;
 use timetable::reference::{write_number, Instance, Refusal};
 

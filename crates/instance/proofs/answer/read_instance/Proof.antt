@@ -1,9 +1,20 @@
 -- `instance::answer::read_instance` meets its contract: the stores are long enough, and each case of `read` is a case of the answer.
 use borrow.Author.Needs.{needs}
-use mathlib.Core.Path.{refl}
 use Rattle.instance.specs.Laws.{accepted, accepted-answer, refused-answer}
 use Rattle.instance.proofs.answer.read_instance.Statement.{statement}
 use Rattle.instance.proofs.answer.read_instance.Tie as tie
+
+durations-requires : tie.Need-durations-requires
+durations-requires c κs = search needs
+
+resource-rows-requires : tie.Need-resource-rows-requires
+resource-rows-requires c κs = search needs
+
+group-rows-requires : tie.Need-group-rows-requires
+group-rows-requires c κs = search needs
+
+list-requires : tie.Need-list-requires
+list-requires c κs = search needs
 
 slice-aggregate-read : tie.Need-slice-aggregate-read
 slice-aggregate-read c = search needs
@@ -18,8 +29,7 @@ slice-aggregate-read-4 : tie.Need-slice-aggregate-read-4
 slice-aggregate-read-4 c = search needs
 
 read-requires : tie.Need-read-requires
-read-requires c κs =
-    record { tables = record { durations-long = refl; resources-long = refl; groups-long = refl }; list-long = refl }
+read-requires c κs = search needs
 
 enum-known-f : tie.Need-enum-known-f
 enum-known-f c = search needs
@@ -40,6 +50,10 @@ pub read-instance-spec : {M : Type 1} → statement M
 read-instance-spec =
     tie.close
     (tie.spec
+    durations-requires
+    resource-rows-requires
+    group-rows-requires
+    list-requires
     slice-aggregate-read
     slice-aggregate-read-2
     slice-aggregate-read-3

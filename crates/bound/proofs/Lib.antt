@@ -1,0 +1,3 @@
+pub mod ReadingTurns
+pub mod StepReading
+pub mod Copying

@@ -1,0 +1,12 @@
+pub mod Reading
+pub mod Listing
+pub mod Machine
+pub mod Check
+pub mod Run
+pub mod Falling
+pub mod Hints
+pub mod Fine
+pub mod LookMeans
+pub mod StepMeans
+pub mod ReadMeans
+pub mod Meaning

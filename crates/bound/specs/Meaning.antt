@@ -1,0 +1,226 @@
+-- What a check answers: the plain run's answer for the formula that stands in the stores.
+use mathlib.Core.Path.{_≡_, refl, sym, ap, _∙_}
+use mathlib.Core.Bool.{Bool, true, false, cond}
+use mathlib.Core.List.{List, [], _∷_}
+use mathlib.Core.Option.{Option, none, some}
+use Prim.Native.Nat.{ℕ, zero, suc, _+_, _-_, _≤_, _<_}
+use native.Mathlib.Omega.{arith}
+use lib.ListN.{length}
+use borrow.Author.Tests.{eq-eqb, ne-eqb}
+use Rattle.scope.specs.Parsed.{Answer, answered, refusal, got, refused}
+use Rattle.scope.specs.Number.{number}
+use Rattle.scope.specs.Steps.{allOpen, upTo0, put}
+use Rattle.scope.specs.Formula.{words}
+use Rattle.scope.specs.PlainRun.{Limits, byId, start, run, plainRun}
+use Rattle.scope.specs.Answers.{checkMeans}
+use Rattle.scope.specs.declared.CheckAnswer.{CheckAnswer}
+use Rattle.store.specs.declared.directory.Row.{Row}
+use Rattle.store.specs.declared.directory.Probe.{Probe}
+use Rattle.store.specs.Marks.{marksOf}
+use Rattle.store.specs.Rows.{noRow, dying, Found, hit, miss, Finds, Dies}
+use Rattle.store.specs.Live.{held, rowClause, liveRows, live-found}
+use Rattle.store.specs.Holding.{Holding, Good, found-good}
+use Rattle.store.specs.Marked.{BuiltFor}
+use Rattle.store.specs.Built.{Each, built-holding, built-live}
+use Rattle.laws.specs.Booleans.{impossible}
+use Rattle.bound.specs.declared.machine.Phase.{Phase}
+use Rattle.bound.specs.declared.machine.Phase.the-variants.{Next, Walk, Followed, Keep, Wipe, Delete, Proved, Refused}
+use Rattle.bound.specs.declared.machine.Machine.{Machine}
+use Rattle.bound.specs.declared.check.Check.{Check}
+use Rattle.bound.specs.Reading.{tokensAt, numbersAt}
+use Rattle.bound.specs.Listing.{list-cut}
+use Rattle.bound.specs.Machine as machine
+use Rattle.bound.specs.Machine.{turnOf, turn-phase, Advances, gone, broken, walks, wipes, idle}
+use Rattle.bound.specs.Check.{largest}
+use Rattle.bound.specs.Run as run
+use Rattle.bound.specs.Run.{World, Turn, looks, keeps, judges, reads, Ran, answerOf, Driven}
+use Rattle.bound.specs.Falling.{Past, turn-falls}
+use Rattle.bound.specs.Fine.{Base, liveIn, stateOf, Reading, Walking, Wiping, Deleting, FineIn, FineAt, Fine}
+use Rattle.bound.specs.LookMeans.{hint-gone, hint-judged, clause-wiped}
+use Rattle.bound.specs.StepMeans.{id-gone, id-deleted, clause-kept, clause-judged}
+use Rattle.bound.specs.ReadMeans.{step-read}
+
+-- the clause that a row holds
+gone-none : (live : ℕ) (cl : List ℕ) → live ≡ 0 → held live cl ≡ none
+gone-none live cl e = rw (eq-eqb live 0 e)
+
+live-some : (live : ℕ) (cl : List ℕ) → (live ≡ 0 → ⊥) → held live cl ≡ some cl
+live-some live cl e = rw (ne-eqb live 0 e)
+
+module _ (s : List ℕ) (lim : Limits) (A : Answer ℕ) (c : Check) (R : ℕ → Row) (ws ms : List ℕ) (m : Machine) (p : Probe) (r : Machine) (ms′ : List ℕ)
+    (f : Finds (lim .rowsLent) R (c .tally .rows) (m .want) p) (a : Advances s m (p .hit) ws ms r ms′) where
+  -- what was found, in a store that holds clauses
+  module _ (b : Base lim (c .tally) R ws ms) where
+    what : Found R (c .tally .rows) (m .want) p
+    what = f .found (b .holding .fit) (b .holding .rising)
+
+    clause-is : liveIn (c .tally) R ws (m .want) ≡ held (p .hit .live) (rowClause (p .hit) ws)
+    clause-is = live-found R ws (c .tally .rows) (m .want) p (b .holding .rising) what
+
+  walk-turn : m .phase ≡ Walk → Walking s lim A (c .tally) (c .clause) R ws ms (m .want) (m .at) → FineAt s lim A (c .tally) (c .clause) R ws ms′ r
+  walk-turn e w = by a
+    where
+      b : Base lim (c .tally) R ws ms
+      b = w .adding .base
+
+      by : Advances s m (p .hit) ws ms r ms′ → FineAt s lim A (c .tally) (c .clause) R ws ms′ r
+      by (gone z q) = rw q (hint-gone s lim A c R ws ms (m .want) (m .at) w (clause-is b ∙ gone-none _ _ z))
+      by (broken k v n q) = let x = list-cut s (m .at) k v n in let y = w .left-at in impossible (cc)
+      by (walks id next l n z q t) =
+          rw (q, t)
+          (hint-judged s lim A c R ws ms (m .want) (m .at) w (rowClause (p .hit) ws) (clause-is b ∙ live-some _ _ l)
+          (found-good (lim .lastVariable) (lim .rowsLent) R ws (c .tally .rows) (c .tally .words) (c .tally .highest) (b .holding) (m .want) p (what b) l)
+          id next n)
+      by (wipes id next l n z q t) = impossible (cc)
+      by (machine.deletes id next l n z q t) = impossible (cc)
+      by (idle z) = absurd (omega (arith, ap turnOf e))
+
+  wipe-turn : m .phase ≡ Wipe → c .clause .hints ≤ m .at → length ms′ ≡ length ms → Wiping s lim A (c .tally) (c .clause) R ws ms (m .want) (m .at)
+      → FineAt s lim A (c .tally) (c .clause) R ws ms′ r
+  wipe-turn e past long w = by a
+    where
+      by : Advances s m (p .hit) ws ms r ms′ → FineAt s lim A (c .tally) (c .clause) R ws ms′ r
+      by (gone z q) = absurd (rw (clause-is (w .base) ∙ gone-none _ _ z) at (w .live .0))
+      by (broken k v n q) = let x = list-cut s (m .at) k v n in let y = w .left-at in impossible (cc)
+      by (walks id next l n z q t) = impossible (cc)
+      by (wipes id next l n z q t) =
+          rw q
+          (clause-wiped s lim A c R ws ms (m .want) (m .at) w (rowClause (p .hit) ws) ms′ (clause-is (w .base) ∙ live-some _ _ l) t long id next n past)
+      by (machine.deletes id next l n z q t) = impossible (cc)
+      by (idle z) = absurd (omega (arith, ap turnOf e))
+
+  delete-turn : m .phase ≡ Delete → c .clause .hints ≤ m .at → (R′ : ℕ → Row) → Dies (lim .rowsLent) R R′ (p .at)
+      → Deleting s lim A (c .tally) (c .clause) R ws ms (m .want) (m .at) → FineAt s lim A (c .tally) (c .clause) R′ ws ms′ r
+  delete-turn e past R′ d w = by a
+    where
+      by : Advances s m (p .hit) ws ms r ms′ → FineAt s lim A (c .tally) (c .clause) R′ ws ms′ r
+      by (gone z q) = rw q (id-gone s lim A c R ws ms (m .want) (m .at) w (clause-is (w .base) ∙ gone-none _ _ z))
+      by (broken k v n q) = let x = list-cut s (m .at) k v n in let y = w .left-at in impossible (cc)
+      by (walks id next l n z q t) = impossible (cc)
+      by (wipes id next l n z q t) = impossible (cc)
+      by (machine.deletes id next l n z q t) = found (what (w .base))
+        where
+          found : Found R (c .tally .rows) (m .want) p → FineAt s lim A (c .tally) (c .clause) R′ ws ms′ r
+          found (hit h i j) =
+              rw (q, t, d .dies (omega (arith, w .base .holding .fit)))
+              (id-deleted s lim A c R ws ms (m .want) (m .at) (p .at) w (rowClause (p .hit) ws) (clause-is (w .base) ∙ live-some _ _ l) h
+              (ap (λ x. x .id) (sym i) ∙ j) id next n past)
+          found (miss i j) = absurd (l (ap (λ x. x .live) i))
+      by (idle z) = absurd (omega (arith, ap turnOf e))
+
+-- no store is longer than a word of the machine can say
+pub record Short (s : List ℕ) (lim : Limits) : Type 0 where
+  pub few-bytes : length s ≤ largest
+  pub few-words : lim .wordsLent ≤ largest
+  pub few-rows : lim .rowsLent ≤ largest
+
+-- a turn keeps what holds
+module _ (s : List ℕ) (lim : Limits) (A : Answer ℕ) (short : Short s lim) (w v : World) (long : length (v .marks) ≡ length (w .marks)) (past : Past (w .check) (w .machine)) where
+  look-fine : (p : Probe) → turnOf (w .machine .phase) ≡ 0 → Finds (lim .rowsLent) (w .rows) (w .check .tally .rows) (w .machine .want) p
+      → Advances s (w .machine) (p .hit) (w .words) (w .marks) (v .machine) (v .marks)
+      → Fine s lim A w → FineAt s lim A (w .check .tally) (w .check .clause) (w .rows) (w .words) (v .marks) (v .machine)
+  look-fine p t f a = go (w .machine .phase) refl t
+    where
+      go : (ph : Phase) → w .machine .phase ≡ ph → turnOf ph ≡ 0
+          → FineIn s lim A (w .check .tally) (w .check .clause) (w .rows) (w .words) (w .marks) ph (w .machine .at) (w .machine .want)
+          → FineAt s lim A (w .check .tally) (w .check .clause) (w .rows) (w .words) (v .marks) (v .machine)
+      go Next e t x = absurd (omega arith)
+      go Walk e t x = walk-turn s lim A (w .check) (w .rows) (w .words) (w .marks) (w .machine) p (v .machine) (v .marks) f a e x
+      go Followed e t x = absurd (omega arith)
+      go Keep e t x = absurd (omega arith)
+      go Wipe e t x = wipe-turn s lim A (w .check) (w .rows) (w .words) (w .marks) (w .machine) p (v .machine) (v .marks) f a e past long x
+      go Delete e t x = absurd (omega arith)
+      go Proved e t x = absurd (omega arith)
+      go (Refused k) e t x = absurd (omega arith)
+
+  -- what holds in the phase of a turn
+  in-phase : (n : ℕ) → turnOf (w .machine .phase) ≡ n → 1 ≤ n → n ≤ 4 → Fine s lim A w
+      → FineIn s lim A (w .check .tally) (w .check .clause) (w .rows) (w .words) (w .marks) (machine.phaseOf n) (w .machine .at) (w .machine .want)
+  in-phase n t l h x = rw (turn-phase (w .machine .phase) t l h) at x
+
+  pub turn-fine : Turn s (lim .lastVariable) (lim .rowsLent) w v → Fine s lim A w → Fine s lim A v
+  turn-fine (looks p t f a c r ws) x = rw (c, r, ws) (look-fine p t f a x)
+  turn-fine (run.deletes p t f d a c ws) x =
+      rw (c, ws)
+      (delete-turn s lim A (w .check) (w .rows) (w .words) (w .marks) (w .machine) p (v .machine) (v .marks) f a (turn-phase (w .machine .phase) t (omega arith) (omega arith))
+      past (v .rows) d (in-phase 1 t (omega arith) (omega arith) x))
+  turn-fine (keeps t a c k e ms) x =
+      let y = in-phase 2 t (omega arith) (omega arith) x in
+      rw (e, c, ms, a .appends (omega (arith, y .rows-fit)), k .copies (y .adding .literals) (y .adding .middle) (y .adding .literals-at))
+      (clause-kept s lim A (w .check) (w .rows) (w .words) (w .marks) y (short .few-rows) (short .few-words))
+  turn-fine (judges t c e r ws ms) x =
+      rw (e, c, r, ws, ms) (clause-judged s lim A (w .check) (w .rows) (w .words) (w .marks) (w .machine .at) (in-phase 3 t (omega arith) (omega arith) x))
+  turn-fine (reads t a e r ws) x =
+      rw (e, r, ws)
+      (step-read s lim A (w .check) (w .rows) (w .words) (w .marks) (w .machine .at) (v .check) (v .marks) (in-phase 4 t (omega arith) (omega arith) x) (short .few-bytes) long a)
+
+-- a run keeps what holds
+ran-fine : (s : List ℕ) (lim : Limits) (A : Answer ℕ) → Short s lim → (w v : World) → Ran s (lim .lastVariable) (lim .rowsLent) w v
+    → Past (w .check) (w .machine) × Fine s lim A w → Past (v .check) (v .machine) × Fine s lim A v
+ran-fine s lim A short w v run.none x = x
+ran-fine s lim A short w v (run.more u v′ r t long) x =
+    let y = ran-fine s lim A short w u r x in
+    (turn-falls s (lim .lastVariable) (lim .rowsLent) u v t (y .0) .0, turn-fine s lim A short u v long (y .0) t (y .1))
+
+-- the answer of a check that has ended
+ended-answer : (s : List ℕ) (lim : Limits) (A : Answer ℕ) (w : World) → 5 ≤ turnOf (w .machine .phase) → Fine s lim A w
+    → checkMeans (answerOf (w .check .tally .steps) (w .machine .phase)) ≡ A
+ended-answer s lim A w h = go (w .machine .phase) h
+  where
+    go : (ph : Phase) → 5 ≤ turnOf ph
+        → FineIn s lim A (w .check .tally) (w .check .clause) (w .rows) (w .words) (w .marks) ph (w .machine .at) (w .machine .want)
+        → checkMeans (answerOf (w .check .tally .steps) ph) ≡ A
+    go Next t x = absurd (omega arith)
+    go Walk t x = absurd (omega arith)
+    go Followed t x = absurd (omega arith)
+    go Keep t x = absurd (omega arith)
+    go Wipe t x = absurd (omega arith)
+    go Delete t x = absurd (omega arith)
+    go Proved t x = sym x
+    go (Refused k) t x = sym x
+
+-- a formula stands in the stores: its clauses in the first n rows and the used words, under the ids 1 to n, and its
+-- variables, up to the last, are open
+pub record Stands (f : List (List ℕ)) (last cap n used : ℕ) (R : ℕ → Row) (ws ms : List ℕ) : Type 0 where
+  pub holding : Holding last cap R ws n used n
+  pub live : liveRows R ws n ≡ byId f
+  pub count : n ≡ length f
+  pub size : used ≡ words f
+  pub marked : last ≤ length ms
+  pub unmarked : marksOf ms ≡ allOpen
+
+-- a formula of good literals whose directory was built, where the variables are open
+pub built-stands : (f : List (List ℕ)) (rest : List ℕ) (last cap n : ℕ) (R : ℕ → Row) (ws ms : List ℕ) → BuiltFor f rest ws R n → Each (Good last) f
+    → length f ≤ cap → last ≤ length ms → marksOf ms ≡ allOpen → Stands f last cap n (words f) R ws ms
+built-stands f rest last cap n R ws ms b good fits marked unmarked =
+    record {
+      holding = rw (b .count) (built-holding f rest ws R n b last cap good fits);
+      live = rw (b .count) (built-live f rest ws R n b);
+      count = b .count;
+      size = refl;
+      marked = marked;
+      unmarked = unmarked;
+    }
+
+abbrev pub limits : ℕ → ℕ → ℕ → Limits
+limits last words rows = record { lastVariable = last; wordsLent = words; rowsLent = rows }
+
+-- where a formula stands in the stores, a check answers what the plain run does
+pub driven-means : (s : List ℕ) (last cap n used : ℕ) (R : ℕ → Row) (ws ms : List ℕ) (r : CheckAnswer) (f : List (List ℕ))
+    → Driven s last cap n used R ws ms r → Stands f last cap n used R ws ms → checkMeans r ≡ plainRun (limits last (length ws) cap) f s
+unfolding plainRun start
+driven-means s last cap n used R ws ms r f d x =
+    let lim = limits last (length ws) cap in
+    let A = plainRun lim f s in
+    let short : Short s lim = record { few-bytes = d .few-bytes; few-words = d .few-words; few-rows = d .few-rows } in
+    let begins : Fine s lim A (run.ready n used R ws ms) =
+    record {
+      base = record { holding = x .holding; lent = refl; marked = x .marked };
+      unmarked = x .unmarked;
+      early = omega arith;
+      fuel = suc (length s);
+      enough = omega arith;
+      answer = rw (x .live, x .count, x .size);
+    } in
+    ap checkMeans (d .answer)
+    ∙ ended-answer s lim A (d .end) (d .over) (ran-fine s lim A short (run.ready n used R ws ms) (d .end) (d .ran) (omega arith, begins) .1)

@@ -1,0 +1,47 @@
+use Rattle.deviation.specs.Charge.{spreadCharge, events-listed}
+use borrow.Author.Needs.{needs}
+use Rattle.deviation.proofs.kind.of_spread.Statement.{statement}
+use Rattle.deviation.proofs.kind.of_spread.Tie as tie
+use Rattle.deviation.proofs.kind.of_spread.Reads as reads
+use Rattle.deviation.proofs.kind.of_spread.Lts as lts
+use Rattle.deviation.proofs.charge.deviation.Reads as deviation-reads
+use Rattle.deviation.proofs.kind.starts_of.Reads as starts-of-reads
+use Rattle.deviation.proofs.list.ones_of_events.Reads as ones-of-events-reads
+
+starts-of-requires : tie.Need-starts-of-requires
+starts-of-requires c κs = search needs
+
+cast-times : tie.Need-cast-times
+cast-times c = search needs
+
+sub-g : tie.Need-sub-g
+sub-g c = search needs
+
+cast-g : tie.Need-cast-g
+cast-g c = search needs
+
+cast-n : tie.Need-cast-n
+cast-n c = search needs
+
+ones-of-events-requires : tie.Need-ones-of-events-requires
+ones-of-events-requires c κs = let p = c .before .before .before .before .before .before .before .pre in rw (c .before .before .before .starts-of .ensures) (events-listed (p .0) (p .1 .0) (p .1 .1 .1 .1) (p .1 .1 .0) (p .1 .1 .1 .0))
+
+deviation-requires : tie.Need-deviation-requires
+deviation-requires c κs = search needs
+
+returns : tie.Need-returns
+unfolding spreadCharge
+returns c = rw (c .before .ones-of-events .ensures, c .before .before .before .before .before .starts-of .ensures) at (c .deviation .ensures)
+
+pub of-spread-spec : {M : Type 1} → statement M
+of-spread-spec =
+    tie.close
+    (tie.spec
+    starts-of-requires
+    cast-times
+    sub-g
+    cast-g
+    cast-n
+    ones-of-events-requires
+    deviation-requires
+    returns)

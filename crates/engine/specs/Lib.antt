@@ -1,0 +1,4 @@
+pub mod Call
+pub mod Operations
+pub mod Within
+pub mod Numbers

@@ -1,0 +1,173 @@
+-- Which numbers the refusals of an operation have; those of the reader are 1 to 6.
+use Prim.Native.Nat.{ℕ, zero, suc}
+use mathlib.Core.Path.{_≡_, refl}
+use mathlib.Core.Bool.{Bool, true, false, cond, _||_}
+use mathlib.Core.List.{List, [], _∷_}
+use lib.Dec.{eqb, leb, ltb}
+use lib.ListN.{length, drop}
+use Rattle.scope.specs.Parsed.{Parsed, got, refused, Answer, answered, refusal, andThen, unless, cons, repeat, with}
+use Rattle.scope.specs.Number.{Front, broken, whole, within, front, numberFrom, number, limited, reference, references, listed}
+use Rattle.scope.specs.Kinds.{Event, Kind, Constraint, cluster, idle, lowOf, highOf, longest, rulesOf}
+use Rattle.scope.specs.Instance.{Counts, countsOf, Instance, eventAt, pairAt, boundsAt, clashAt, unavailableAt, preferredAt, splitAt, spreadAt, busyAt, overGroupsAt, fieldsAt, ended, constraintAt, sizesAt, groupsAt, constraintsAt, parse}
+
+-- one of some numbers
+abbrev pub oneOf : List ℕ → ℕ → Bool
+oneOf [] k = false
+oneOf (n ∷ ns) k = eqb k n || oneOf ns k
+
+-- if it is a refusal, its number is one of these
+pub data Within (ns : List ℕ) {A : Type 0} : Answer A → Type 0 where
+  accepts : {a : A} → Within ns (answered a)
+  refuses : {k v : ℕ} → oneOf ns k ≡ true → Within ns (refusal k v)
+
+data Reads (ns : List ℕ) {A : Type 0} : Parsed A → Type 0 where
+  reads : {a : A} {next : ℕ} → Reads ns (got a next)
+  stops : {k v : ℕ} → oneOf ns k ≡ true → Reads ns (refused k v)
+
+module _ {ns : List ℕ} where
+  after : {A B : Type 0} {p : Parsed A} {f : A → ℕ → Parsed B}
+      → Reads ns p
+      → ((a : A) (next : ℕ) → Reads ns (f a next))
+      → Reads ns (andThen p f)
+  after reads h = h _ _
+  after (stops e) h = stops e
+
+  tested : {A : Type 0} (b : Bool) (k v : ℕ) {p : Parsed A} → oneOf ns k ≡ true → Reads ns p → Reads ns (unless b k v p)
+  tested true k v e h = h
+  tested false k v e h = stops e
+
+  joined : {A : Type 0} (a : A) {p : Parsed (List A)} → Reads ns p → Reads ns (cons a p)
+  joined a reads = reads
+  joined a (stops e) = stops e
+
+  repeated : {A : Type 0} (n : ℕ) (f : ℕ → Parsed A) (at : ℕ) → ((at : ℕ) → Reads ns (f at)) → Reads ns (repeat n f at)
+  unfolding repeat
+  repeated zero f at h = reads
+  repeated (suc n) f at h = after (h at) (λ a next. joined a (repeated n f next h))
+
+  chosen : {A : Type 0} (b : Bool) {p q : Parsed A} → Reads ns p → Reads ns q → Reads ns (cond b p q)
+  chosen true h k = h
+  chosen false h k = k
+
+-- the reader gives 1 to 6
+pub record Reader (ns : List ℕ) : Type 0 where
+  pub e1 : oneOf ns 1 ≡ true
+  pub e2 : oneOf ns 2 ≡ true
+  pub e3 : oneOf ns 3 ≡ true
+  pub e4 : oneOf ns 4 ≡ true
+  pub e5 : oneOf ns 5 ≡ true
+  pub e6 : oneOf ns 6 ≡ true
+
+module _ {ns : List ℕ} (r : Reader ns) where
+  from-front : (at : ℕ) (f : Front) → Reads ns (numberFrom at f)
+  from-front at broken = stops (r .e1)
+  from-front at (whole v n) = reads
+
+  module _ (s : List ℕ) (at : ℕ) where
+    a-number : Reads ns (number s at)
+    unfolding number
+    a-number = from-front at (within (front (drop at s)))
+
+    a-limit : (lo hi : ℕ) → Reads ns (limited lo hi s at)
+    unfolding limited
+    a-limit lo hi = after a-number (λ v next. tested (leb lo v) 2 at (r .e2) (tested (leb v hi) 2 at (r .e2) reads))
+
+    a-reference : (before n : ℕ) → Reads ns (reference before n s at)
+    unfolding reference
+    a-reference before n =
+        after a-number (λ v next. tested (ltb before v) 3 at (r .e3) (tested (leb v n) 3 at (r .e3) reads))
+
+  some-references : (k before n : ℕ) (s : List ℕ) (at : ℕ) → Reads ns (references k before n s at)
+  unfolding references
+  some-references zero before n s at = reads
+  some-references (suc k) before n s at =
+      after (a-reference s at before n) (λ v next. joined v (some-references k v n s next))
+
+  module _ (s : List ℕ) where
+    a-list : (n at : ℕ) → Reads ns (listed n s at)
+    unfolding listed
+    a-list n at = after (a-limit s at 0 n) (λ count next. some-references count 0 n s next)
+
+    an-event : (T R at : ℕ) → Reads ns (eventAt T R s at)
+    unfolding eventAt
+    an-event T R at = after (a-limit s at 1 T) (λ d next. after (a-list R next) (λ rs end. reads))
+
+    a-pair : (n m at : ℕ) → Reads ns (pairAt n m s at)
+    unfolding pairAt
+    a-pair n m at = after (a-reference s at 0 n) (λ a next. after (a-reference s next 0 m) (λ b end. reads))
+
+    the-bounds : (at : ℕ) → Reads ns (boundsAt s at)
+    unfolding boundsAt
+    the-bounds at = after (a-limit s at 0 255) (λ lo next. after (a-limit s next 0 255) (λ hi end. reads))
+
+    over-groups : (n : Counts) (at : ℕ) (kind : ℕ → List ℕ → ℕ → ℕ → Kind) → Reads ns (overGroupsAt n s at kind)
+    unfolding overGroupsAt
+    over-groups n at kind =
+        after (a-reference s at 0 (n .resources))
+        (λ a next. after (a-list (n .groups) next) (λ hs more. after (the-bounds more) (λ b end. reads)))
+
+    the-fields : (n : Counts) (at k : ℕ) → Reads ns (fieldsAt n s at k)
+    unfolding fieldsAt clashAt unavailableAt preferredAt splitAt spreadAt busyAt
+    the-fields n at k =
+        chosen (eqb k 1) (after (a-reference s at 0 (n .resources)) (λ a end. reads))
+        (chosen (eqb k 2) (after (a-pair (n .resources) (n .groups) at) (λ p end. reads))
+        (chosen (eqb k 3) (after (a-pair (n .events) (n .groups) at) (λ p end. reads))
+        (chosen (eqb k 4)
+        (after (a-reference s at 0 (n .events)) (λ a next. after (the-bounds next) (λ b end. reads)))
+        (chosen (eqb k 5)
+        (after (a-list (n .events) at)
+        (λ vs next. after (a-reference s next 0 (n .groups)) (λ g more. after (the-bounds more) (λ b end. reads))))
+        (chosen (eqb k 6)
+        (after (a-pair (n .resources) (n .groups) at) (λ p next. after (the-bounds next) (λ b end. reads)))
+        (chosen (eqb k 7) (over-groups n at cluster) (over-groups n at idle)))))))
+
+    an-end : (at n weight : ℕ) (k : Kind) (end : ℕ) → Reads ns (ended at n weight k end)
+    unfolding ended
+    an-end at n weight k end =
+        tested (leb n 255) 4 at (r .e4)
+        (tested (leb (lowOf k) (highOf k)) 5 at (r .e5) (tested (leb (lowOf k) n) 5 at (r .e5) reads))
+
+    module _ (T R : ℕ) (es : List Event) (gs : List (List ℕ)) where
+      a-constraint : (at : ℕ) → Reads ns (constraintAt T R es gs s at)
+      unfolding constraintAt
+      a-constraint at =
+          after (a-limit s at 1 8)
+          (λ kind next.
+          after (a-limit s next 0 1000)
+          (λ weight more.
+          after (the-fields (countsOf T R es gs) more kind) (λ k end. an-end at (longest (rulesOf T es gs k)) weight k end)))
+
+      some-constraints : (at : ℕ) → Reads ns (constraintsAt T R es gs s at)
+      unfolding constraintsAt
+      some-constraints at =
+          after (a-limit s at 0 4096) (λ count next. repeated count (constraintAt T R es gs s) next a-constraint)
+
+    the-sizes : Reads ns (sizesAt s)
+    unfolding sizesAt
+    the-sizes =
+        after (a-limit s 0 1 125) (λ T a. after (a-limit s a 1 1024) (λ E b. after (a-limit s b 0 99) (λ R c. reads)))
+
+    some-groups : (T at : ℕ) → Reads ns (groupsAt T s at)
+    unfolding groupsAt
+    some-groups T at = after (a-limit s at 0 1024) (λ count next. repeated count (listed T s) next (a-list T))
+
+    a-file : Reads ns (parse s)
+    unfolding parse
+    a-file =
+        after the-sizes
+        (λ n a.
+        after (repeated (n .1) (eventAt (n .0) (n .2) s) a (an-event (n .0) (n .2)))
+        (λ es b.
+        after (some-groups (n .0) b)
+        (λ gs c.
+        after (some-constraints (n .0) (n .2) es gs c) (λ cs end. tested (leb (length s) end) 6 end (r .e6) reads))))
+
+  -- an operation on a file that was read
+  pub on-file : {A : Type 0} (s : List ℕ) {f : Instance → Answer A}
+      → ((i : Instance) → Within ns (f i))
+      → Within ns (with (parse s) f)
+  on-file s h = of-parsed (a-file s) h
+    where
+      of-parsed : {A : Type 0} {p : Parsed Instance} {f : Instance → Answer A} → Reads ns p → ((i : Instance) → Within ns (f i)) → Within ns (with p f)
+      of-parsed reads h = h _
+      of-parsed (stops e) h = refuses e

@@ -1,0 +1,71 @@
+use mathlib.Core.Path.{refl}
+use lib.ListN.{replicate}
+use Rattle.instance.specs.Ready.{zeros}
+use Rattle.sheet.specs.Ready.{scorable-counts, scorable-walk}
+use Rattle.sheet.specs.Right.{infeasibility-right, objective-right}
+use borrow.Author.Needs.{needs}
+use Rattle.sheet.proofs.scored.scored.Statement.{statement}
+use Rattle.sheet.proofs.scored.scored.Tie as tie
+use Rattle.sheet.proofs.scored.scored.Reads as reads
+use Rattle.sheet.proofs.scored.scored.Lts as lts
+use Rattle.sheet.proofs.walk.charge_all.Reads as charge-all-reads
+use Rattle.timetable.proofs.uses.count_uses.Reads as count-uses-reads
+use Rattle.timetable.proofs.uses.mark_used.Reads as mark-used-reads
+
+cast-events : tie.Need-cast-events
+cast-events c = search needs
+
+cast-times : tie.Need-cast-times
+cast-times c = search needs
+
+slice-aggregate-count-uses : tie.Need-slice-aggregate-count-uses
+slice-aggregate-count-uses c = search needs
+
+count-uses-requires : tie.Need-count-uses-requires
+count-uses-requires c κs = (scorable-counts (c .before .before .before .before .before .before .before .before .pre) (replicate 12375 0) refl, zeros 12375)
+
+slice-aggregate-mark-used : tie.Need-slice-aggregate-mark-used
+slice-aggregate-mark-used c = search needs
+
+slice-aggregate-mark-used-2 : tie.Need-slice-aggregate-mark-used-2
+slice-aggregate-mark-used-2 c = search needs
+
+mark-used-requires : tie.Need-mark-used-requires
+mark-used-requires c κs = search needs
+
+slice-aggregate-charge-all : tie.Need-slice-aggregate-charge-all
+slice-aggregate-charge-all c = search needs
+
+slice-aggregate-charge-all-2 : tie.Need-slice-aggregate-charge-all-2
+slice-aggregate-charge-all-2 c = search needs
+
+charge-all-requires : tie.Need-charge-all-requires
+charge-all-requires c κs = scorable-walk (c .before .before .before .before .before .before .before .before .before .before .before .before .before .before .before .before .before .pre) _ _ (c .before .before .before .before .before .before .before .before .count-uses .kept .0) (c .before .before .before .before .mark-used .kept .1 .0)
+
+same-length : tie.Need-same-length
+same-length c = search needs
+
+returns : tie.Need-returns
+returns c = λ d a.
+    let p = c .before .before .before .before .before .before .before .before .before .before .before .before .before .before .before .before .before .before .before .before .pre in
+    let u = c .before .before .before .before .before .before .before .before .before .before .before .count-uses in
+    let m = c .before .before .before .before .before .before .before .mark-used in
+    let r = c .before .before .charge-all .ensures in
+    (infeasibility-right a p (u .kept .0) (u .ensures) (m .ensures) (r .0), objective-right a p (u .kept .0) (u .ensures) (m .ensures) (r .1))
+
+pub scored-spec : {M : Type 1} → statement M
+scored-spec =
+    tie.close
+    (tie.spec
+    cast-events
+    cast-times
+    slice-aggregate-count-uses
+    count-uses-requires
+    slice-aggregate-mark-used
+    slice-aggregate-mark-used-2
+    mark-used-requires
+    slice-aggregate-charge-all
+    slice-aggregate-charge-all-2
+    charge-all-requires
+    same-length
+    returns)

@@ -1,0 +1,9 @@
+// Scoring a timetable, and whether two timetables are the same sheet.
+mod operations;
+mod same;
+mod scored;
+mod walk;
+
+pub use operations::same_sheet;
+pub use operations::score;
+pub use operations::within;

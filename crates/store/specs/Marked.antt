@@ -1,0 +1,49 @@
+-- Clauses in the words, the last word of each marked, and the rows that are made of them.
+use mathlib.Core.Path.{_≡_, refl, sym, ap, _∙_}
+use mathlib.Core.Bool.{Bool, true, false, cond}
+use mathlib.Core.List.{List, [], _∷_, _++_, map, flatMap}
+use Prim.Native.Nat.{ℕ, zero, suc, _+_, _-_, _≤_, _<_}
+use native.Mathlib.Omega.{arith}
+use lib.Dec.{leb}
+use lib.ListN.{length, take, drop}
+use Rattle.scope.specs.Formula.{words}
+use Rattle.store.specs.declared.directory.Row.{Row}
+
+-- the words of a clause, the last one marked
+unfoldable pub mark : List ℕ → List ℕ
+mark [] = []
+mark (l ∷ []) = (l + 2147483648) ∷ []
+mark (l ∷ k ∷ ks) = l ∷ mark (k ∷ ks)
+
+-- clauses that can be marked: none is empty, and all literals are below 2^31
+abbrev pub Small : List ℕ → Type 0
+Small [] = Unit
+Small (l ∷ ls) = (l < 2147483648) × Small ls
+
+abbrev pub Plain : List (List ℕ) → Type 0
+Plain [] = Unit
+Plain ([] ∷ cs) = ⊥
+Plain ((l ∷ ls) ∷ cs) = Small (l ∷ ls) × Plain cs
+
+-- the words of clauses
+abbrev pub flat : List (List ℕ) → List ℕ
+flat f = flatMap (λ c. c) f
+
+-- the rows of clauses one after the other, the first with an id and a first word
+unfoldable pub rowsFor : ℕ → ℕ → List (List ℕ) → List Row
+rowsFor id first [] = []
+rowsFor id first (c ∷ cs) = record { id = id; first = first; len = length c; live = 1 } ∷ rowsFor (suc id) (first + length c) cs
+
+-- the rows from k on
+unfoldable pub Hold : (ℕ → Row) → ℕ → List Row → Type 0
+Hold R k [] = Unit
+Hold R k (r ∷ rs) = (R k ≡ r) × Hold R (suc k) rs
+
+-- what the building of the directory leaves, for clauses that stand marked in the words
+pub record BuiltFor (f : List (List ℕ)) (rest ws′ : List ℕ) (R : ℕ → Row) (n : ℕ) : Type 0 where
+  pub unmarked : ws′ ≡ flat f ++ rest
+  pub rows : Hold R 0 (rowsFor 1 0 f)
+  pub count : n ≡ length f
+
+pub record Built (ws ws′ : List ℕ) (cap : ℕ) (R : ℕ → Row) (total n : ℕ) : Type 0 where
+  pub built : (f : List (List ℕ)) (rest : List ℕ) → Plain f → ws ≡ flatMap mark f ++ rest → total ≡ words f → length f ≤ cap → BuiltFor f rest ws′ R n

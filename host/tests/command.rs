@@ -1,0 +1,225 @@
+//! The command `timetable`, run as a program.
+
+mod support;
+
+use std::fs;
+use std::io::Write;
+use std::path::{Path, PathBuf};
+use std::process::{Command, Stdio};
+use support::{hex, FILE_A};
+use timetable::command::refusals;
+use timetable::reference::Refusal;
+
+/// What a run printed, said and ended with.
+#[derive(Debug, PartialEq, Eq)]
+struct Run {
+    printed: String,
+    said: String,
+    status: i32,
+}
+
+fn run(words: &[&str]) -> Run {
+    run_with(words, b"")
+}
+
+fn run_with(words: &[&str], input: &[u8]) -> Run {
+    let mut command = Command::new(env!("CARGO_BIN_EXE_timetable"));
+    command.args(words).current_dir(folder());
+    command.stdin(Stdio::piped());
+    command.stdout(Stdio::piped()).stderr(Stdio::piped());
+    let mut child = command.spawn().expect("the command starts");
+    let mut stdin = child.stdin.take().expect("its standard input");
+    // A run that does not read its input may end before all of it is written.
+    let _ = stdin.write_all(input);
+    drop(stdin);
+    let output = child.wait_with_output().expect("the command ends");
+    Run {
+        printed: String::from_utf8(output.stdout).expect("text"),
+        said: String::from_utf8(output.stderr).expect("text"),
+        status: output.status.code().expect("an exit status"),
+    }
+}
+
+fn schools() -> PathBuf {
+    Path::new(env!("CARGO_MANIFEST_DIR")).join("schools")
+}
+
+fn school(name: &str) -> String {
+    schools().join(name).to_str().expect("a path").to_string()
+}
+
+/// Where the runs stand, and where their files are written.
+fn folder() -> PathBuf {
+    PathBuf::from(env!("CARGO_TARGET_TMPDIR"))
+}
+
+/// Writes a file for a run, under a name that no other test uses.
+fn file(name: &str, bytes: &[u8]) -> String {
+    fs::write(folder().join(name), bytes).expect("a file in the tests' folder");
+    name.to_string()
+}
+
+#[test]
+fn read_prints_the_counts_of_an_accepted_file() {
+    let found = run(&["read", &school("toy.instance")]);
+    assert_eq!(
+        found.printed,
+        "accepted\ntimes 9\nevents 6\nresources 5\ngroups 7\nconstraints 43\n"
+    );
+    assert_eq!((found.said.as_str(), found.status), ("", 0));
+}
+
+#[test]
+fn a_file_can_come_from_standard_input() {
+    let bytes = hex(FILE_A);
+    let name = file("from-a-file", &bytes);
+    let found = run_with(&["read", "-"], &bytes);
+    assert_eq!(found, run(&["read", &name]));
+    assert_eq!(found.status, 0);
+    let found = run_with(&["read", "-"], &bytes[..11]);
+    assert_eq!(found.printed, "refused 1 11\n");
+    assert!(found.said.starts_with("timetable read: standard input: "));
+}
+
+#[test]
+fn read_says_which_refusal_and_where() {
+    let name = file("lo-above-hi", &hex("01 01 00 01 00 00 02 04 00 01 01 00"));
+    assert_eq!(
+        run(&["read", &name]),
+        Run {
+            printed: "refused 5 7\n".to_string(),
+            said: "timetable read: lo-above-hi: refusal 5 7: lo is above hi, or above the \
+                   length of the counted list; the constraint's kind is at offset 7\n  \
+                   bytes from offset 0: 01 01 00 01 00 00 02 [04] 00 01 01 00\n"
+                .to_string(),
+            status: 1,
+        }
+    );
+}
+
+#[test]
+fn an_empty_file_is_refused_at_its_end() {
+    let found = run(&["read", &file("empty", b"")]);
+    assert_eq!(found.printed, "refused 1 0\n");
+    assert!(found
+        .said
+        .ends_with("offset 0\n  bytes from offset 0: [end]\n"));
+    assert_eq!(found.status, 1);
+}
+
+#[test]
+fn a_long_file_is_shown_around_the_offset() {
+    let mut bytes = hex(FILE_A);
+    bytes.extend([9; 40]);
+    let found = run(&["read", &file("left-over", &bytes)]);
+    assert_eq!(found.printed, "refused 6 12\n");
+    assert!(found
+        .said
+        .contains("bytes are left over after the last constraint"));
+    assert!(found.said.ends_with(
+        "\n  bytes from offset 4: .. 00 01 00 01 03 04 01 01 [09] 09 09 09 09 09 09 09 09 ..\n"
+    ));
+}
+
+#[test]
+fn every_refusal_is_told_in_words_with_its_numbers() {
+    let mut told = Vec::new();
+    for number in 1..=18 {
+        let value = 1_000 + u64::from(number);
+        let message = refusals::message(Refusal { number, value }, &[]);
+        assert!(message.starts_with(&format!("refusal {number} {value}: ")));
+        assert!(message.contains(refusals::words(number)), "{message}");
+        assert!(!message.contains("{}"), "{message}");
+        // A value that says something is told a second time, in words.
+        let says_nothing = [8, 9].contains(&number);
+        assert_eq!(
+            message.matches(&value.to_string()).count(),
+            if says_nothing { 1 } else { 2 },
+            "{message}"
+        );
+        assert_eq!(
+            message.contains("[end]"),
+            [1, 2, 3, 4, 5, 6, 11].contains(&number),
+            "{message}"
+        );
+        told.push(refusals::words(number));
+    }
+    told.sort_unstable();
+    told.dedup();
+    assert_eq!(told.len(), 18);
+}
+
+#[test]
+fn help_names_every_subcommand_and_each_has_its_own() {
+    let overview = run(&["--help"]);
+    assert_eq!((overview.said.as_str(), overview.status), ("", 0));
+    assert_eq!(overview, run(&["-h"]));
+    assert_eq!(overview, run(&["help"]));
+    for name in ["read"] {
+        assert!(overview.printed.contains(&format!("\n  {name} ")));
+        let help = run(&[name, "--help"]);
+        assert_eq!((help.said.as_str(), help.status), ("", 0));
+        assert!(help
+            .printed
+            .starts_with(&format!("Usage: timetable {name} ")));
+        assert_eq!(help, run(&[name, "some", "-h", "words"]));
+    }
+}
+
+#[test]
+fn help_lists_the_refusals_of_an_operation() {
+    let help = run(&["read", "--help"]).printed;
+    for number in 1..=6 {
+        let line = format!("\n   {number}  {}\n", refusals::words(number));
+        assert!(help.contains(&line), "{number}");
+    }
+    assert!(!help.contains(refusals::words(7)));
+}
+
+#[test]
+fn wrong_usage_is_told_and_prints_nothing() {
+    let missing = school("no.instance");
+    let toy = school("toy.instance");
+    for (words, said) in [
+        (vec![], "timetable: a subcommand is missing\n"),
+        (vec!["solve"], "timetable: there is no subcommand 'solve'\n"),
+        (
+            vec!["read"],
+            "timetable read: 1 operand is wanted, 0 given\n",
+        ),
+        (
+            vec!["read", &toy, &toy],
+            "timetable read: 1 operand is wanted, 2 given\n",
+        ),
+        (
+            vec!["read", "--fast", &toy],
+            "timetable read: there is no option '--fast'\n",
+        ),
+        (vec!["read", &missing], "timetable read: "),
+    ] {
+        let found = run(&words);
+        assert_eq!((found.printed.as_str(), found.status), ("", 2), "{words:?}");
+        assert!(found.said.starts_with(said), "{}", found.said);
+        assert!(found.said.contains("Usage: timetable "), "{}", found.said);
+    }
+    assert!(run(&["read", &missing]).said.contains(&missing));
+}
+
+#[test]
+fn after_two_dashes_a_name_may_begin_with_one() {
+    let name = file("-dashed", &hex(FILE_A));
+    assert_eq!(run(&["read", &name]).status, 2);
+    assert_eq!(run(&["read", "--", &name]).status, 0);
+}
+
+#[test]
+fn an_answer_that_cannot_be_written_is_told() {
+    let full = fs::OpenOptions::new().write(true).open("/dev/full");
+    let output = Command::new(env!("CARGO_BIN_EXE_timetable"))
+        .args(["read", &school("toy.instance")])
+        .stdout(full.expect("a device that is always full"))
+        .output()
+        .expect("the command ends");
+    assert_eq!(output.status.code(), Some(2));
+    assert!(String::from_utf8_lossy(&output.stderr).starts_with("timetable: standard output: "));
+}
