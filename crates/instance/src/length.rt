@@ -20,7 +20,7 @@ fn monus(x: u32, y: u32) -> u32
 }
 
 // How many members a group has; groups count from 1.
-fn group_size(groups: &[u8], group: u32) -> u32
+pub fn group_size(groups: &[u8], group: u32) -> u32
     requires { ⌜ GroupIn (now groups) group ⌝ }
     ensures { λ r. ⌜ r ≡ length (rowAt (now (groups .entry)) (group - 1)) ⌝ }
 {

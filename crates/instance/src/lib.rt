@@ -6,5 +6,7 @@ mod reader;
 mod walk;
 
 pub use answer::read_instance;
+pub use length::group_size;
+pub use length::list_length;
 pub use reader::File;
 pub use reader::read;

@@ -152,7 +152,8 @@ starts-within E T h j =
     let k : 5 * T - 1 ≤ 625 = omega arith in
     omega (arith, mul-le-mul h j, mul-le-mul h k)
 
-users-most : (r e : ℕ) (vs : List Event) → length (usersFrom r e vs) ≤ length vs
+-- a resource has no more users than there are events
+pub users-most : (r e : ℕ) (vs : List Event) → length (usersFrom r e vs) ≤ length vs
 unfolding usersFrom
 users-most r e [] = omega arith
 users-most r e (x ∷ vs) = go (member r (x .resources)) (users-most r (suc e) vs)

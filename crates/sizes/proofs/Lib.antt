@@ -1,0 +1,2 @@
+-- What the proofs of functions share.
+pub mod Results

@@ -1,0 +1,48 @@
+-- `answer::sizes` meets its contract: the stores are long enough, and each case of `measure_bound` is a case of the answer.
+use borrow.Author.Needs.{needs}
+use mathlib.Core.Path.{refl}
+use Rattle.sizes.specs.Measured.{sizes-answered, sizes-refused}
+use Rattle.sizes.proofs.answer.sizes.Statement.{statement}
+use Rattle.sizes.proofs.answer.sizes.Tie as tie
+
+slice-aggregate-measure-bound : tie.Need-slice-aggregate-measure-bound
+slice-aggregate-measure-bound c = search needs
+
+slice-aggregate-measure-bound-2 : tie.Need-slice-aggregate-measure-bound-2
+slice-aggregate-measure-bound-2 c = search needs
+
+slice-aggregate-measure-bound-3 : tie.Need-slice-aggregate-measure-bound-3
+slice-aggregate-measure-bound-3 c = search needs
+
+slice-aggregate-measure-bound-4 : tie.Need-slice-aggregate-measure-bound-4
+slice-aggregate-measure-bound-4 c = search needs
+
+measure-bound-requires : tie.Need-measure-bound-requires
+measure-bound-requires c κs =
+    record { tables = record { durations-long = refl; resources-long = refl; groups-long = refl }; list-long = refl }
+
+enum-known-m : tie.Need-enum-known-m
+enum-known-m c = search needs
+
+enum-known-m-2 : tie.Need-enum-known-m-2
+enum-known-m-2 c = search needs
+
+returns : tie.Need-returns
+returns c = sizes-answered (rw (c .before .m .given .1) at (c .before .before .before .before .before .before .before .measure-bound .ensures))
+
+returns-2 : tie.Need-returns-2
+returns-2 c = sizes-refused _ _ (rw (c .before .m2 .given .1) at (c .before .before .before .before .before .before .before .measure-bound .ensures))
+
+pub sizes-spec : {M : Type 1} → statement M
+sizes-spec =
+    tie.close
+    (tie.spec
+    slice-aggregate-measure-bound
+    slice-aggregate-measure-bound-2
+    slice-aggregate-measure-bound-3
+    slice-aggregate-measure-bound-4
+    measure-bound-requires
+    enum-known-m
+    enum-known-m-2
+    returns
+    returns-2)

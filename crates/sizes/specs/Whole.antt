@@ -1,0 +1,55 @@
+-- The sizes of an instance's formula, without and with its tail, in the terms of document 01.
+use Prim.Native.Nat.{ℕ, _+_, _≤_}
+use mathlib.Core.Path.{_≡_, refl, sym, ap, _∙_}
+use native.Mathlib.Omega.{arith}
+use lib.ListN.{length}
+use Rattle.scope.specs.Instance.{Instance}
+use Rattle.scope.specs.Formula.{variables as variablesOf, words as wordsOf, hardOf, softOf}
+use Rattle.scope.specs.Text.{top as topOf}
+use Rattle.scope.specs.Operations.{formulaSize}
+use Rattle.scope.specs.declared.FormulaSize.{FormulaSize}
+use Rattle.theory.specs.Accepted.{ValidInstance}
+use Rattle.sizing.specs.declared.Size.{Size}
+use Rattle.sizing.specs.Sums.{sum, Within, Fits64, within-more, within-sum}
+use Rattle.sizing.specs.Whole.{formulaOf, stored, wholeSize, tailOf, whole-size, bounded-size}
+use Rattle.sizing.specs.WholeLimits.{whole-within, tail-of-within}
+use Rattle.sizes.specs.declared.walk.Total.{Total}
+
+-- the formula, and the tail for the bound B
+pub record WholeOf (i : Instance) (B : ℕ) (t : Total) : Type 0 where
+  pub formula : t .formula ≡ wholeSize i
+  pub tail : t .tail ≡ tailOf i B
+
+-- the numbers of the formula without its tail, each far below 2 ^ 64
+pub record Numbers (i : Instance) (z : Size) : Type 0 where
+  pub variables : z .variables ≡ variablesOf i
+  pub clauses : z .clauses ≡ length (hardOf i)
+  pub words : z .words ≡ wordsOf (hardOf i)
+  pub units : z .units ≡ length (softOf i)
+  pub top : z .weight + 1 ≡ topOf i
+  pub within : Within 1101659111424 z
+
+module _ (i : Instance) (v : ValidInstance i) where
+  pub whole-numbers : {z : Size} → z ≡ wholeSize i → Numbers i z
+  unfolding formulaOf topOf
+  whole-numbers {z} e =
+      let f : z ≡ formulaOf i = e ∙ sym (whole-size i v) in
+      record {
+        variables = ap (λ (z : Size). z .variables) f;
+        clauses = ap (λ (z : Size). z .clauses) f;
+        words = ap (λ (z : Size). z .words) f;
+        units = ap (λ (z : Size). z .units) f;
+        top = omega (arith, ap (λ (z : Size). z .weight) f);
+        within = rw e (whole-within i v);
+      }
+
+  -- with the tail
+  module _ (B : ℕ) {t : Total} (w : WholeOf i B t) where
+    pub total-fits : B ≤ 4095 → Fits64 (sum (t .formula) (t .tail))
+    total-fits h =
+        rw (w .formula, w .tail)
+        (within-more (omega arith)
+        (within-sum 1101659111424 8796093022208 (wholeSize i) (tailOf i B) (whole-within i v) (tail-of-within i v B h)))
+
+    pub total-size : {s : Size} {z : FormulaSize} → s ≡ sum (t .formula) (t .tail) → z ≡ stored s → z ≡ formulaSize i B
+    total-size e f = f ∙ rw (e, w .formula, w .tail) (sym (bounded-size i B v))

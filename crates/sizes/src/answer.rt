@@ -1,0 +1,29 @@
+// The operation of sizing, with stores of its own.
+use crate::sized::Bounded;
+use crate::sized::measure_bound;
+use scope::SizesAnswer;
+ghost use mathlib.Core.Path.{_≡_};
+ghost use Rattle.scope.specs.Answers.{sizesMeans};
+ghost use Rattle.scope.specs.Operations.{sizesOf};
+
+// What stores the hard clauses and the tail need, or refusals 1 to 8. The work is linear in the file.
+pub fn sizes(file: &[u8], bound: u64) -> SizesAnswer
+    ensures { λ r. ⌜ sizesMeans r ≡ sizesOf (now (file .entry)) bound ⌝ }
+{
+    let mut durations = [0u8; 1024];
+    let mut resources = [0u8; 129024];
+    let mut groups = [0u8; 258048];
+    let mut list = [0u16; 2048];
+    let m = measure_bound(
+        file,
+        bound,
+        &mut durations,
+        &mut resources,
+        &mut groups,
+        &mut list,
+    );
+    match m {
+        Bounded::Sized(_, _, z) => SizesAnswer::Sizes(z),
+        Bounded::Refused(x) => SizesAnswer::Refused(x),
+    }
+}
