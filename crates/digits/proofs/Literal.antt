@@ -4,13 +4,13 @@ use mathlib.Core.Bool.{Bool, true, false}
 use mathlib.Core.List.{List, [], _∷_, _++_, append-assoc}
 use Prim.Native.Nat.{ℕ, zero, suc, _+_, _-_, _/_, _%_, _≤_, _<_}
 use native.Mathlib.Omega.{arith}
-use lib.ListN.{length, set}
+use lib.ListN.{length, set, length-append}
 use lib.Seq.{sets, set-set}
 use lib.Dec.{eqb}
 use borrow.Author.Tests.{eq-eqb, ne-eqb, eqb-true, eqb-false}
 use Rattle.scope.specs.Text.{digits, decimal, space, literalText}
 use Rattle.digits.specs.Run.{run, Ran, then, same}
-use Rattle.digits.specs.Store.{Out, out, put, further, ran-sets}
+use Rattle.digits.specs.Store.{Out, out, put, further, ran-sets, run-at}
 use Rattle.digits.specs.Decimal.{lastDigits, digits-last, digits-some}
 
 -- digits written at once are a run of stores
@@ -51,3 +51,20 @@ literal-ran l a b t t′ h g p = go (eqb (l % 2) 1) refl
         let m : a + l % 2 ≡ a = omega (arith, eqb-false (l % 2) 1 e) in
         same (literal-positive l (eqb-false (l % 2) 1 e))
         (then (over (decimal (l / 2)) t a 45 (digits-some 19 (l / 2)) (rw m at p)) (one 32 b t′ g))
+
+-- how long a literal's text is
+pub literal-length : (l : ℕ) → length (literalText l) ≡ length (decimal (l / 2)) + 1 + l % 2
+unfolding literalText
+literal-length l = go (eqb (l % 2) 1) refl
+  where
+    go : (s : Bool) → eqb (l % 2) 1 ≡ s → length (literalText l) ≡ length (decimal (l / 2)) + 1 + l % 2
+    go true e =
+        let m : l % 2 ≡ 1 = eqb-true (l % 2) 1 e in
+        rw (literal-negative l m) (omega (arith, length-append (decimal (l / 2)) space))
+    go false e =
+        rw (literal-positive l (eqb-false (l % 2) 1 e))
+        (omega (arith, length-append (decimal (l / 2)) space, eqb-false (l % 2) 1 e))
+
+-- the position after stores from the start of an output says how many there were
+pub size-ran : (xs l l′ : List ℕ) (n : ℕ) → length xs ≤ 9223372036854775807 → Ran put xs (out 0 l) (out n l′) → n ≡ length xs
+size-ran xs l l′ n h p = ap (λ (o : Out). o .at) (p .eq) ∙ run-at xs l 0 (omega arith) ∙ omega arith

@@ -142,3 +142,47 @@ pub fn fast_literal(text: &mut [u8], at: usize, l: u32) -> usize
     text[b] = 32;
     b + 1
 }
+
+// A number.
+pub fn write_number(text: &mut [u8], at: usize, n: u64) -> usize
+    ensures { λ r. ⌜ Ran put (decimal n) (out at (now (text .entry))) (out r (now (text .exit))) ⌝ }
+{
+    if n < 4294967296 {
+        if at < text.len() {
+            if 10 <= text.len() - at {
+                return fast_number(text, at, n as u32);
+            }
+        }
+    }
+    put_number(text, at, n, 19)
+}
+
+// A literal with its sign, and a space.
+pub fn write_literal(text: &mut [u8], at: usize, l: u32) -> usize
+    ensures { λ r. ⌜ Ran put (literalText l) (out at (now (text .entry))) (out r (now (text .exit))) ⌝ }
+{
+    if at < text.len() {
+        if 12 <= text.len() - at {
+            return fast_literal(text, at, l);
+        }
+    }
+    put_literal(text, at, l)
+}
+
+// How many bytes a number takes; one above 32 bits is written to nowhere.
+pub fn number_size(n: u64) -> usize
+    ensures { λ r. ⌜ (r ≡ length (decimal n)) × (r ≤ 20) ⌝ }
+{
+    if n < 4294967296 {
+        return count_digits(n as u32);
+    }
+    let mut none = [0u8; 1];
+    put_number(&mut none, 0, n, 19)
+}
+
+// How many bytes a literal takes.
+pub fn literal_size(l: u32) -> usize
+    ensures { λ r. ⌜ r ≡ length (literalText l) ⌝ }
+{
+    count_digits(l / 2) + 1 + (l % 2) as usize
+}

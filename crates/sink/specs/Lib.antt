@@ -1,0 +1,5 @@
+pub mod Run
+pub mod Lines
+pub mod Block
+pub mod World
+pub mod Parts
