@@ -3,3 +3,5 @@ pub mod Lines
 pub mod Block
 pub mod World
 pub mod Parts
+pub mod Meaning
+pub mod Tails

@@ -1,9 +1,10 @@
 -- The lines of a formula: its items flattened in order to hard clauses and soft units.
 use mathlib.Core.Path.{_≡_, refl, ap, _∙_, sym}
-use mathlib.Core.List.{List, [], _∷_, _++_, map, append-assoc, append-nil}
+use mathlib.Core.List.{List, [], _∷_, _++_, map, flatMap, append-assoc, append-nil}
 use Prim.Native.Nat.{ℕ, zero, suc, _+_}
 use native.Mathlib.Nat.{add-zero}
 use native.Mathlib.Omega.{arith}
+use lib.ListN.{length}
 use Rattle.scope.specs.Cnf.{Gate, gateClauses, Item, gate, hard, soft, hardClauses, gates, softUnits}
 
 -- a hard clause, or a soft unit with its weight
@@ -28,6 +29,16 @@ unfoldable pub softsOf : List Line → List (ℕ × ℕ)
 softsOf [] = []
 softsOf (clauseLine c ∷ ls) = softsOf ls
 softsOf (softLine w l ∷ ls) = (w, l) ∷ softsOf ls
+
+-- map and flatMap over an append
+pub map-append : {A B : Type 0} (f : A → B) (xs ys : List A) → map f (xs ++ ys) ≡ map f xs ++ map f ys
+map-append f [] ys = refl
+map-append f (x ∷ xs) ys = ap (_∷_ (f x)) (map-append f xs ys)
+
+pub flat-append : {A B : Type 0} (f : A → List B) (xs ys : List A) → flatMap f (xs ++ ys) ≡ flatMap f xs ++ flatMap f ys
+unfolding flatMap
+flat-append f [] ys = refl
+flat-append f (x ∷ xs) ys = ap (_++_ (f x)) (flat-append f xs ys) ∙ sym (append-assoc (f x) (flatMap f xs) (flatMap f ys))
 
 -- items after others: their gates' outputs come after those of the others
 pub lines-append : (n : ℕ) (is js : List Item) → lines n (is ++ js) ≡ lines n is ++ lines (n + gates is) js
@@ -64,3 +75,21 @@ softs-lines n [] = refl
 softs-lines n (gate g ∷ is) = softs-map (gateClauses g n) (lines (suc n) is) ∙ softs-lines (suc n) is
 softs-lines n (hard c ∷ is) = softs-lines n is
 softs-lines n (soft w l ∷ is) = ap (_∷_ (w, l)) (softs-lines n is)
+
+-- the clauses of gates alone, the first of which has the output n
+unfoldable pub gatesClauses : ℕ → List Gate → List (List ℕ)
+gatesClauses n gs = hardClauses n (map gate gs)
+
+pub gates-append : (n : ℕ) (gs hs : List Gate) → gatesClauses n (gs ++ hs) ≡ gatesClauses n gs ++ gatesClauses (n + length gs) hs
+unfolding gatesClauses hardClauses
+gates-append n [] hs = rw add-zero
+gates-append n (g ∷ gs) hs =
+    let e : n + suc (length gs) ≡ suc n + length gs = omega arith in
+    rw e (ap (_++_ (gateClauses g n)) (gates-append (suc n) gs hs)
+    ∙ sym (append-assoc (gateClauses g n) (gatesClauses (suc n) gs) (gatesClauses (suc n + length gs) hs)))
+
+-- the lines of gates alone
+pub lines-gates : (n : ℕ) (gs : List Gate) → lines n (map gate gs) ≡ map clauseLine (gatesClauses n gs)
+unfolding lines gatesClauses hardClauses
+lines-gates n [] = refl
+lines-gates n (g ∷ gs) = ap (_++_ (map clauseLine (gateClauses g n))) (lines-gates (suc n) gs) ∙ sym (map-append clauseLine (gateClauses g n) (gatesClauses (suc n) gs))

@@ -1,14 +1,14 @@
 -- The world of a run over a formula's lines, and the step for one line by mode.
 use mathlib.Core.Bool.{Bool, true, false, cond, _&&_}
-use mathlib.Core.List.{List, [], _∷_, _++_, map, flatMap}
+use mathlib.Core.List.{List, [], _∷_, _++_, flatMap}
 use Prim.Native.Nat.{ℕ, zero, suc, _+_}
 use lib.ListN.{length}
 use lib.Dec.{eqb, leb}
-use Rattle.scope.specs.Cnf.{bit, lit, clause, opp, gate, hardClauses}
+use Rattle.scope.specs.Cnf.{bit, lit, clause, opp}
 use Rattle.scope.specs.Formula.{noRow, rowAt, row}
 use Rattle.scope.specs.Text.{line}
 use Rattle.sink.specs.Run.{run, Out, out, put, further}
-use Rattle.sink.specs.Lines.{Line, clauseLine, softLine}
+use Rattle.sink.specs.Lines.{Line, clauseLine, softLine, gatesClauses}
 use Rattle.sink.specs.Block.{mark}
 use Rattle.sink.specs.declared.Sink.{Sink}
 use Rattle.sink.specs.declared.Job.{Job}
@@ -28,10 +28,15 @@ pub record World : Type 0 where
 abbrev pub world : Sink → List ℕ → List ℕ → World
 world s t w = record { at = s .at; text = t; words = w; bad = s .bad; lost = s .lost; prev = s .prev; row = s .row }
 
--- the world with another position, text or words
+-- the world at another position, and moved on
+abbrev pub placed : ℕ → World → World
+placed a w =
+    record { at = a; text = w .text; words = w .words; bad = w .bad; lost = w .lost; prev = w .prev; row = w .row }
+
 abbrev pub moved : ℕ → World → World
-moved n w =
-    record { at = further (w .at) n; text = w .text; words = w .words; bad = w .bad; lost = w .lost; prev = w .prev; row = w .row }
+moved n w = placed (further (w .at) n) w
+
+-- the world with an output in place of its text or its words
 
 abbrev pub inText : Out → World → World
 inText o w = record { at = o .at; text = o .buf; words = w .words; bad = w .bad; lost = w .lost; prev = w .prev; row = w .row }
@@ -83,7 +88,7 @@ rowOver (suc v) = rowAt (suc v)
 
 -- the clauses of a counter's row with so many columns, over the row at prev, for a soft unit of a weight that is falsified
 unfoldable pub rowClauses : ℕ → ℕ → ℕ → ℕ → ℕ → List (List ℕ)
-rowClauses cols prev first weight l = hardClauses first (map gate (row (rowOver prev) weight (opp l) 1 cols))
+rowClauses cols prev first weight l = gatesClauses first (row (rowOver prev) weight (opp l) 1 cols)
 
 -- the tail's next row, written where its variables and those of the row before it are at most 2 ^ 30
 abbrev pub rowsFit : ℕ → World → Bool
