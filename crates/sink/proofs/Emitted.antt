@@ -9,17 +9,14 @@ use Rattle.scope.specs.Text.{decimal, line}
 use Rattle.sink.specs.Run.{run, Ran, Out, out, put, further}
 use Rattle.sink.specs.Lines.{Line, clauseLine}
 use Rattle.sink.specs.Block.{mark, split, Whole, mark-split, Parts, byClause, byWords, by-words}
-use Rattle.sink.specs.World.{World, world, inText, inWords, badAfter, step}
+use Rattle.sink.specs.World.{World, world, sinkAt, inText, inWords, badAfter, step}
 use Rattle.sink.specs.Parts.{textParts, sizeParts, judgeParts, run-each, text-clause, size-clause, judge-clause}
 use Rattle.sink.specs.declared.Sink.{Sink}
 use Rattle.sink.specs.declared.Job.{Job}
 use Rattle.sink.specs.declared.Judgement.{Judgement}
 use Rattle.sink.specs.declared.Mode.the-variants.{Measure, Text, SoftText, Words, Evaluate, Tail}
 
--- the sink at another position, and with another judgement
-abbrev pub placed : Sink → ℕ → Sink
-placed s a = record { at = a; bad = s .bad; lost = s .lost; prev = s .prev; row = s .row }
-
+-- the sink with another judgement
 abbrev pub judgedSink : Sink → Judgement → Sink
 judgedSink s j = record { at = j .at; bad = j .bad; lost = s .lost; prev = s .prev; row = s .row }
 
@@ -35,16 +32,16 @@ module _ (k : Job) (m : List ℕ) where
 
   module _ (s : Sink) (t w b : List ℕ) (whole : Whole b) where
     pub emit-measure : (n a : ℕ) → k .mode ≡ Measure → n ≡ length (decimal (k .top)) → a ≡ byWords (sizeParts (n + 3)) true b (s .at)
-        → Ran (step k m) (map clauseLine (split b)) (world s t w) (world (placed s a) t w)
+        → Ran (step k m) (map clauseLine (split b)) (world s t w) (world (sinkAt a s) t w)
     unfolding step
     emit-measure n a e l p =
-        let into : ℕ → World = λ x. world (placed s x) t w in
+        let into : ℕ → World = λ x. world (sinkAt x s) t w in
         let one : (c : List ℕ) (x : ℕ) → step k m (clauseLine c) (into x) ≡ into (byClause (sizeParts (n + 3)) c x) =
         λ c x. rw e (ap into (sym (size-clause (k .top) (n + 3) (rw l) c x))) in
         record { eq = ap into (p ∙ by-words (sizeParts (n + 3)) b (s .at) whole) ∙ sym (part-run into _ one (split b) (s .at)) }
 
     pub emit-text : (a : ℕ) (t′ : List ℕ) → k .mode ≡ Text → out a t′ ≡ byWords (textParts (k .top)) true b (out (s .at) t)
-        → Ran (step k m) (map clauseLine (split b)) (world s t w) (world (placed s a) t′ w)
+        → Ran (step k m) (map clauseLine (split b)) (world s t w) (world (sinkAt a s) t′ w)
     unfolding step
     emit-text a t′ e p =
         let into : Out → World = λ o. inText o (world s t w) in
@@ -53,7 +50,7 @@ module _ (k : Job) (m : List ℕ) where
         record { eq = ap into (p ∙ by-words (textParts (k .top)) b (out (s .at) t) whole) ∙ sym (part-run into _ one (split b) (out (s .at) t)) }
 
     pub emit-words : (a : ℕ) (w′ : List ℕ) → k .mode ≡ Words → Ran put b (out (s .at) w) (out a w′)
-        → Ran (step k m) (map clauseLine (split b)) (world s t w) (world (placed s a) t w′)
+        → Ran (step k m) (map clauseLine (split b)) (world s t w) (world (sinkAt a s) t w′)
     unfolding step
     emit-words a w′ e p =
         let into : Out → World = λ o. inWords o (world s t w) in

@@ -5,3 +5,4 @@ pub mod World
 pub mod Parts
 pub mod Meaning
 pub mod Tails
+pub mod Lend

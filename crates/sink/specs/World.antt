@@ -28,6 +28,10 @@ pub record World : Type 0 where
 abbrev pub world : Sink → List ℕ → List ℕ → World
 world s t w = record { at = s .at; text = t; words = w; bad = s .bad; lost = s .lost; prev = s .prev; row = s .row }
 
+-- the sink at another position
+abbrev pub sinkAt : ℕ → Sink → Sink
+sinkAt a s = record { at = a; bad = s .bad; lost = s .lost; prev = s .prev; row = s .row }
+
 -- the world at another position, and moved on
 abbrev pub placed : ℕ → World → World
 placed a w =

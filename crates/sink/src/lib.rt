@@ -9,7 +9,7 @@ ghost use Rattle.scope.specs.Cnf.{bit, lit};
 ghost use Rattle.sink.specs.Run.{Ran, out, put};
 ghost use Rattle.sink.specs.Lines.{clauseLine};
 ghost use Rattle.sink.specs.Block.{split, Whole, opened, byWord, byWords};
-ghost use Rattle.sink.specs.World.{world, badAfter, step};
+ghost use Rattle.sink.specs.World.{world, sinkAt, badAfter, step};
 ghost use Rattle.sink.specs.Parts.{textParts, sizeParts, judgeParts};
 
 // What a run over the formula is for: the text's length; its hard lines; its soft lines; the hard clauses as words; a model's
@@ -234,7 +234,7 @@ fn judge_block(model: &[u8], j: Judgement, block: &[u32]) -> Judgement
 
 // The sink at another position.
 fn placed(s: Sink, at: usize) -> Sink
-    ensures { λ r. ⌜ r ≡ record { at = at; bad = s .bad; lost = s .lost; prev = s .prev; row = s .row } ⌝ }
+    ensures { λ r. ⌜ r ≡ sinkAt at s ⌝ }
 {
     Sink {
         at,
