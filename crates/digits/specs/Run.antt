@@ -42,3 +42,10 @@ module _ {A W : Type 0} {step : A → W → W} where
 
   pub todo-end : {all : List A} {w₀ w : W} → Todo step [] all w₀ w → Ran step all w₀ w
   todo-end t = record { eq = t .eq }
+
+  -- the same where the list left is known by an equation
+  pub todo-turn : {x xs rest all : List A} {w₀ w w′ : W} → xs ≡ x ++ rest → Todo step xs all w₀ w → Ran step x w w′ → Todo step rest all w₀ w′
+  todo-turn e t p = todo-step (rw e at t) p
+
+  pub todo-done : {xs all : List A} {w₀ w : W} → xs ≡ [] → Todo step xs all w₀ w → Ran step all w₀ w
+  todo-done e t = todo-end (rw e at t)

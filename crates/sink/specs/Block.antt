@@ -81,6 +81,14 @@ whole-mark [] h = tt
 whole-mark ([] ∷ cs) h = absurd h
 whole-mark ((l ∷ ls) ∷ cs) h = whole-clause l ls (flatMap mark cs) (whole-mark cs (h .1))
 
+-- a whole block of some clauses
+pub record Marks (b : List ℕ) (cs : List (List ℕ)) : Type 0 where
+  pub whole : Whole b
+  pub clauses : split b ≡ cs
+
+pub marks : (cs : List (List ℕ)) → Plain cs → Marks (flatMap mark cs) cs
+marks cs h = record { whole = whole-mark cs h; clauses = split-mark cs h }
+
 -- a block with a word has a clause, and that one has a literal
 abbrev Cons : List (List ℕ) → Type 0
 Cons [] = ⊥

@@ -32,6 +32,10 @@ world s t w = record { at = s .at; text = t; words = w; bad = s .bad; lost = s .
 abbrev pub sinkAt : ℕ → Sink → Sink
 sinkAt a s = record { at = a; bad = s .bad; lost = s .lost; prev = s .prev; row = s .row }
 
+-- the sink after a soft unit, with its truth and weight
+abbrev pub chargedSink : Bool → ℕ → Sink → Sink
+chargedSink t n s = record { at = s .at; bad = s .bad; lost = cond t (s .lost) (further (s .lost) n); prev = s .prev; row = s .row }
+
 -- the world at another position, and moved on
 abbrev pub placed : ℕ → World → World
 placed a w =

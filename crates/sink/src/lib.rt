@@ -9,7 +9,7 @@ ghost use Rattle.scope.specs.Cnf.{bit, lit};
 ghost use Rattle.sink.specs.Run.{Ran, out, put};
 ghost use Rattle.sink.specs.Lines.{clauseLine};
 ghost use Rattle.sink.specs.Block.{split, Whole, opened, byWord, byWords};
-ghost use Rattle.sink.specs.World.{world, sinkAt, badAfter, step};
+ghost use Rattle.sink.specs.World.{world, sinkAt, chargedSink, badAfter, step};
 ghost use Rattle.sink.specs.Parts.{textParts, sizeParts, judgeParts};
 
 // What a run over the formula is for: the text's length; its hard lines; its soft lines; the hard clauses as words; a model's
@@ -230,6 +230,23 @@ fn judge_block(model: &[u8], j: Judgement, block: &[u32]) -> Judgement
         k = judge_word(model, k, block[i]);
     }
     k
+}
+
+// A soft unit in a model: its weight is added where it is false.
+pub fn charge(model: &[u8], s: Sink, weight: u32, l: u32) -> Sink
+    ensures { λ r. ⌜ r ≡ chargedSink (lit (bit (now (model .entry))) l) weight s ⌝ }
+{
+    if literal_true(model, l) {
+        return s;
+    }
+    let lost = digits::advance(s.lost as usize, weight as usize) as u64;
+    Sink {
+        at: s.at,
+        bad: s.bad,
+        lost,
+        prev: s.prev,
+        row: s.row,
+    }
 }
 
 // The sink at another position.
