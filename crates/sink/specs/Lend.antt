@@ -6,7 +6,7 @@ use Prim.Native.Nat.{ℕ, zero, suc, _+_, _-_, _≤_, _<_, min}
 use native.Mathlib.Nat.{zero-add, suc-add}
 use native.Mathlib.Omega.{arith}
 use lib.ListN.{length, take, drop, set, length-set, length-append, length-take, length-drop, take-append-drop, drop-of-length-le}
-use lib.Seq.{set-out, take-all}
+use lib.Seq.{set-out, take-all, take-at, length-take-le}
 use lib.Dec.{ltb}
 use borrow.Author.Tests.{ltb-true, ltb-false}
 use Rattle.scope.specs.Cnf.{bit, lit, clause}
@@ -196,15 +196,45 @@ module _ (p : ℕ) (t : List ℕ) (a : ℕ) (e : a ≡ min p (length t)) where
   back : (b : List ℕ) → take a t ++ (b ++ drop (length t - a) (drop a t)) ≡ take (min p (length t)) t ++ b
   back b = let d : length (drop a t) ≤ length t - a = omega (arith, length-drop a t) in rw (drop-of-length-le (drop a t) d, append-nil, ← e)
 
--- A run over the outputs lent from p on, where the position is counted from p, is the run over the whole outputs. In the mode
--- Evaluate the position numbers the clauses, so p is 0 there
+-- where outputs are lent from, by mode
+abbrev pub partBase : Mode → ℕ → ℕ
+partBase Measure a = a
+partBase Text a = a
+partBase SoftText a = a
+partBase Words a = a
+partBase Evaluate a = 0
+partBase Tail a = a
+
+pub base-within : (md : Mode) (a : ℕ) → partBase md a ≤ a
+base-within Measure a = omega arith
+base-within Text a = omega arith
+base-within SoftText a = omega arith
+base-within Words a = omega arith
+base-within Evaluate a = omega arith
+base-within Tail a = omega arith
+
+base-evaluate : (md : Mode) (a : ℕ) → md ≡ Evaluate → partBase md a ≡ 0
+base-evaluate md a e = rw e
+
+-- what stands before a lent part is as it was
+pub record Before (p : ℕ) (old new : List ℕ) : Type 0 where
+  pub eq : take (min p (length old)) new ≡ take (min p (length old)) old
+
+pub lent-before : (p p′ : ℕ) (t : List ℕ) (a : ℕ) (b : List ℕ) → p ≡ p′ → a ≡ min p (length t)
+    → Before p′ t (take a t ++ (b ++ drop (length t - a) (drop a t)))
+lent-before p p′ t a b q e =
+    record { eq = rw (← q, ← e) (take-at (take a t) (b ++ drop (length t - a) (drop a t)) a (length-take-le a t (omega arith))) }
+
+-- a run over the outputs lent from p on, where the position is counted from p, is the run over the whole outputs
 pub lent : (k : Job) (m : List ℕ) (ls : List Line) (s r : Sink) (t w t′ w′ : List ℕ) (p a b n : ℕ)
-    → length t ≤ 9223372036854775807 → length w ≤ 9223372036854775807 → s .at ≤ 9223372036854775807 → p ≤ s .at → (k .mode ≡ Evaluate → p ≡ 0)
+    → length t ≤ 9223372036854775807 → length w ≤ 9223372036854775807 → s .at ≤ 9223372036854775807 → p ≡ partBase (k .mode) (s .at)
     → a ≡ min p (length t) → b ≡ min p (length w) → n ≡ further p (r .at)
     → Ran (step k m) ls (world (sinkAt (s .at - p) s) (take (length t - a) (drop a t)) (take (length w - b) (drop b w))) (world r t′ w′)
     → Ran (step k m) ls (world s t w)
     (world (sinkAt n r) (take a t ++ (t′ ++ drop (length t - a) (drop a t))) (take b w ++ (w′ ++ drop (length w - b) (drop b w))))
-lent k m ls s r t w t′ w′ p a b n lt lw la lp z ea eb en q =
+lent k m ls s r t w t′ w′ p a b n lt lw la ep ea eb en q =
+    let lp : p ≤ s .at = omega (arith, base-within (k .mode) (s .at)) in
+    let z : k .mode ≡ Evaluate → p ≡ 0 = λ e. ep ∙ base-evaluate (k .mode) (s .at) e in
     let x : World = world (sinkAt (s .at - p) s) (take (length t - a) (drop a t)) (take (length w - b) (drop b w)) in
     let at : further p (s .at - p) ≡ s .at = omega arith in
     let start : lift p t w x ≡ world s t w = rw (at, before p t a ea, before p w b eb) in

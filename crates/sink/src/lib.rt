@@ -2,7 +2,7 @@
 ghost use mathlib.Core.Path.{_≡_};
 ghost use mathlib.Core.Bool.{true};
 ghost use mathlib.Core.List.{List, [], _∷_, map};
-ghost use Prim.Native.Nat.{ℕ, _+_, _≤_};
+ghost use Prim.Native.Nat.{ℕ, _+_, _≤_, min};
 ghost use lib.ListN.{length};
 ghost use lib.Seq.{sets};
 ghost use Rattle.scope.specs.Cnf.{bit, lit};
@@ -10,6 +10,7 @@ ghost use Rattle.sink.specs.Run.{Ran, out, put};
 ghost use Rattle.sink.specs.Lines.{clauseLine};
 ghost use Rattle.sink.specs.Block.{split, Whole, opened, byWord, byWords};
 ghost use Rattle.sink.specs.World.{world, sinkAt, chargedSink, badAfter, step};
+ghost use Rattle.sink.specs.Lend.{partBase};
 ghost use Rattle.sink.specs.Parts.{textParts, sizeParts, judgeParts};
 
 // What a run over the formula is for: the text's length; its hard lines; its soft lines; the hard clauses as words; a model's
@@ -249,8 +250,33 @@ pub fn charge(model: &[u8], s: Sink, weight: u32, l: u32) -> Sink
     }
 }
 
+// Where the outputs are lent from: the position, but the start in the mode Evaluate, where the position numbers the clauses.
+pub fn part_base(job: Job, s: Sink) -> usize
+    ensures { λ r. ⌜ r ≡ partBase (job .mode) (s .at) ⌝ }
+{
+    let mode = job.mode;
+    match mode {
+        Mode::Measure => s.at,
+        Mode::Text => s.at,
+        Mode::SoftText => s.at,
+        Mode::Words => s.at,
+        Mode::Evaluate => 0,
+        Mode::Tail => s.at,
+    }
+}
+
+// The lesser of two numbers.
+pub fn lesser(a: usize, b: usize) -> usize
+    ensures { λ r. ⌜ r ≡ min a b ⌝ }
+{
+    if a < b {
+        return a;
+    }
+    b
+}
+
 // The sink at another position.
-fn placed(s: Sink, at: usize) -> Sink
+pub fn placed(s: Sink, at: usize) -> Sink
     ensures { λ r. ⌜ r ≡ sinkAt at s ⌝ }
 {
     Sink {
