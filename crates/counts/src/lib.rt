@@ -55,7 +55,7 @@ fn write_units(
 {
     let mut z = s;
     for i in 0..count {
-        z = gates::write_unit(
+        z = gates::units::write_unit(
             job,
             model,
             text,
@@ -84,8 +84,8 @@ fn write_short_unit(
     ensures { λ r. ⌜ Ran (step job (now (model .entry))) (shortLines weight c1 cj v)
         (world s (now (text .entry)) (now (words .entry))) (world r (now (text .exit)) (now (words .exit))) ⌝ }
 {
-    let z = gates::write_short(job, model, text, words, s, c1, cj, v);
-    gates::write_unit(job, model, text, words, z, weight, 2 * v + 1)
+    let z = gates::clauses::write_short(job, model, text, words, s, c1, cj, v);
+    gates::units::write_unit(job, model, text, words, z, weight, 2 * v + 1)
 }
 
 // Kind 6's low part: so many variables from v on, for the columns from 2 on of the row at q.
@@ -152,7 +152,7 @@ fn write_low(
         return write_shorts(job, model, text, words, s, weight, q, lo - 1, v);
     }
     if weight == 0 {
-        return gates::write_unit(job, model, text, words, s, weight, column(q, lo));
+        return gates::units::write_unit(job, model, text, words, s, weight, column(q, lo));
     }
     write_units(job, model, text, words, s, weight, false, q, 1, lo)
 }
@@ -177,7 +177,7 @@ fn write_high(
         return s;
     }
     if weight == 0 {
-        return gates::write_unit(
+        return gates::units::write_unit(
             job,
             model,
             text,
@@ -212,7 +212,7 @@ pub fn write_count(
     }
     let n = lits.len() as u32;
     let q = first + (n - 1) * cols;
-    let z = gates::write_counter(job, model, text, words, s, lits, first, cols);
+    let z = gates::cells::write_counter(job, model, text, words, s, lits, first, cols);
     let y = write_low(job, model, text, words, z, weight, b, q, first + n * cols);
     write_high(job, model, text, words, y, weight, b.hi, q, n)
 }
