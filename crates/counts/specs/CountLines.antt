@@ -3,12 +3,13 @@ use mathlib.Core.Path.{_≡_, refl, ap, _∙_, sym}
 use mathlib.Core.Bool.{Bool, true, false, cond}
 use mathlib.Core.List.{List, [], _∷_, _++_, map}
 use Prim.Native.Nat.{ℕ, zero, suc, _+_, _-_, _*_, _≤_, _<_}
-use native.Mathlib.Nat.{mul-le-mul-right}
+use native.Mathlib.Nat.{add-zero, mul-le-mul-right}
 use native.Mathlib.Omega.{arith}
+use lib.Dec.{leb, ltb}
 use lib.ListN.{length, length-append}
 use Rattle.scope.specs.Kinds.{Rule, from}
-use Rattle.scope.specs.Cnf.{Gate, Item, gate, gates}
-use Rattle.scope.specs.Formula.{noRow, rowAt, row, counter, lastRow, ones, lowUnits, highUnits, shortUnits, boundItems, countInto}
+use Rattle.scope.specs.Cnf.{neg, opp, Gate, Item, gate, hard, soft, gates}
+use Rattle.scope.specs.Formula.{noRow, rowAt, row, counter, lastRow, ones, unit, lowUnits, highUnits, shortUnits, boundItems, countInto}
 use Rattle.sink.specs.Lines.{Line, lines, lines-append}
 use Rattle.sink.specs.Tails.{row-length, lastFirst, last-at, last-row}
 use Rattle.sink.specs.World.{rowOver}
@@ -106,3 +107,53 @@ module _ (J w : ℕ) (b : Bounds) (xs : List ℕ) (v : ℕ) where
       ∙ rw n (ap (_++_ (lines v (map gate (counter noRow (ones xs) J v))))
       (lines-append (v + length xs * J) low high
       ∙ ap (_++_ (lines (v + length xs * J) low)) (high-any (v + length xs * J + gates low) 0 w (rowOver q) (b .hi) (length xs)))))
+
+-- how many variables a counted list adds
+unit-none : (w l : ℕ) (is : List Item) → gates (unit w l ∷ is) ≡ gates is
+unit-none zero l is = refl
+unit-none (suc w) l is = refl
+
+short-gates : (w : ℕ) (q : ℕ → ℕ) (j k v : ℕ) → gates (shortUnits w q j k v) ≡ k
+unfolding shortUnits
+short-gates w q j zero v = refl
+short-gates w q j (suc k) v = ap suc (unit-none w (neg v) (shortUnits w q (suc j) k (suc v)) ∙ short-gates w q (suc j) k (suc v))
+
+softs-gates : (w : ℕ) (f : ℕ → ℕ) (js : List ℕ) → gates (map (λ j. soft w (f j)) js) ≡ 0
+softs-gates w f [] = refl
+softs-gates w f (j ∷ js) = softs-gates w f js
+
+hard-gates : (t : Bool) (c : List ℕ) → gates (cond t (hard c ∷ []) []) ≡ 0
+hard-gates true c = refl
+hard-gates false c = refl
+
+low-gates : (w : ℕ) (q : ℕ → ℕ) (lo : ℕ) → gates (lowUnits w q lo) ≡ 0
+unfolding lowUnits
+low-gates zero q lo = hard-gates (leb 1 lo) (q lo ∷ [])
+low-gates (suc w) q lo = softs-gates (suc w) q (from 1 lo)
+
+high-gates : (w : ℕ) (q : ℕ → ℕ) (hi n : ℕ) → gates (highUnits w q hi n) ≡ 0
+unfolding highUnits
+high-gates zero q hi n = hard-gates (ltb hi n) (opp (q (hi + 1)) ∷ [])
+high-gates (suc w) q hi n = softs-gates (suc w) (λ j. opp (q j)) (from (hi + 1) (n - hi))
+
+gates-append : (is js : List Item) → gates (is ++ js) ≡ gates is + gates js
+gates-append [] js = omega arith
+gates-append (gate g ∷ is) js = ap suc (gates-append is js) ∙ omega arith
+gates-append (hard c ∷ is) js = gates-append is js
+gates-append (soft w l ∷ is) js = gates-append is js
+
+pub count-gates : (J w : ℕ) (r : Rule) (xs : List ℕ) (v : ℕ)
+  → gates (countInto J w r xs v) ≡ length xs * J + cond (r .zeroFree) (r .lo - 1) 0
+unfolding countInto boundItems
+count-gates J w r xs v =
+    let q : ℕ → ℕ = lastRow noRow (ones xs) J v in
+    let low : List Item = cond (r .zeroFree) (shortUnits w q 2 (r .lo - 1) (v + length xs * J)) (lowUnits w q (r .lo)) in
+    gates-append (map gate (counter noRow (ones xs) J v)) (low ++ highUnits w q (r .hi) (length xs))
+    ∙ rw (gates-map (counter noRow (ones xs) J v), counter-length noRow xs J v, gates-append low (highUnits w q (r .hi) (length xs)),
+      high-gates w q (r .hi) (length xs))
+      (ap (_+_ (length xs * J)) (add-zero (gates low) ∙ go (r .zeroFree)))
+  where
+    go : (t : Bool) → gates (cond t (shortUnits w (lastRow noRow (ones xs) J v) 2 (r .lo - 1) (v + length xs * J)) (lowUnits w (lastRow noRow (ones xs) J v) (r .lo)))
+      ≡ cond t (r .lo - 1) 0
+    go true = short-gates w (lastRow noRow (ones xs) J v) 2 (r .lo - 1) (v + length xs * J)
+    go false = low-gates w (lastRow noRow (ones xs) J v) (r .lo)

@@ -40,7 +40,7 @@ fn digit(n: u64) -> u8
 }
 
 // At most k + 1 decimal digits of n.
-pub fn put_number(text: &mut [u8], at: usize, n: u64, k: usize) -> usize
+fn put_number(text: &mut [u8], at: usize, n: u64, k: usize) -> usize
     ensures { λ r. ⌜ Ran put (digits k n) (out at (now (text .entry))) (out r (now (text .exit))) ⌝ }
 {
     if k == 0 {
@@ -54,7 +54,7 @@ pub fn put_number(text: &mut [u8], at: usize, n: u64, k: usize) -> usize
 }
 
 // A literal with its sign, and a space.
-pub fn put_literal(text: &mut [u8], at: usize, l: u32) -> usize
+fn put_literal(text: &mut [u8], at: usize, l: u32) -> usize
     ensures { λ r. ⌜ Ran put (literalText l) (out at (now (text .entry))) (out r (now (text .exit))) ⌝ }
 {
     if l % 2 == 1 {
@@ -67,7 +67,7 @@ pub fn put_literal(text: &mut [u8], at: usize, l: u32) -> usize
 }
 
 // How many digits a number has, by comparisons.
-pub fn count_digits(v: u32) -> usize
+fn count_digits(v: u32) -> usize
     ensures { λ r. ⌜ r ≡ length (decimal v) ⌝ }
 {
     if v < 10 {
@@ -101,7 +101,7 @@ pub fn count_digits(v: u32) -> usize
 }
 
 // The last digits of v from at up to end, written backwards, two in each turn.
-pub fn fill_digits(text: &mut [u8], at: usize, end: usize, v: u32)
+fn fill_digits(text: &mut [u8], at: usize, end: usize, v: u32)
     requires { ⌜ (at ≤ end) × (end ≤ length (now text)) ⌝ }
     ensures { λ r. ⌜ now (text .exit) ≡ sets (now (text .entry)) at (lastDigits (end - at) v) ⌝ }
 {
@@ -120,7 +120,7 @@ pub fn fill_digits(text: &mut [u8], at: usize, end: usize, v: u32)
 }
 
 // A number, where there is room for ten digits.
-pub fn fast_number(text: &mut [u8], at: usize, v: u32) -> usize
+fn fast_number(text: &mut [u8], at: usize, v: u32) -> usize
     requires { ⌜ at + 10 ≤ length (now text) ⌝ }
     ensures { λ r. ⌜ Ran put (decimal v) (out at (now (text .entry))) (out r (now (text .exit))) ⌝ }
     ensures { λ r. ⌜ r ≤ at + 10 ⌝ }
@@ -131,7 +131,7 @@ pub fn fast_number(text: &mut [u8], at: usize, v: u32) -> usize
 }
 
 // A literal with its sign, and a space, where there is room. A sign is written in any case, and a digit over it where it is not wanted.
-pub fn fast_literal(text: &mut [u8], at: usize, l: u32) -> usize
+fn fast_literal(text: &mut [u8], at: usize, l: u32) -> usize
     requires { ⌜ at + 12 ≤ length (now text) ⌝ }
     ensures { λ r. ⌜ Ran put (literalText l) (out at (now (text .entry))) (out r (now (text .exit))) ⌝ }
     ensures { λ r. ⌜ r ≤ at + 12 ⌝ }
