@@ -1,0 +1,162 @@
+// Starts, ORs, idle times, kind 6's variable.
+ghost use mathlib.Core.Path.{_≡_};
+ghost use mathlib.Core.List.{[], _∷_, map};
+ghost use Prim.Native.Nat.{_+_, _*_, _≤_, _<_};
+ghost use lib.ListN.{length, take, set};
+ghost use Rattle.scope.specs.Cnf.{or, idling, short, implied, gate};
+ghost use Rattle.sink.specs.Run.{Ran};
+ghost use Rattle.sink.specs.Lines.{clauseLine, lines};
+ghost use Rattle.sink.specs.World.{world, step};
+ghost use Rattle.gates.specs.Literals.{Literal, LiteralsTo, Literals};
+ghost use Rattle.gates.specs.Units.{startClauses};
+use super::LAST;
+use sink::Job;
+use sink::Sink;
+
+// An idle time: o is true where x is false, and g and h are true.
+pub fn write_idling(
+    job: Job,
+    model: &[u8],
+    text: &mut [u8],
+    words: &mut [u32],
+    s: Sink,
+    x: u32,
+    g: u32,
+    h: u32,
+    o: u32,
+) -> Sink
+    requires { ⌜ Literal x × Literal g × Literal h × (o < 1073741824) ⌝ }
+    ensures { λ r. ⌜ Ran (step job (now (model .entry))) (lines o (gate (idling x g h) ∷ []))
+        (world s (now (text .entry)) (now (words .entry))) (world r (now (text .exit)) (now (words .exit))) ⌝ }
+{
+    let yes = 2 * o + LAST;
+    let no = 2 * o + 1 + LAST;
+    sink::emit(
+        job,
+        model,
+        text,
+        words,
+        s,
+        &[
+            super::opposite(x),
+            no,
+            g,
+            no,
+            h,
+            no,
+            x,
+            super::opposite(g),
+            super::opposite(h),
+            yes,
+        ],
+    )
+}
+
+// Kind 6's variable: o is true where c1 is true and cj is false.
+pub fn write_short(
+    job: Job,
+    model: &[u8],
+    text: &mut [u8],
+    words: &mut [u32],
+    s: Sink,
+    c1: u32,
+    cj: u32,
+    o: u32,
+) -> Sink
+    requires { ⌜ Literal c1 × Literal cj × (o < 1073741824) ⌝ }
+    ensures { λ r. ⌜ Ran (step job (now (model .entry))) (lines o (gate (short c1 cj) ∷ []))
+        (world s (now (text .entry)) (now (words .entry))) (world r (now (text .exit)) (now (words .exit))) ⌝ }
+{
+    let yes = 2 * o + LAST;
+    let no = 2 * o + 1 + LAST;
+    sink::emit(
+        job,
+        model,
+        text,
+        words,
+        s,
+        &[
+            c1,
+            no,
+            super::opposite(cj),
+            no,
+            super::opposite(c1),
+            cj,
+            yes,
+        ],
+    )
+}
+
+// The clauses (not l, o) of an OR.
+fn write_pairs(
+    job: Job,
+    model: &[u8],
+    text: &mut [u8],
+    words: &mut [u32],
+    s: Sink,
+    lits: &[u32],
+    o: u32,
+) -> Sink
+    requires { ⌜ Literals (now lits) × (o < 1073741824) ⌝ }
+    ensures { λ r. ⌜ Ran (step job (now (model .entry))) (map clauseLine (implied (now (lits .entry)) o))
+        (world s (now (text .entry)) (now (words .entry))) (world r (now (text .exit)) (now (words .exit))) ⌝ }
+{
+    let yes = 2 * o + LAST;
+    let mut z = s;
+    for i in 0..lits.len() {
+        z = sink::emit(job, model, text, words, z, &[super::opposite(lits[i]), yes]);
+    }
+    z
+}
+
+// o is the OR of the first n literals of buf, which has room for one word more.
+pub fn write_or(
+    job: Job,
+    model: &[u8],
+    text: &mut [u8],
+    words: &mut [u32],
+    s: Sink,
+    buf: &mut [u32],
+    n: usize,
+    o: u32,
+) -> Sink
+    requires { ⌜ (n < length (now buf)) × LiteralsTo n (now buf) × (o < 1073741824) ⌝ }
+    ensures { λ r. ⌜ Ran (step job (now (model .entry))) (lines o (gate (or (take n (now (buf .entry)))) ∷ []))
+        (world s (now (text .entry)) (now (words .entry))) (world r (now (text .exit)) (now (words .exit))) ⌝ }
+    ensures { λ r. ⌜ now (buf .exit) ≡ set (now (buf .entry)) n (2 * o + 1 + 2147483648) ⌝ }
+{
+    let z = write_pairs(job, model, text, words, s, &buf[..n], o);
+    buf[n] = 2 * o + 1 + LAST;
+    let m = n + 1;
+    sink::emit(job, model, text, words, z, &buf[..m])
+}
+
+// The two clauses of an event's start, where y and v are its variables Y and S at a time that is the first or not.
+pub fn write_start(
+    job: Job,
+    model: &[u8],
+    text: &mut [u8],
+    words: &mut [u32],
+    s: Sink,
+    first: bool,
+    y: u32,
+    v: u32,
+) -> Sink
+    requires { ⌜ (1 ≤ y) × (y < 1073741824) × (v < 1073741824) ⌝ }
+    ensures { λ r. ⌜ Ran (step job (now (model .entry))) (map clauseLine (startClauses first y v))
+        (world s (now (text .entry)) (now (words .entry))) (world r (now (text .exit)) (now (words .exit))) ⌝ }
+{
+    let yes = 2 * v + LAST;
+    let no = 2 * v + 1 + LAST;
+    if first {
+        return sink::emit(job, model, text, words, s, &[2 * y, no, 2 * y + 1, yes]);
+    }
+    sink::emit(
+        job,
+        model,
+        text,
+        words,
+        s,
+        &[2 * y, no, 2 * (y - 1), 2 * y + 1, yes],
+    )
+}

@@ -1,0 +1,137 @@
+// What happens with a block of clauses, by mode.
+ghost use mathlib.Core.Path.{_≡_};
+ghost use mathlib.Core.List.{map};
+ghost use Prim.Native.Nat.{min};
+ghost use Rattle.sink.specs.Run.{Ran};
+ghost use Rattle.sink.specs.Lines.{clauseLine};
+ghost use Rattle.sink.specs.Block.{split, Whole};
+ghost use Rattle.sink.specs.World.{world, sinkAt, step};
+ghost use Rattle.sink.specs.Lend.{partBase};
+
+pub mod bytes;
+pub mod judge;
+pub mod store;
+
+// What a run over the formula is for: the text's length; its hard lines; its soft lines; the hard clauses as words; a model's
+// lowest false clause and falsified weight; the tail's rows as words.
+pub enum Mode {
+    Measure,
+    Text,
+    SoftText,
+    Words,
+    Evaluate,
+    Tail,
+}
+
+// A mode, the weight of hard lines, and the columns of the tail's counter.
+pub struct Job {
+    pub mode: Mode,
+    pub top: u64,
+    pub cols: u32,
+}
+
+// Where a run stands: the position in text or words, or the number of clauses passed; the lowest false clause's id, or 0; the
+// falsified weight; the first variables of the tail's last row, 0 before the first, and of its next row.
+pub struct Sink {
+    pub at: usize,
+    pub bad: usize,
+    pub lost: u64,
+    pub prev: u32,
+    pub row: u32,
+}
+
+// A model's truth so far: clauses passed, the lowest false one's id or 0, and whether a literal of the present clause is true.
+pub struct Judgement {
+    pub at: usize,
+    pub bad: usize,
+    pub holds: bool,
+}
+
+// Where the outputs are lent from: the position, but the start in the mode Evaluate, where the position numbers the clauses.
+pub fn part_base(job: Job, s: Sink) -> usize
+    ensures { λ r. ⌜ r ≡ partBase (job .mode) (s .at) ⌝ }
+{
+    let mode = job.mode;
+    match mode {
+        Mode::Measure => s.at,
+        Mode::Text => s.at,
+        Mode::SoftText => s.at,
+        Mode::Words => s.at,
+        Mode::Evaluate => 0,
+        Mode::Tail => s.at,
+    }
+}
+
+// The lesser of two numbers.
+pub fn lesser(a: usize, b: usize) -> usize
+    ensures { λ r. ⌜ r ≡ min a b ⌝ }
+{
+    if a < b {
+        return a;
+    }
+    b
+}
+
+// The sink at another position.
+pub fn placed(s: Sink, at: usize) -> Sink
+    ensures { λ r. ⌜ r ≡ sinkAt at s ⌝ }
+{
+    Sink {
+        at,
+        bad: s.bad,
+        lost: s.lost,
+        prev: s.prev,
+        row: s.row,
+    }
+}
+
+// The clauses of a block, by mode.
+pub fn emit(
+    job: Job,
+    model: &[u8],
+    text: &mut [u8],
+    words: &mut [u32],
+    s: Sink,
+    block: &[u32],
+) -> Sink
+    requires { ⌜ Whole (now block) ⌝ }
+    ensures { λ r. ⌜ Ran (step job (now (model .entry))) (map clauseLine (split (now (block .entry))))
+        (world s (now (text .entry)) (now (words .entry))) (world r (now (text .exit)) (now (words .exit))) ⌝ }
+{
+    let mode = job.mode;
+    match mode {
+        Mode::Measure => {
+            let beside = digits::number_size(job.top) + 3;
+            let at = bytes::size_block(s.at, beside, block);
+            placed(s, at)
+        }
+        Mode::Text => {
+            let at = bytes::text_block(text, s.at, job.top, block);
+            placed(s, at)
+        }
+        Mode::SoftText => s,
+        Mode::Words => {
+            let at = store::words_block(words, s.at, block);
+            placed(s, at)
+        }
+        Mode::Evaluate => {
+            let j = judge::judge_block(
+                model,
+                Judgement {
+                    at: s.at,
+                    bad: s.bad,
+                    holds: false,
+                },
+                block,
+            );
+            Sink {
+                at: j.at,
+                bad: j.bad,
+                lost: s.lost,
+                prev: s.prev,
+                row: s.row,
+            }
+        }
+        Mode::Tail => s,
+    }
+}
