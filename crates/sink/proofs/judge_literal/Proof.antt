@@ -1,0 +1,16 @@
+use Rattle.sink.proofs.Truth.{stays}
+use borrow.Author.Needs.{needs}
+use Rattle.sink.proofs.judge_literal.Statement.{statement}
+use Rattle.sink.proofs.judge_literal.Tie as tie
+
+literal-true-requires : tie.Need-literal-true-requires
+literal-true-requires c κs = search needs
+
+returns : tie.Need-returns
+returns c = stays _ _ (c .if1 .taken)
+
+returns-2 : tie.Need-returns-2
+returns-2 c = rw (c .if1 .left, c .before .literal-true .ensures)
+
+pub judge-literal-spec : {M : Type 1} → statement M
+judge-literal-spec = tie.close (tie.spec literal-true-requires returns returns-2)

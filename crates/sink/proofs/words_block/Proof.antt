@@ -1,0 +1,43 @@
+use mathlib.Core.Path.{refl}
+use native.Mathlib.Omega.{arith}
+use Rattle.sink.specs.Run.{ran-sets}
+use borrow.Author.Needs.{needs}
+use Rattle.sink.proofs.words_block.Statement.{statement}
+use Rattle.sink.proofs.words_block.Tie as tie
+
+sub-if2 : tie.Need-sub-if2
+sub-if2 c = search needs
+
+copy-words-requires : tie.Need-copy-words-requires
+copy-words-requires c κs = search needs
+
+add-result : tie.Need-add-result
+add-result c = search needs
+
+same-length : tie.Need-same-length
+same-length c = search needs
+
+returns : tie.Need-returns
+returns c = rw (c .before .before .copy-words .ensures) (ran-sets _ _ _ _ (omega arith) refl)
+
+put-words-requires : tie.Need-put-words-requires
+put-words-requires c κs = search needs
+
+same-length-2 : tie.Need-same-length-2
+same-length-2 c = search needs
+
+returns-2 : tie.Need-returns-2
+returns-2 c = search needs
+
+pub words-block-spec : {M : Type 1} → statement M
+words-block-spec =
+    tie.close
+    (tie.spec
+    sub-if2
+    copy-words-requires
+    add-result
+    same-length
+    returns
+    put-words-requires
+    same-length-2
+    returns-2)
