@@ -1,3 +1,4 @@
 pub mod Literals
 pub mod Blocks
 pub mod Rows
+pub mod Units

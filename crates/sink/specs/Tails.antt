@@ -27,22 +27,27 @@ row-length p w x j (suc k) = ap suc (row-length p w x (suc j) k)
 abbrev pub tailWords : ℕ → ℕ → ℕ → List (ℕ × ℕ) → List ℕ
 tailWords cols prev v us = flatMap mark (gatesClauses v (counter (rowOver prev) (negated us) cols v))
 
--- the first variable of the last row written
-unfoldable pub lastFirst : ℕ → ℕ → ℕ → List (ℕ × ℕ) → ℕ
-lastFirst cols prev v [] = prev
-lastFirst cols prev v (u ∷ us) = lastFirst cols v (v + cols) us
+-- the first variable of the last row, after n rows from the variable v on, over the row at prev
+unfoldable pub lastFirst : ℕ → ℕ → ℕ → ℕ → ℕ
+lastFirst cols prev v zero = prev
+lastFirst cols prev v (suc n) = lastFirst cols v (v + cols) n
+
+pub last-at : (cols prev v n : ℕ) → lastFirst cols prev v (suc n) ≡ v + n * cols
+unfolding lastFirst
+last-at cols prev v zero = omega arith
+last-at cols prev v (suc n) = last-at cols v (v + cols) n ∙ omega arith
 
 -- a first variable above 0 has its row
 pub row-over : (v : ℕ) → 0 < v → rowOver v ≡ rowAt v
 row-over zero h = absurd (omega arith)
 row-over (suc v) h = refl
 
--- it is the counter's last row
-pub last-first : (cols prev v : ℕ) (us : List (ℕ × ℕ)) → 0 < v → rowOver (lastFirst cols prev v us) ≡ lastRow (rowOver prev) (negated us) cols v
+-- a counter's last row
+pub last-row : (cols prev v : ℕ) (xs : List (ℕ × ℕ)) → 0 < v → lastRow (rowOver prev) xs cols v ≡ rowOver (lastFirst cols prev v (length xs))
 unfolding lastFirst lastRow
-last-first cols prev v [] h = refl
-last-first cols prev v (u ∷ us) h =
-    last-first cols v (v + cols) us (omega arith) ∙ ap (λ (p : ℕ → ℕ). lastRow p (negated us) cols (v + cols)) (row-over v h)
+last-row cols prev v [] h = refl
+last-row cols prev v (x ∷ xs) h =
+    ap (λ (p : ℕ → ℕ). lastRow p xs cols (v + cols)) (sym (row-over v h)) ∙ last-row cols v (v + cols) xs (omega arith)
 
 -- the words of one row and then of the others
 words-step : (cols prev v : ℕ) (u : ℕ × ℕ) (us : List (ℕ × ℕ)) → 0 < v
@@ -59,10 +64,10 @@ words-none : (cols prev v : ℕ) → tailWords cols prev v [] ≡ []
 unfolding counter gatesClauses hardClauses flatMap
 words-none cols prev v = refl
 
-row-fits : (cols n l : ℕ) (w : World) → w .prev + cols ≤ 1073741824 → w .row + cols ≤ 1073741824
+pub row-fits : (cols n l : ℕ) (w : World) → 1 ≤ w .row → w .prev + cols ≤ 1073741824 → w .row + cols ≤ 1073741824
     → tailRow cols n l w ≡ nextRow cols (putWords (flatMap mark (rowClauses cols (w .prev) (w .row) n l)) w)
 unfolding tailRow
-row-fits cols n l w h g = rw (le-leb (w .prev + cols) 1073741824 h, le-leb (w .row + cols) 1073741824 g)
+row-fits cols n l w s h g = rw (le-leb 1 (w .row) s, le-leb (w .prev + cols) 1073741824 h, le-leb (w .row + cols) 1073741824 g)
 
 -- the world with other rows
 abbrev pub rowed : ℕ → ℕ → World → World
@@ -73,7 +78,7 @@ module _ (k : Job) (m : List ℕ) where
   pub tail-run : k .mode ≡ Tail → (ls : List Line) (w : World) → 0 < w .row → w .prev ≤ w .row
       → w .row + length (softsOf ls) * k .cols ≤ 1073741824
       → run (step k m) ls w
-      ≡ rowed (lastFirst (k .cols) (w .prev) (w .row) (softsOf ls)) (w .row + length (softsOf ls) * k .cols)
+      ≡ rowed (lastFirst (k .cols) (w .prev) (w .row) (length (softsOf ls))) (w .row + length (softsOf ls) * k .cols)
       (putWords (tailWords (k .cols) (w .prev) (w .row) (softsOf ls)) w)
   unfolding step softsOf lastFirst
   tail-run e [] w h g f =
@@ -88,15 +93,15 @@ module _ (k : Job) (m : List ℕ) where
       let after : World = nextRow cols (putWords wrote w) in
       let rest : List ℕ = tailWords cols (w .row) (w .row + cols) us in
       let v : w .row + cols + length us * cols ≡ w .row + suc (length us) * cols = omega arith in
-      ap (run (step k m) ls) (one ∙ row-fits cols n l w (omega arith) (omega arith))
+      ap (run (step k m) ls) (one ∙ row-fits cols n l w h (omega arith) (omega arith))
       ∙ tail-run e ls after (omega arith) (omega arith) (omega arith)
       ∙ rw (v, words-step cols (w .prev) (w .row) (n, l) us h)
-      (ap (λ (o : Out). rowed (lastFirst cols (w .row) (w .row + cols) us) (w .row + suc (length us) * cols) (inWords o w))
+      (ap (λ (o : Out). rowed (lastFirst cols (w .row) (w .row + cols) (length us)) (w .row + suc (length us) * cols) (inWords o w))
       (sym (run-append put wrote rest (out (w .at) (w .words)))))
 
   pub tail-lines : k .mode ≡ Tail → (n : ℕ) (is : List Item) (w : World) → 0 < w .row → w .prev ≤ w .row
       → w .row + length (softUnits is) * k .cols ≤ 1073741824
       → run (step k m) (lines n is) w
-      ≡ rowed (lastFirst (k .cols) (w .prev) (w .row) (softUnits is)) (w .row + length (softUnits is) * k .cols)
+      ≡ rowed (lastFirst (k .cols) (w .prev) (w .row) (length (softUnits is))) (w .row + length (softUnits is) * k .cols)
       (putWords (tailWords (k .cols) (w .prev) (w .row) (softUnits is)) w)
   tail-lines e n is w h g f = rw (← softs-lines n is) (tail-run e (lines n is) w h g (rw (softs-lines n is) f))

@@ -98,9 +98,9 @@ rowOver (suc v) = rowAt (suc v)
 unfoldable pub rowClauses : ℕ → ℕ → ℕ → ℕ → ℕ → List (List ℕ)
 rowClauses cols prev first weight l = gatesClauses first (row (rowOver prev) weight (opp l) 1 cols)
 
--- the tail's next row, written where its variables and those of the row before it are at most 2 ^ 30
+-- the tail's next row, written where its variables are above 0, and they and those of the row before it are below 2 ^ 30
 abbrev pub rowsFit : ℕ → World → Bool
-rowsFit cols w = leb (w .prev + cols) 1073741824 && leb (w .row + cols) 1073741824
+rowsFit cols w = leb 1 (w .row) && leb (w .prev + cols) 1073741824 && leb (w .row + cols) 1073741824
 
 abbrev pub nextRow : ℕ → World → World
 nextRow cols w =

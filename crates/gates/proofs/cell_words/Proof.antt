@@ -1,175 +1,132 @@
-use mathlib.Core.Path.{_≡_, refl}
+use mathlib.Core.Path.{refl}
 use Prim.Native.Nat.{_+_}
-use lib.ListN.{length}
 use Rattle.gates.specs.Literals.{Variable}
 use native.Mathlib.Omega.{arith}
 use Rattle.gates.specs.Blocks.{stored, start-block, none-block, least-block, both-block}
 use borrow.Author.Needs.{needs}
 use Rattle.gates.proofs.cell_words.Statement.{statement}
 use Rattle.gates.proofs.cell_words.Tie as tie
-use Rattle.gates.proofs.cell_words.Reads as reads
-use Rattle.gates.proofs.cell_words.Lts as lts
-use Rattle.gates.proofs.opposite.Reads as opposite-reads
 
--- src/lib.rt:34:18
 add-c : tie.Need-add-c
 add-c c = search needs
 
--- src/lib.rt:34:13
 mul-c : tie.Need-mul-c
 mul-c c = search needs
 
--- src/lib.rt:35:15
 add-yes : tie.Need-add-yes
 add-yes c = search needs
 
--- src/lib.rt:36:14
 add-no : tie.Need-add-no
 add-no c = search needs
 
--- src/lib.rt:36:14
 add-no-2 : tie.Need-add-no-2
 add-no-2 c = search needs
 
--- src/lib.rt:39:24
 opposite-requires : tie.Need-opposite-requires
 opposite-requires c κs = search needs
 
--- src/lib.rt:39:13
 element-write-block : tie.Need-element-write-block
 element-write-block c = search needs
 
--- src/lib.rt:40:13
 element-write-block-2 : tie.Need-element-write-block-2
 element-write-block-2 c = search needs
 
--- src/lib.rt:41:13
 element-write-block-3 : tie.Need-element-write-block-3
 element-write-block-3 c = search needs
 
--- src/lib.rt:42:13
 element-write-block-4 : tie.Need-element-write-block-4
 element-write-block-4 c = search needs
 
--- src/lib.rt:43:13
 returns : tie.Need-returns
 returns c =
     let o : Variable (c .before .before .before .args .first + c .before .before .before .args .j) = record { some = omega arith; small = omega arith } in
     stored (c .before .before .before .args .block .now) (omega arith) (start-block (c .before .before .before .pre .0) o (c .opposite .ensures) (c .before .before .if1 .taken) (c .before .if2 .taken))
 
--- src/lib.rt:45:9
 element-write-block-5 : tie.Need-element-write-block-5
 element-write-block-5 c = search needs
 
--- src/lib.rt:46:9
 element-write-block-6 : tie.Need-element-write-block-6
 element-write-block-6 c = search needs
 
--- src/lib.rt:47:9
 element-write-block-7 : tie.Need-element-write-block-7
 element-write-block-7 c = search needs
 
--- src/lib.rt:48:9
 returns-2 : tie.Need-returns-2
 returns-2 c =
     let o : Variable (c .before .before .args .first + c .before .before .args .j) = record { some = omega arith; small = omega arith } in
     stored (c .before .before .args .block .now) (omega arith) (none-block (c .before .before .pre .0) o refl (c .before .if1 .taken) (c .if2 .left))
 
--- src/lib.rt:50:18
 add-a : tie.Need-add-a
 add-a c = search needs
 
--- src/lib.rt:50:13
 mul-a : tie.Need-mul-a
 mul-a c = search needs
 
--- src/lib.rt:51:16
 add-block : tie.Need-add-block
 add-block c = search needs
 
--- src/lib.rt:51:5
 element-write-block-8 : tie.Need-element-write-block-8
 element-write-block-8 c = search needs
 
--- src/lib.rt:52:5
 element-write-block-9 : tie.Need-element-write-block-9
 element-write-block-9 c = search needs
 
--- src/lib.rt:53:16
 opposite-requires-2 : tie.Need-opposite-requires-2
 opposite-requires-2 c κs = search needs
 
--- src/lib.rt:53:5
 element-write-block-10 : tie.Need-element-write-block-10
 element-write-block-10 c = search needs
 
--- src/lib.rt:55:9
 element-write-block-11 : tie.Need-element-write-block-11
 element-write-block-11 c = search needs
 
--- src/lib.rt:56:9
 element-write-block-12 : tie.Need-element-write-block-12
 element-write-block-12 c = search needs
 
--- src/lib.rt:57:9
 element-write-block-13 : tie.Need-element-write-block-13
 element-write-block-13 c = search needs
 
--- src/lib.rt:58:9
 element-write-block-14 : tie.Need-element-write-block-14
 element-write-block-14 c = search needs
 
--- src/lib.rt:59:9
 returns-3 : tie.Need-returns-3
 returns-3 c =
     let o : Variable (c .before .before .before .args .first + c .before .before .before .args .j) = record { some = omega arith; small = omega arith } in
     stored (c .before .before .before .args .block .now) (omega arith) (least-block (c .before .before .before .pre .0) o (c .before .opposite2 .ensures) (c .before .before .if1 .left) (c .before .before .before .pre .3) (c .if3 .taken))
 
--- src/lib.rt:61:18
 add-b : tie.Need-add-b
 add-b c = search needs
 
--- src/lib.rt:61:13
 mul-b : tie.Need-mul-b
 mul-b c = search needs
 
--- src/lib.rt:62:16
 add-block-2 : tie.Need-add-block-2
 add-block-2 c = search needs
 
--- src/lib.rt:62:5
 element-write-block-15 : tie.Need-element-write-block-15
 element-write-block-15 c = search needs
 
--- src/lib.rt:63:5
 element-write-block-16 : tie.Need-element-write-block-16
 element-write-block-16 c = search needs
 
--- src/lib.rt:64:5
 element-write-block-17 : tie.Need-element-write-block-17
 element-write-block-17 c = search needs
 
--- src/lib.rt:65:5
 element-write-block-18 : tie.Need-element-write-block-18
 element-write-block-18 c = search needs
 
--- src/lib.rt:66:5
 element-write-block-19 : tie.Need-element-write-block-19
 element-write-block-19 c = search needs
 
--- src/lib.rt:67:5
 element-write-block-20 : tie.Need-element-write-block-20
 element-write-block-20 c = search needs
 
--- src/lib.rt:68:5
 element-write-block-21 : tie.Need-element-write-block-21
 element-write-block-21 c = search needs
 
--- src/lib.rt:69:5
 element-write-block-22 : tie.Need-element-write-block-22
 element-write-block-22 c = search needs
 
--- src/lib.rt:30:1
 returns-4 : tie.Need-returns-4
 returns-4 c =
     let o : Variable (c .before .before .before .args .first + c .before .before .before .args .j) = record { some = omega arith; small = omega arith } in

@@ -9,9 +9,6 @@ use Rattle.sink.specs.World.{world, step}
 use Rattle.gates.specs.Rows.{counterFrom, counter-turn, counter-end, rows-left}
 use Rattle.gates.proofs.write_counter.Statement.{statement}
 use Rattle.gates.proofs.write_counter.Tie as tie
-use Rattle.gates.proofs.write_counter.Reads as reads
-use Rattle.gates.proofs.write_counter.Lts as lts
-use Rattle.gates.proofs.write_row.Reads as write-row-reads
 
 abbrev Inv-loop : tie.InvT-loop
 Inv-loop job model text₀ words₀ lits first cols z₀ prev₀ next₀ i₀ i-end text words z prev next i =
@@ -22,19 +19,15 @@ Inv-loop job model text₀ words₀ lits first cols z₀ prev₀ next₀ i₀ i-
 abbrev μ-loop : tie.MeasureT-loop
 μ-loop job model text₀ words₀ lits first cols z₀ prev₀ next₀ i₀ i-end text words z prev next i = i-end - i
 
--- src/lib.rt:105:5
 loop-holds : tie.Need-loop-holds Inv-loop μ-loop
 loop-holds c = (omega arith, refl, refl, refl, c .before .before .before .before .pre .1, omega arith, simp sub-zero (c .before .before .before .before .pre .2), todo-start)
 
--- src/lib.rt:106:51
 mul-write-row : tie.Need-mul-write-row Inv-loop μ-loop
 mul-write-row c = search needs
 
--- src/lib.rt:106:51
 shared-slice-read-write-row : tie.Need-shared-slice-read-write-row Inv-loop μ-loop
 shared-slice-read-write-row c = search needs
 
--- src/lib.rt:106:9
 write-row-requires : tie.Need-write-row-requires Inv-loop μ-loop
 write-row-requires c κs =
     let l = c .before .before .before .before .loop in
@@ -42,21 +35,17 @@ write-row-requires c κs =
     let e = rows-left (length (c .before .before .before .before .before .before .before .before .before .args .lits .now)) (l .i) (c .before .before .before .before .before .before .before .before .before .args .cols) i in
     (c .before .before .before .before .before .before .before .before .before .pre .0 (l .i) i, omega arith, omega arith, omega arith)
 
--- src/lib.rt:108:9
 add-next : tie.Need-add-next Inv-loop μ-loop
 add-next c =
     let l = c .before .before .before .before .before .before .before .before .before .loop in
     omega (arith, rows-left (length (c .before .before .before .before .before .before .before .before .before .before .before .before .before .before .args .lits .now)) (l .i) (c .before .before .before .before .before .before .before .before .before .before .before .before .before .before .args .cols) (omega arith))
 
--- src/lib.rt:105:9
 add-i : tie.Need-add-i Inv-loop μ-loop
 add-i c = search needs
 
--- src/lib.rt:105:5
 loop-less : tie.Need-loop-less Inv-loop μ-loop
 loop-less c = search needs
 
--- src/lib.rt:105:5
 loop-again : tie.Need-loop-again Inv-loop μ-loop
 loop-again c =
     let l = c .before .before .before .before .before .before .before .before .before .loop in
@@ -73,15 +62,12 @@ loop-again c =
       todo-turn (counter-turn (a .cols) (l .prev) (l .next) (a .lits .now) (l .i) (l .inv .4) i) (l .inv .7) (c .before .before .before .before .write-row .ensures),
     )
 
--- src/lib.rt:97:1
 same-length : tie.Need-same-length Inv-loop μ-loop
 same-length c = search needs
 
--- src/lib.rt:97:1
 same-length-2 : tie.Need-same-length-2 Inv-loop μ-loop
 same-length-2 c = search needs
 
--- src/lib.rt:97:1
 returns : tie.Need-returns Inv-loop μ-loop
 returns c =
     let l = c .before .loop in

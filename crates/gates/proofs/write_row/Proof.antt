@@ -1,16 +1,13 @@
 use mathlib.Core.Path.{_≡_, refl, sym}
-use Prim.Native.Nat.{_-_, _≤_, _<_}
+use Prim.Native.Nat.{_-_, _≤_}
 use native.Mathlib.Omega.{arith}
 use borrow.Author.Needs.{needs}
 use lib.ListN.{length}
-use Rattle.sink.specs.Run.{Todo, todo-start, todo-step, todo-end, same, todo-turn, todo-done}
+use Rattle.sink.specs.Run.{Todo, todo-start, same, todo-turn, todo-done}
 use Rattle.sink.specs.World.{world, step}
 use Rattle.gates.specs.Rows.{rowFrom, row-start, row-turn, row-end}
 use Rattle.gates.proofs.write_row.Statement.{statement}
 use Rattle.gates.proofs.write_row.Tie as tie
-use Rattle.gates.proofs.write_row.Reads as reads
-use Rattle.gates.proofs.write_row.Lts as lts
-use Rattle.gates.proofs.write_cell.Reads as write-cell-reads
 
 abbrev Inv-loop : tie.InvT-loop
 Inv-loop job model text₀ words₀ x w prev first cols z₀ j₀ text words z j =
@@ -20,23 +17,18 @@ Inv-loop job model text₀ words₀ x w prev first cols z₀ j₀ text words z j
 abbrev μ-loop : tie.MeasureT-loop
 μ-loop job model text₀ words₀ x w prev first cols z₀ j₀ text words z j = cols - j
 
--- src/lib.rt:90:5
 loop-holds : tie.Need-loop-holds Inv-loop μ-loop
 loop-holds c = (omega arith, refl, refl, todo-start)
 
--- src/lib.rt:91:9
 write-cell-requires : tie.Need-write-cell-requires Inv-loop μ-loop
 write-cell-requires c κs = (c .before .before .before .before .before .before .before .pre .0, omega arith, omega arith, omega arith)
 
--- src/lib.rt:90:9
 add-j : tie.Need-add-j Inv-loop μ-loop
 add-j c = search needs
 
--- src/lib.rt:90:5
 loop-less : tie.Need-loop-less Inv-loop μ-loop
 loop-less c = search needs
 
--- src/lib.rt:90:5
 loop-again : tie.Need-loop-again Inv-loop μ-loop
 loop-again c =
     let l = c .before .before .before .before .before .before .before .before .loop in
@@ -47,15 +39,12 @@ loop-again c =
       todo-turn (row-turn (a .x) (a .w) (a .prev) (a .first) (a .cols) (l .j) (c .before .before .before .before .before .before .before .loop-test .taken)) (l .inv .3) (c .before .before .before .before .write-cell .ensures),
     )
 
--- src/lib.rt:84:1
 same-length : tie.Need-same-length Inv-loop μ-loop
 same-length c = search needs
 
--- src/lib.rt:84:1
 same-length-2 : tie.Need-same-length-2 Inv-loop μ-loop
 same-length-2 c = search needs
 
--- src/lib.rt:84:1
 returns : tie.Need-returns Inv-loop μ-loop
 returns c =
     let a = c .before .before .before .before .before .args in
