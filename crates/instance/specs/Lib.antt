@@ -8,3 +8,4 @@ pub mod File
 pub mod Start
 pub mod Ladder
 pub mod Checked
+pub mod Laws

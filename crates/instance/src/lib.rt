@@ -1,8 +1,10 @@
 // The instance file: its tables filled, its constraints checked one by one, refusals 1 to 6 in file order.
+mod answer;
 mod check;
 mod length;
 mod reader;
 mod walk;
 
+pub use answer::read_instance;
 pub use reader::File;
 pub use reader::read;

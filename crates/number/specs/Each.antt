@@ -2,7 +2,7 @@
 use Prim.Native.Nat.{ℕ, zero, suc, _+_, _≤_, _<_}
 use mathlib.Core.Path.{_≡_, refl}
 use mathlib.Core.List.{List, [], _∷_, _++_}
-use lib.ListN.{length, getD}
+use lib.ListN.{length, getD, drop}
 use native.Mathlib.Nat.{not-suc-le-zero, le-of-suc-le-suc}
 use native.Mathlib.Omega.{arith}
 use Rattle.scope.specs.Parsed.{Parsed, got, refused, andThen, cons, repeat}
@@ -33,6 +33,12 @@ pub each-at : {A : Type 0} {P : A → Type 0} {xs : List A} (i : ℕ) (d : A) �
 each-at i d each-none h = elim (not-suc-le-zero h) [ ]
 each-at zero d (each-more p ps) h = p
 each-at (suc i) d (each-more p ps) h = each-at i d ps (le-of-suc-le-suc h)
+
+-- of what is left after i members
+pub each-drop : {A : Type 0} {P : A → Type 0} {xs : List A} (i : ℕ) → Each P xs → Each P (drop i xs)
+each-drop zero e = e
+each-drop (suc i) each-none = each-none
+each-drop (suc i) (each-more p ps) = each-drop i ps
 
 -- one property from another
 pub each-map : {A : Type 0} {P Q : A → Type 0} {xs : List A} → ((x : A) → P x → Q x) → Each P xs → Each Q xs

@@ -113,3 +113,16 @@ repeat-same (suc n) f g at h =
     rw (h at)
     (after-same (g at) (λ a next. cons a (repeat n f next)) (λ a next. cons a (repeat n g next))
     (λ a next. ap (cons a) (repeat-same n f g next h)))
+
+-- and a reading that gets all that another got, gets all that the other repeated got
+pub repeat-also : {A : Type 0} (n : ℕ) (f g : ℕ → Parsed A) (at : ℕ) {xs : List A} {end : ℕ}
+    → ((at : ℕ) (a : A) (next : ℕ) → f at ≡ got a next → g at ≡ got a next)
+    → repeat n f at ≡ got xs end
+    → repeat n g at ≡ got xs end
+unfolding repeat
+repeat-also zero f g at h e = e
+repeat-also (suc n) f g at {xs} {end} h e =
+    let p = andThen-got (f at) (λ a next. cons a (repeat n f next)) e in
+    let q = cons-got (p .value) (repeat n f (p .next)) (p .rest) in
+    rw (h at (p .value) (p .next) (p .first), repeat-also n f g (p .next) h (q .rest))
+    (sym (ap (λ (ys : List _). got ys end) (q .whole)))

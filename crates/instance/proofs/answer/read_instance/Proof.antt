@@ -1,0 +1,51 @@
+-- `instance::answer::read_instance` meets its contract: the stores are long enough, and each case of `read` is a case of the answer.
+use borrow.Author.Needs.{needs}
+use mathlib.Core.Path.{refl}
+use Rattle.instance.specs.Laws.{accepted, accepted-answer, refused-answer}
+use Rattle.instance.proofs.answer.read_instance.Statement.{statement}
+use Rattle.instance.proofs.answer.read_instance.Tie as tie
+
+slice-aggregate-read : tie.Need-slice-aggregate-read
+slice-aggregate-read c = search needs
+
+slice-aggregate-read-2 : tie.Need-slice-aggregate-read-2
+slice-aggregate-read-2 c = search needs
+
+slice-aggregate-read-3 : tie.Need-slice-aggregate-read-3
+slice-aggregate-read-3 c = search needs
+
+slice-aggregate-read-4 : tie.Need-slice-aggregate-read-4
+slice-aggregate-read-4 c = search needs
+
+read-requires : tie.Need-read-requires
+read-requires c κs =
+    record { tables = record { durations-long = refl; resources-long = refl; groups-long = refl }; list-long = refl }
+
+enum-known-f : tie.Need-enum-known-f
+enum-known-f c = search needs
+
+enum-known-f-2 : tie.Need-enum-known-f-2
+enum-known-f-2 c = search needs
+
+returns : tie.Need-returns
+returns c =
+    let r = c .before .before .before .before .before .before .before .read in
+    accepted-answer (accepted _ (r .last .1 .0) (r .last .1 .1 .0) (r .last .1 .1 .1 .0) _ (rw (c .before .f .given .1) at (r .ensures)))
+
+returns-2 : tie.Need-returns-2
+returns-2 c =
+    refused-answer _ (rw (c .before .f2 .given .1) at (c .before .before .before .before .before .before .before .read .ensures))
+
+pub read-instance-spec : {M : Type 1} → statement M
+read-instance-spec =
+    tie.close
+    (tie.spec
+    slice-aggregate-read
+    slice-aggregate-read-2
+    slice-aggregate-read-3
+    slice-aggregate-read-4
+    read-requires
+    enum-known-f
+    enum-known-f-2
+    returns
+    returns-2)
