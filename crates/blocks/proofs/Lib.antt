@@ -1,0 +1,2 @@
+pub mod EventStart
+pub mod ResourceUse

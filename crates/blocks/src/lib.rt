@@ -1,0 +1,6 @@
+// The blocks of the formula before its constraints: starts, uses, durations.
+mod starts;
+mod uses;
+
+pub use starts::write_starts;
+pub use uses::write_uses;
