@@ -1,0 +1,108 @@
+-- The lines of a counted list: its counter, its low part, its high part.
+use mathlib.Core.Path.{_≡_, refl, ap, _∙_, sym}
+use mathlib.Core.Bool.{Bool, true, false, cond}
+use mathlib.Core.List.{List, [], _∷_, _++_, map}
+use Prim.Native.Nat.{ℕ, zero, suc, _+_, _-_, _*_, _≤_, _<_}
+use native.Mathlib.Nat.{mul-le-mul-right}
+use native.Mathlib.Omega.{arith}
+use lib.ListN.{length, length-append}
+use Rattle.scope.specs.Kinds.{Rule, from}
+use Rattle.scope.specs.Cnf.{Gate, Item, gate, gates}
+use Rattle.scope.specs.Formula.{noRow, rowAt, row, counter, lastRow, ones, lowUnits, highUnits, shortUnits, boundItems, countInto}
+use Rattle.sink.specs.Lines.{Line, lines, lines-append}
+use Rattle.sink.specs.Tails.{row-length, lastFirst, last-at, last-row}
+use Rattle.sink.specs.World.{rowOver}
+use Rattle.gates.specs.Rows.{gates-map}
+use Rattle.gates.specs.Units.{unitLine}
+use Rattle.counts.specs.UnitLines.{unitsFrom, low-hard, low-soft, high-none, high-any}
+use Rattle.counts.specs.declared.Bounds.{Bounds}
+
+-- the rule of some bounds, without its list
+abbrev pub ruleOf : Bounds → Rule
+ruleOf b = record { lo = b .lo; hi = b .hi; zeroFree = b .free; list = [] }
+
+-- a rule's list does not matter for its counter and its units
+pub count-same : (J w : ℕ) (r : Rule) (b : Bounds) (xs : List ℕ) (v : ℕ) → r .lo ≡ b .lo → r .hi ≡ b .hi → r .zeroFree ≡ b .free
+    → countInto J w r xs v ≡ countInto J w (ruleOf b) xs v
+unfolding countInto boundItems
+count-same J w r b xs v e f g = rw (e, f, g)
+
+-- the low part, from the variable v on
+unfoldable pub lowItems : ℕ → Bounds → (ℕ → ℕ) → ℕ → List Item
+lowItems w b q v = cond (b .free) (shortUnits w q 2 (b .lo - 1) v) (lowUnits w q (b .lo))
+
+-- how many variables a counter has
+pub counter-length : (p : ℕ → ℕ) (xs : List ℕ) (J v : ℕ) → length (counter p (ones xs) J v) ≡ length xs * J
+unfolding counter
+counter-length p [] J v = omega arith
+counter-length p (x ∷ xs) J v =
+    length-append (row p 1 x 1 J) (counter (rowAt v) (ones xs) J (v + J))
+    ∙ rw (row-length p 1 x 1 J, counter-length (rowAt v) xs J (v + J)) (omega arith)
+
+ones-length : (xs : List ℕ) → length (ones xs) ≡ length xs
+ones-length [] = refl
+ones-length (x ∷ xs) = ap suc (ones-length xs)
+
+-- the first variable of a counter's last row, where it has one
+pub counter-last : (xs : List ℕ) (J v : ℕ) → 1 ≤ length xs → 1 ≤ v → lastRow noRow (ones xs) J v ≡ rowOver (v + (length xs - 1) * J)
+counter-last [] J v h g = absurd (omega arith)
+counter-last (x ∷ xs) J v h g =
+    let n : suc (length xs) - 1 ≡ length xs = omega arith in
+    last-row J 0 v (ones (x ∷ xs)) g ∙ rw (ones-length xs, last-at J 0 v (length xs), n)
+
+-- no low part where lo is 0
+low-nothing : (w : ℕ) (b : Bounds) (q : ℕ → ℕ) (v : ℕ) → b .lo ≡ 0 → lowItems w b q v ≡ []
+unfolding lowItems shortUnits lowUnits from
+low-nothing w b q v z = rw z (go w (b .free))
+  where
+    go : (w : ℕ) (t : Bool) → cond t (shortUnits w q 2 (0 - 1) v) (lowUnits w q 0) ≡ []
+    go w true = refl
+    go zero false = refl
+    go (suc u) false = refl
+
+-- the last row starts among the counter's variables
+pub last-within : (n k : ℕ) → (n - 1) * k ≤ n * k
+last-within n k = mul-le-mul-right k (omega arith)
+
+-- the lines of the low part by cases
+module _ (w : ℕ) (b : Bounds) (q : ℕ → ℕ) (v : ℕ) where
+  pub low-zero : b .lo ≡ 0 → lines v (lowItems w b q v) ≡ []
+  unfolding lines
+  low-zero z = rw (low-nothing w b q v z)
+
+  pub low-free : b .free ≡ true → lines v (lowItems w b q v) ≡ lines v (shortUnits w q 2 (b .lo - 1) v)
+  unfolding lowItems
+  low-free e = rw e
+
+  pub low-unit : b .free ≡ false → w ≡ 0 → 1 ≤ b .lo → lines v (lowItems w b q v) ≡ unitLine w (q (b .lo)) ∷ []
+  unfolding lowItems
+  low-unit e z h = rw e (low-hard v w q (b .lo) z h)
+
+  pub low-units : b .free ≡ false → (w ≡ 0 → ⊥) → lines v (lowItems w b q v) ≡ unitsFrom w q 1 (b .lo)
+  unfolding lowItems
+  low-units e z = rw e (low-soft v w q (b .lo) z)
+
+-- a list without members
+pub count-none : (J w : ℕ) (b : Bounds) (xs : List ℕ) (v : ℕ) → length xs ≡ 0 → b .lo ≡ 0 → lines v (countInto J w (ruleOf b) xs v) ≡ []
+unfolding countInto boundItems counter lastRow lowItems
+count-none J w b [] v e z =
+    let n : v + 0 * J ≡ v = omega arith in
+    rw (n, low-nothing w b noRow v z) (high-none v w noRow (b .hi) 0 (omega arith))
+count-none J w b (x ∷ xs) v e z = absurd (omega arith)
+
+module _ (J w : ℕ) (b : Bounds) (xs : List ℕ) (v : ℕ) where
+  -- the three parts
+  pub count-lines : (q : ℕ) → 1 ≤ length xs → 1 ≤ v → q ≡ v + (length xs - 1) * J
+      → lines v (countInto J w (ruleOf b) xs v)
+      ≡ lines v (map gate (counter noRow (ones xs) J v))
+      ++ (lines (v + length xs * J) (lowItems w b (rowOver q) (v + length xs * J)) ++ lines 0 (highUnits w (rowOver q) (b .hi) (length xs)))
+  unfolding countInto boundItems lowItems
+  count-lines q h g e =
+      let n : gates (map gate (counter noRow (ones xs) J v)) ≡ length xs * J = gates-map (counter noRow (ones xs) J v) ∙ counter-length noRow xs J v in
+      let low : List Item = cond (b .free) (shortUnits w (rowOver q) 2 (b .lo - 1) (v + length xs * J)) (lowUnits w (rowOver q) (b .lo)) in
+      let high : List Item = highUnits w (rowOver q) (b .hi) (length xs) in
+      rw (counter-last xs J v h g, ← e)
+      (lines-append v (map gate (counter noRow (ones xs) J v)) (low ++ high)
+      ∙ rw n (ap (_++_ (lines v (map gate (counter noRow (ones xs) J v))))
+      (lines-append (v + length xs * J) low high
+      ∙ ap (_++_ (lines (v + length xs * J) low)) (high-any (v + length xs * J + gates low) 0 w (rowOver q) (b .hi) (length xs)))))

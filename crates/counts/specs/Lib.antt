@@ -1,0 +1,2 @@
+pub mod UnitLines
+pub mod CountLines
