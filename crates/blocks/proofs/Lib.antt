@@ -1,2 +1,3 @@
 pub mod EventStart
 pub mod ResourceUse
+pub mod EventDuration

@@ -4,7 +4,7 @@ use mathlib.Core.List.{List, [], _∷_, _++_, map, flatMap}
 use Prim.Native.Nat.{ℕ, zero, suc, _+_, _-_, _*_, _≤_, _<_}
 use native.Mathlib.Omega.{arith}
 use lib.ListN.{length, take, length-map}
-use Rattle.scope.specs.Kinds.{from, upTo}
+use Rattle.scope.specs.Kinds.{upTo}
 use Rattle.scope.specs.Cnf.{Gate, or, Item, gate, gates}
 use Rattle.number.specs.Each.{Each}
 use Rattle.sink.specs.Run.{Ran}
@@ -18,7 +18,7 @@ use Rattle.literals.specs.Proper.{events-proper}
 use Rattle.literals.specs.Numbered.{useGates}
 use Rattle.items.specs.Held.{held-literals}
 use Rattle.items.specs.Written.{Wrote}
-use Rattle.items.specs.Numbers.{after, after-start, map-turn, map-end, flat-turn, flat-end}
+use Rattle.items.specs.Numbers.{length-upTo, after, after-start, map-turn, map-end, flat-turn, flat-end}
 
 -- Y of some events at a time
 abbrev pub ysAt : (T : ℕ) (us : List ℕ) (t : ℕ) → List ℕ
@@ -50,14 +50,9 @@ module _ (T : ℕ) (us : List ℕ) where
     use-wrote v r = record { ran = rw (h .front) at r; next = omega arith }
 
   -- a resource's variables are as many as the times
-  length-from : (n k : ℕ) → length (from n k) ≡ k
-  unfolding from
-  length-from n zero = refl
-  length-from n (suc k) = ap suc (length-from (suc n) k)
-
   uses-gates : gates (map gate (useGates T us)) ≡ T
   unfolding useGates
-  uses-gates = gates-map (map (λ t. or (ysAt T us t)) (upTo T)) ∙ length-map (upTo T) (λ t. or (ysAt T us t)) ∙ length-from 1 T
+  uses-gates = gates-map (map (λ t. or (ysAt T us t)) (upTo T)) ∙ length-map (upTo T) (λ t. or (ysAt T us t)) ∙ length-upTo T
 
   -- those of the users gathered in a list
   pub resource-wrote : {f : Line → World → World} (v : ℕ) {words : List ℕ} {m : ℕ} {w w′ : World}

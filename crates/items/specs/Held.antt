@@ -10,6 +10,10 @@ use Rattle.literals.specs.Words.{Holds}
 use Rattle.literals.specs.Proper.{Proper}
 use Rattle.gates.specs.Literals.{Literal, LiteralsTo, Literals, literals-take}
 
+-- as many as were gathered
+pub held-length : {words : List ℕ} {n : ℕ} {xs : List ℕ} → Holds words n xs → length (take n words) ≡ n
+held-length h = ap length (h .front) ∙ sym (h .count)
+
 module _ {words : List ℕ} {n : ℕ} {xs : List ℕ} (h : Holds words n xs) (p : Each Proper xs) where
   -- the first n words are literals
   pub held-literals : LiteralsTo n words

@@ -5,7 +5,17 @@ use Prim.Native.Nat.{ℕ, zero, suc, _+_, _-_, _≤_, _<_}
 use native.Mathlib.Nat.{sub-zero}
 use native.Mathlib.Numerals.{add-one}
 use native.Mathlib.Omega.{arith}
+use lib.ListN.{length}
 use Rattle.scope.specs.Kinds.{from, upTo}
+
+-- there are n numbers up to n
+length-from : (n k : ℕ) → length (from n k) ≡ k
+unfolding from
+length-from n zero = refl
+length-from n (suc k) = ap suc (length-from (suc n) k)
+
+pub length-upTo : (n : ℕ) → length (upTo n) ≡ n
+length-upTo n = length-from 1 n
 
 unfoldable pub after : (n i : ℕ) → List ℕ
 after n i = from (i + 1) (n - i)

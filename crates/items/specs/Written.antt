@@ -15,10 +15,10 @@ gates-both (gate g ∷ is) js = omega (arith, gates-both is js)
 gates-both (hard c ∷ is) js = gates-both is js
 gates-both (soft w l ∷ is) js = gates-both is js
 
--- the items' variables, from v on, are below 2 ^ 30
+-- the items' variables, from v on, are at most 8,000,000
 pub record Room (v : ℕ) (is : List Item) : Type 0 where
   pub some : 1 ≤ v
-  pub small : v + gates is ≤ 1073741824
+  pub small : v + gates is ≤ 8000001
 
 -- the items is were run from the variable v on, and n is the variable after theirs
 pub record Wrote (f : Line → World → World) (v : ℕ) (is : List Item) (w w′ : World) (n : ℕ) : Type 0 where
