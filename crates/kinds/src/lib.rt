@@ -1,0 +1,6 @@
+// The clauses of a constraint, by its kind: the gates that it adds, the literals that it counts, its counter and bounds.
+mod counted;
+mod ors;
+
+pub use counted::gather;
+pub use ors::write_ors;
