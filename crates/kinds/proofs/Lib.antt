@@ -1,3 +1,4 @@
 pub mod Lengths
 pub mod Cases
 pub mod GroupUses
+pub mod IdleTimes

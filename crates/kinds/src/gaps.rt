@@ -1,0 +1,88 @@
+// Kind 8's gates.
+use crate::counted::cells;
+use constraint::Head;
+use items::Written;
+use sink::Job;
+use sink::Sink;
+ghost use mathlib.Core.Path.{_≡_};
+ghost use mathlib.Core.List.{map, [], _∷_};
+ghost use Prim.Native.Nat.{_+_, _-_, _*_, _≤_, _<_};
+ghost use lib.ListN.{length, take, drop};
+ghost use Rattle.scope.specs.Cnf.{or, gate};
+ghost use Rattle.number.specs.Each.{Each};
+ghost use Rattle.number.specs.Lists.{leading};
+ghost use Rattle.constraint.specs.Valid.{OneOf};
+ghost use Rattle.sink.specs.Run.{Ran};
+ghost use Rattle.sink.specs.Lines.{lines};
+ghost use Rattle.sink.specs.World.{world, step};
+ghost use Rattle.gates.specs.Literals.{LiteralsTo};
+ghost use Rattle.literals.specs.Numbered.{xsOf, gapGates, idleGates};
+ghost use Rattle.literals.specs.Tables.{groupIn};
+ghost use Rattle.items.specs.Written.{Room, Wrote};
+ghost use Rattle.kinds.specs.Ground.{Ground, cellsOf};
+
+// G: the OR of the first k words of buf, which stays as it was.
+fn write_earlier(
+    job: Job,
+    model: &[u8],
+    text: &mut [u8],
+    words: &mut [u32],
+    s: Sink,
+    buf: &mut [u32],
+    k: usize,
+    o: u32,
+) -> Sink
+    requires { ⌜ LiteralsTo k (now buf) × ((k < length (now buf)) × (o < 1073741824)) ⌝ }
+    ensures { λ r. ⌜ Ran (step job (now (model .entry))) (lines o (gate (or (take k (now (buf .entry)))) ∷ []))
+        (world s (now (text .entry)) (now (words .entry))) (world r (now (text .exit)) (now (words .exit))) ⌝ }
+    ensures { λ r. ⌜ now (buf .exit) ≡ now (buf .entry) ⌝ }
+{
+    let x = buf[k];
+    let z = gates::write_or(job, model, text, words, s, buf, k, o);
+    buf[k] = x;
+    z
+}
+
+// H: the OR of the first n words of buf without a of them. They stay; the word after them does not.
+fn write_later(
+    job: Job,
+    model: &[u8],
+    text: &mut [u8],
+    words: &mut [u32],
+    s: Sink,
+    buf: &mut [u32],
+    a: usize,
+    n: usize,
+    o: u32,
+) -> Sink
+    requires { ⌜ LiteralsTo n (now buf) × ((a ≤ n) × ((n < length (now buf)) × (o < 1073741824))) ⌝ }
+    ensures { λ r. ⌜ Ran (step job (now (model .entry))) (lines o (gate (or (drop a (take n (now (buf .entry))))) ∷ []))
+        (world s (now (text .entry)) (now (words .entry))) (world r (now (text .exit)) (now (words .exit))) ⌝ }
+    ensures { λ r. ⌜ take n (now (buf .exit)) ≡ take n (now (buf .entry)) ⌝ }
+{
+    gates::write_or(job, model, text, words, s, &mut buf[a..], n - a, o)
+}
+
+// G, H and I of member k of a group, whose X are the first n words of buf. These stay; the word after them does not.
+fn write_gap(
+    job: Job,
+    model: &[u8],
+    text: &mut [u8],
+    words: &mut [u32],
+    s: Sink,
+    buf: &mut [u32],
+    n: usize,
+    k: usize,
+    v: u32,
+) -> Sink
+    requires { ⌜ LiteralsTo n (now buf) × ((k < n) × ((n < length (now buf)) × ((1 ≤ v) × (v ≤ 8000001)))) ⌝ }
+    ensures { λ r. ⌜ Ran (step job (now (model .entry))) (lines v (map gate (gapGates (take n (now (buf .entry))) k 1 v)))
+        (world s (now (text .entry)) (now (words .entry))) (world r (now (text .exit)) (now (words .exit))) ⌝ }
+    ensures { λ r. ⌜ take n (now (buf .exit)) ≡ take n (now (buf .entry)) ⌝ }
+{
+    let x = buf[k];
+    let a = write_earlier(job, model, text, words, s, buf, k, v);
+    let b = write_later(job, model, text, words, a, buf, k + 1, n, v + 1);
+    gates::write_idling(job, model, text, words, b, x, 2 * v, 2 * (v + 1), v + 2)
+}
+
