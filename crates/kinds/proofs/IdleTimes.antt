@@ -11,8 +11,10 @@ use Rattle.sink.specs.Run.{Ran}
 use Rattle.sink.specs.Lines.{Line, lines, map-append}
 use Rattle.sink.specs.World.{World}
 use Rattle.gates.specs.Literals.{LiteralsTo}
+use Rattle.gates.specs.Rows.{gates-map}
 use Rattle.literals.specs.Numbered.{gapGates}
 use Rattle.items.specs.Written.{Wrote, wrote-then}
+use Rattle.kinds.proofs.Lengths.{length-gaps}
 
 -- a word that was put back
 pub put-back : (b : List ℕ) (k y : ℕ) → set (set b k y) k (getD b k 0) ≡ b
@@ -51,11 +53,6 @@ module _ (b : List ℕ) (a n : ℕ) (h : a ≤ n) (l : n < length b) where
       (take-append-le (n - a) (set part (n - a) y) (drop (length b - a) (drop a b)) r
       ∙ take-set-le (n - a) part (n - a) y (omega arith) ∙ ap (take (n - a)) all-of))
 
--- one gate written
-gate-wrote : {f : Line → World → World} {v m : ℕ} {is : List Item} {w w′ : World}
-    → Ran f (lines v is) w w′ → m ≡ v + gates is → Wrote f v is w w′ m
-gate-wrote r e = record { ran = r; next = e }
-
 -- G, H and I of member k
 module _ {f : Line → World → World} (b : List ℕ) (n k v : ℕ) {w₀ w₁ w₂ w₃ : World} where
   pub gap-ran : k < n
@@ -85,3 +82,16 @@ module _ (xs : List ℕ) where
   pub gaps-end : (n k v : ℕ) → n ≤ k + 1 → gapsLeft n k v ≡ []
   unfolding gapGates
   gaps-end n k v h = let e : n - (k + 1) ≡ 0 = omega arith in rw e
+
+-- three gates for each, over words that stay
+pub gap-wrote : {f : Line → World → World} {xs : List ℕ} (b : List ℕ) (n k v : ℕ) {w w′ : World}
+    → take n b ≡ xs
+    → Ran f (lines v (map gate (gapGates (take n b) k 1 v))) w w′
+    → Wrote f v (map gate (gapGates xs k 1 v)) w w′ (v + 3)
+gap-wrote {xs = xs} b n k v e r =
+    record { ran = rw e at r; next = omega (arith, gates-map (gapGates xs k 1 v), length-gaps xs k 1 v) }
+
+pub same-literals : (b c : List ℕ) (n : ℕ) → take n b ≡ take n c → LiteralsTo n c → LiteralsTo n b
+same-literals b c n e f i h =
+    let k : getD b i 0 ≡ getD c i 0 = sym (getD-take n b i 0 h) ∙ ap (λ (l : List ℕ). getD l i 0) e ∙ getD-take n c i 0 h in
+    rw k (f i h)

@@ -86,3 +86,29 @@ fn write_gap(
     gates::write_idling(job, model, text, words, b, x, 2 * v, 2 * (v + 1), v + 2)
 }
 
+// Those of each member of a group but first and last.
+fn write_group_gaps(
+    job: Job,
+    model: &[u8],
+    text: &mut [u8],
+    words: &mut [u32],
+    s: Sink,
+    buf: &mut [u32],
+    n: usize,
+    v: u32,
+) -> Written
+    requires { ⌜ LiteralsTo n (now buf) × ((n < length (now buf)) × ((1 ≤ v) × (v + 3 * (n - 2) ≤ 8000001))) ⌝ }
+    ensures { λ r. ⌜ Wrote (step job (now (model .entry))) v (map gate (gapGates (take n (now (buf .entry))) 1 (n - 2) v))
+        (world s (now (text .entry)) (now (words .entry))) (world (r .sink) (now (text .exit)) (now (words .exit))) (r .next) ⌝ }
+{
+    let mut sink = s;
+    let mut next = v;
+    let mut k: usize = 1;
+    while k + 1 < n {
+        sink = write_gap(job, model, text, words, sink, buf, n, k, next);
+        next = next + 3;
+        k = k + 1;
+    }
+    Written { sink, next }
+}
+
