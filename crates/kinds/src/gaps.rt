@@ -112,3 +112,38 @@ fn write_group_gaps(
     Written { sink, next }
 }
 
+// Those of each of the first count groups of a list.
+pub fn write_gaps(
+    job: Job,
+    model: &[u8],
+    text: &mut [u8],
+    words: &mut [u32],
+    s: Sink,
+    head: Head,
+    resource: u32,
+    groups: &[u8],
+    list: &[u16],
+    count: u32,
+    v: u32,
+) -> Written
+    requires { ⌜ Ground (now groups) head × (OneOf (head .resources) resource × (Each (OneOf (head .groups)) (leading count (now list))
+        × ((count ≤ length (now list)) × Room v (map gate (idleGates (xsOf (head .times) (cellsOf head) (groupIn (now groups)) resource (leading count (now list))) v))))) ⌝ }
+    ensures { λ r. ⌜ Wrote (step job (now (model .entry))) v
+        (map gate (idleGates (xsOf (head .times) (cellsOf head) (groupIn (now (groups .entry))) resource (leading count (now (list .entry)))) v))
+        (world s (now (text .entry)) (now (words .entry))) (world (r .sink) (now (text .exit)) (now (words .exit))) (r .next) ⌝ }
+{
+    let mut buf = [0u32; 126];
+    let times = head.times;
+    let cells = cells(head);
+    let mut sink = s;
+    let mut next = v;
+    for i in 0..count {
+        let k = i as usize;
+        let g = list[k] as u32;
+        let n = literals::x_of_group(groups, g, times, cells, resource, &mut buf);
+        let w = write_group_gaps(job, model, text, words, sink, &mut buf, n, next);
+        sink = w.sink;
+        next = w.next;
+    }
+    Written { sink, next }
+}

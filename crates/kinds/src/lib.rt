@@ -4,4 +4,5 @@ mod gaps;
 mod ors;
 
 pub use counted::gather;
+pub use gaps::write_gaps;
 pub use ors::write_ors;

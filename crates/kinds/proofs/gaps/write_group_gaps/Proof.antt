@@ -55,7 +55,7 @@ loop-again c =
       omega (arith, l .inv .5),
       omega (arith, l .inv .6),
       left-turn (gaps-turn (take (a .n) (a .buf .now)) (a .n) (l .k) (l .next) (c .before .before .before .before .before .before .before .before .before .before .loop-test .taken)) (l .inv .7)
-      (gap-wrote (l .buf) (a .n) (l .k) (l .next) (l .inv .4) (w .0)),
+          (gap-wrote (l .buf) (a .n) (l .k) (l .next) (l .inv .4) (w .0)),
     )
 
 same-length : tie.Need-same-length Inv-loop μ-loop

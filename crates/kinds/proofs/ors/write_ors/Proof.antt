@@ -80,7 +80,7 @@ loop-again c =
       search needs,
       search needs,
       left-turn (ors-turn _ _ (groupIn (a .groups .now)) (a .resource) (a .list .now) (a .count) (l .i) (c .before .before .before .before .before .before .before .before .before .before .before .before .before .loop-test .taken)) (l .inv .4)
-      (or-wrote (a .v) (l .i) (c .before .before .before .before .before .before .before .before .before .before .x-of-group .ensures) (c .before .before .before .before .before .write-or .ensures .0)),
+          (or-wrote (a .v) (l .i) (c .before .before .before .before .before .before .before .before .before .before .x-of-group .ensures) (c .before .before .before .before .before .write-or .ensures .0)),
     )
 
 same-length : tie.Need-same-length Inv-loop μ-loop
