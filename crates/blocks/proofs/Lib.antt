@@ -1,0 +1,3 @@
+pub mod EventStart
+pub mod ResourceUse
+pub mod EventDuration

@@ -1,0 +1,78 @@
+-- X of a resource at a time as the writer of an OR gives it.
+use mathlib.Core.Path.{_≡_, refl, ap, _∙_, sym}
+use mathlib.Core.List.{List, [], _∷_, _++_, map, flatMap}
+use Prim.Native.Nat.{ℕ, zero, suc, _+_, _-_, _*_, _≤_, _<_}
+use native.Mathlib.Omega.{arith}
+use lib.ListN.{length, take, length-map}
+use Rattle.scope.specs.Kinds.{upTo}
+use Rattle.scope.specs.Cnf.{Gate, or, Item, gate, gates}
+use Rattle.number.specs.Each.{Each}
+use Rattle.sink.specs.Run.{Ran}
+use Rattle.sink.specs.Lines.{Line, lines, map-append}
+use Rattle.sink.specs.World.{World}
+use Rattle.gates.specs.Literals.{LiteralsTo}
+use Rattle.gates.specs.Rows.{gates-map}
+use Rattle.literals.specs.Variables.{yAt, Within}
+use Rattle.literals.specs.Words.{Holds}
+use Rattle.literals.specs.Proper.{events-proper}
+use Rattle.literals.specs.Numbered.{useGates}
+use Rattle.items.specs.Held.{held-literals}
+use Rattle.items.specs.Written.{Wrote}
+use Rattle.items.specs.Numbers.{length-upTo, after, after-start, map-turn, map-end, flat-turn, flat-end}
+
+-- Y of some events at a time
+abbrev pub ysAt : (T : ℕ) (us : List ℕ) (t : ℕ) → List ℕ
+ysAt T us t = map (λ e. yAt T e t) us
+
+-- the items of a resource at the times that are left
+abbrev pub usesLeft : (T : ℕ) (us : List ℕ) (t : ℕ) → List Item
+usesLeft T us t = map gate (map (λ t. or (ysAt T us t)) (after T t))
+
+module _ (T : ℕ) (us : List ℕ) where
+  pub uses-start : usesLeft T us 0 ≡ map gate (useGates T us)
+  unfolding useGates
+  uses-start = rw (after-start T)
+
+  pub uses-turn : (t : ℕ) → t < T → usesLeft T us t ≡ (gate (or (ysAt T us (t + 1))) ∷ []) ++ usesLeft T us (t + 1)
+  uses-turn t h = ap (map gate) (map-turn T t (λ t. or (ysAt T us t)) h)
+
+  pub uses-end : (t : ℕ) → T ≤ t → usesLeft T us t ≡ []
+  uses-end t h = ap (map gate) (map-end T t (λ t. or (ysAt T us t)) h)
+
+  -- the literals gathered for a time, and the OR over them
+  module _ {words : List ℕ} {m : ℕ} (t : ℕ) (h : Holds words m (ysAt T us (t + 1))) where
+    pub use-literals : Each (Within 1024) us → T ≤ 125 → t < T → LiteralsTo m words
+    use-literals a l k = held-literals h (events-proper T (t + 1) l (record { low = omega arith; high = omega arith }) a)
+
+    pub use-wrote : {f : Line → World → World} (v : ℕ) {w w′ : World}
+        → Ran f (lines (v + t) (gate (or (take m words)) ∷ [])) w w′
+        → Wrote f (v + t) (gate (or (ysAt T us (t + 1))) ∷ []) w w′ (v + (t + 1))
+    use-wrote v r = record { ran = rw (h .front) at r; next = omega arith }
+
+  -- a resource's variables are as many as the times
+  uses-gates : gates (map gate (useGates T us)) ≡ T
+  unfolding useGates
+  uses-gates = gates-map (map (λ t. or (ysAt T us t)) (upTo T)) ∙ length-map (upTo T) (λ t. or (ysAt T us t)) ∙ length-upTo T
+
+  -- those of the users gathered in a list
+  pub resource-wrote : {f : Line → World → World} (v : ℕ) {words : List ℕ} {m : ℕ} {w w′ : World}
+      → Holds words m us
+      → Ran f (lines v (map gate (useGates T (take m words)))) w w′
+      → Wrote f v (map gate (useGates T us)) w w′ (v + T)
+  resource-wrote v h r = record { ran = rw (h .front) at r; next = omega (arith, uses-gates) }
+
+-- the items of the resources that are left, where f gives the users of each
+module _ (T : ℕ) (f : ℕ → List ℕ) (n : ℕ) where
+  abbrev pub allUses : (r : ℕ) → List Item
+  allUses r = map gate (flatMap (λ r. useGates T (f r)) (after n r))
+
+  pub all-start : allUses 0 ≡ map gate (flatMap (λ r. useGates T (f r)) (upTo n))
+  all-start = rw (after-start n)
+
+  pub all-turn : (r : ℕ) → r < n → allUses r ≡ map gate (useGates T (f (r + 1))) ++ allUses (r + 1)
+  all-turn r h =
+      ap (map gate) (flat-turn n r (λ r. useGates T (f r)) h)
+      ∙ map-append gate (useGates T (f (r + 1))) (flatMap (λ r. useGates T (f r)) (after n (r + 1)))
+
+  pub all-end : (r : ℕ) → n ≤ r → allUses r ≡ []
+  all-end r h = ap (map gate) (flat-end n r (λ r. useGates T (f r)) h)

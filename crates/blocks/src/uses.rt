@@ -1,0 +1,69 @@
+// Block 2: X of each resource at each time, the OR of Y of its events.
+use sink::Job;
+use sink::Sink;
+ghost use mathlib.Core.List.{flatMap, map};
+ghost use Prim.Native.Nat.{_+_, _*_, _≤_, _<_};
+ghost use lib.ListN.{length, take};
+ghost use Rattle.scope.specs.Kinds.{upTo};
+ghost use Rattle.scope.specs.Cnf.{gate};
+ghost use Rattle.number.specs.Each.{Each};
+ghost use Rattle.tables.specs.Rows.{RowsIn};
+ghost use Rattle.sink.specs.Run.{Ran};
+ghost use Rattle.sink.specs.Lines.{lines};
+ghost use Rattle.sink.specs.World.{world, step};
+ghost use Rattle.literals.specs.Variables.{Within};
+ghost use Rattle.literals.specs.Users.{usersIn};
+ghost use Rattle.literals.specs.Numbered.{useGates};
+
+// Those of one resource, whose events are the first n of a list, from the variable v on.
+fn write_resource_uses(
+    job: Job,
+    model: &[u8],
+    text: &mut [u8],
+    words: &mut [u32],
+    s: Sink,
+    users: &[u16],
+    n: usize,
+    times: u32,
+    v: u32,
+) -> Sink
+    requires { ⌜ Each (Within 1024) (take n (now users)) × ((n ≤ length (now users)) × ((n ≤ 1024) × ((times ≤ 125) × ((1 ≤ v) × (v + times ≤ 1073741824))))) ⌝ }
+    ensures { λ r. ⌜ Ran (step job (now (model .entry))) (lines v (map gate (useGates times (take n (now (users .entry))))))
+        (world s (now (text .entry)) (now (words .entry))) (world r (now (text .exit)) (now (words .exit))) ⌝ }
+{
+    let mut buf = [0u32; 1025];
+    let mut z = s;
+    for t in 0..times {
+        let m = literals::y_of_events(users, n, times, t + 1, &mut buf);
+        z = gates::write_or(job, model, text, words, z, &mut buf, m, v + t);
+    }
+    z
+}
+
+// Those of all resources: the events of each are gathered once.
+pub fn write_uses(
+    job: Job,
+    model: &[u8],
+    text: &mut [u8],
+    words: &mut [u32],
+    s: Sink,
+    resources: &[u8],
+    count: u32,
+    events: u32,
+    times: u32,
+    v: u32,
+) -> Sink
+    requires { ⌜ RowsIn (now resources) events × ((events ≤ 1024) × ((count ≤ 255) × ((times ≤ 125) × ((1 ≤ v) × (v + count * times ≤ 1073741824))))) ⌝ }
+    ensures { λ r. ⌜ Ran (step job (now (model .entry))) (lines v (map gate (flatMap (λ r. useGates times (usersIn (now (resources .entry)) events r)) (upTo count))))
+        (world s (now (text .entry)) (now (words .entry))) (world r (now (text .exit)) (now (words .exit))) ⌝ }
+{
+    let mut users = [0u16; 1024];
+    let mut z = s;
+    let mut next = v;
+    for r in 0..count {
+        let n = literals::users_of(resources, events, r + 1, &mut users);
+        z = write_resource_uses(job, model, text, words, z, &users, n, times, next);
+        next = next + times;
+    }
+    z
+}

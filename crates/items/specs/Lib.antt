@@ -1,0 +1,5 @@
+pub mod Written
+pub mod Numbers
+pub mod Held
+pub mod Counted
+pub mod Lists

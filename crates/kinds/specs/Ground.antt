@@ -1,0 +1,58 @@
+-- What the writers of constraints are lent: the sizes of an instance, the rows of its groups, a constraint's fields and list.
+use Prim.Native.Nat.{ℕ, _+_, _-_, _*_, _≤_, _<_}
+use mathlib.Core.Path.{_≡_}
+use mathlib.Core.List.{List}
+use native.Mathlib.Nat.{mul-le-mul}
+use native.Mathlib.Omega.{arith}
+use lib.ListN.{length}
+use Rattle.scope.specs.Kinds.{Kind}
+use Rattle.number.specs.Each.{Each, each-none, each-more}
+use Rattle.number.specs.Laws.{Ascending, none, more}
+use Rattle.tables.specs.Rows.{rowAt, RowIn, RowsIn}
+use Rattle.constraint.specs.declared.kinds.Head.{Head}
+use Rattle.constraint.specs.Answers.{countsIn}
+use Rattle.constraint.specs.Valid.{OneOf, InRange}
+use Rattle.literals.specs.Variables.{Sizes, Within, GroupIn}
+
+-- the sizes, and the rows of the groups, each of which ascends
+pub record Ground (groups : List ℕ) (h : Head) : Type 0 where
+  pub times : h .times ≤ 125
+  pub events : h .events ≤ 1024
+  pub resources : h .resources ≤ 255
+  pub numbers : h .groups ≤ 2048
+  pub rows : RowsIn groups (h .groups)
+  pub ascends : (g : ℕ) → g < h .groups → Ascending (h .times) 0 (rowAt groups g)
+
+-- E×T
+abbrev pub cellsOf : Head → ℕ
+cellsOf h = h .events * h .times
+
+module _ {groups : List ℕ} {h : Head} (g : Ground groups h) where
+  pub ground-sizes : Sizes (h .times) (cellsOf h)
+  ground-sizes =
+      record {
+        times = g .times;
+        cells = omega (arith, mul-le-mul {n₁ = h .events} {m₁ = h .times} {n₂ = 1024} {m₂ = 125} (g .events) (g .times));
+      }
+
+  -- an event, a resource and a group that exist
+  pub ground-event : {e : ℕ} → OneOf (h .events) e → Within 1024 e
+  ground-event o = record { low = o .low; high = omega (arith, o .high, g .events) }
+
+  pub ground-resource : {r : ℕ} → OneOf (h .resources) r → Within 1024 r
+  ground-resource o = record { low = o .low; high = omega (arith, o .high, g .resources) }
+
+  pub ground-group : {n : ℕ} → OneOf (h .groups) n → GroupIn groups n
+  ground-group {n} o = record { low = o .low; row = g .rows .each (n - 1) (omega (arith, o .low, o .high)) }
+
+  pub ground-ascends : {n : ℕ} → OneOf (h .groups) n → Ascending (h .times) 0 (rowAt groups (n - 1))
+  ground-ascends {n} o = g .ascends (n - 1) (omega (arith, o .low, o .high))
+
+  -- the members of a list of groups, and of a list of events
+  pub ground-groups : {before : ℕ} {hs : List ℕ} → Ascending (h .groups) before hs → Each (OneOf (h .groups)) hs
+  ground-groups none = each-none
+  ground-groups (more {x = x} a b r) = each-more {x = x} (record { low = omega arith; high = b }) (ground-groups r)
+
+  pub ground-events : {before : ℕ} {es : List ℕ} → Ascending (h .events) before es → Each (Within 1024) es
+  ground-events none = each-none
+  ground-events (more {x = x} a b r) = each-more {x = x} (record { low = omega arith; high = omega (arith, g .events) }) (ground-events r)
