@@ -9,16 +9,21 @@ use Rattle.scope.specs.Parsed.{Parsed, got, refused, andThen, cons, repeat}
 use Rattle.scope.specs.Kinds.{Constraint}
 use Rattle.scope.specs.Instance.{Counts}
 use Rattle.scope.specs.declared.Refusal.{Refusal}
-use Rattle.number.specs.Parsing.{andThen-got, cons-got, refused-got}
+use Rattle.number.specs.Parsing.{listOf, andThen-got, cons-got, refused-got}
 use Rattle.constraint.specs.declared.kinds.Constraint as decl
+use Rattle.constraint.specs.declared.kinds.Head.{Head}
 use Rattle.constraint.specs.declared.kinds.Next.{Next}
-use Rattle.constraint.specs.Answers.{saidNext, constraintOf}
+use Rattle.constraint.specs.Answers.{saidNext, constraintOf, countsIn}
 use Rattle.constraint.specs.Decoded.{decodedAt}
 use Rattle.constraint.specs.Valid.{DecodedAt, decoded-got}
 
 -- after i of the constraints cs, the others stand from an offset on, up to the file's end
 pub record Walk (n : Counts) (s : List ℕ) (count i at : ℕ) (cs : List Constraint) : Type 0 where
   pub left : repeat (count - i) (decodedAt n s) at ≡ got (drop i cs) (length s)
+
+-- the constraints of a file with that head
+unfoldable pub constraintsIn : Head → List ℕ → List Constraint
+constraintsIn h s = listOf (repeat (h .constraints) (decodedAt (countsIn h) s) (h .start))
 
 pub walk-start : (n : Counts) (s : List ℕ) (count at : ℕ) (cs : List Constraint)
     → repeat count (decodedAt n s) at ≡ got cs (length s)

@@ -6,13 +6,14 @@ use Rattle.scope.specs.Kinds.{Constraint}
 use Rattle.scope.specs.Instance.{Instance}
 use Rattle.scope.specs.declared.Refusal.{Refusal}
 use Rattle.number.specs.Answers.{refusedBy}
+use Rattle.number.specs.Parsing.{listOf}
 use Rattle.tables.specs.Rows.{rows, eventsOf}
 use Rattle.constraint.specs.declared.kinds.Head.{Head}
 use Rattle.constraint.specs.declared.kinds.Next.{Next}
 use Rattle.instance.specs.declared.reader.Sizes.{Sizes}
 use Rattle.instance.specs.declared.reader.SizesRead.{SizesRead}
 use Rattle.instance.specs.declared.reader.File.{File}
-use Rattle.instance.specs.Ends.{listOf, endOf}
+use Rattle.instance.specs.Ends.{endOf}
 use Rattle.instance.specs.File.{Start, withConstraints, constraintIn}
 
 -- times, events and resources

@@ -12,18 +12,14 @@ use Rattle.scope.specs.declared.Refusal.{Refusal}
 use Rattle.number.specs.declared.Number.{Number}
 use Rattle.number.specs.declared.Number.the-variants.{Value, Refused}
 use Rattle.number.specs.Answers.{said}
-use Rattle.number.specs.Parsing.{refused-got, andThen-got, unless-got, repeat-same}
+use Rattle.number.specs.Parsing.{listOf, refused-got, andThen-got, unless-got, repeat-same}
 
 -- the end alone
 abbrev pub ends : {A : Type 0} → Parsed A → Parsed ℕ
 ends (got a end) = got 0 end
 ends (refused k v) = refused k v
 
--- the list, and its end; of a refusal none
-abbrev pub listOf : {A : Type 0} → Parsed (List A) → List A
-listOf (got xs end) = xs
-listOf (refused k v) = []
-
+-- the end; of a refusal 0
 abbrev pub endOf : {A : Type 0} → Parsed A → ℕ
 endOf (got a end) = end
 endOf (refused k v) = 0

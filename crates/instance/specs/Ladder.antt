@@ -14,7 +14,6 @@ use Rattle.tables.specs.Ladder.{rows-value, rows-refused, events-value, events-
 use Rattle.instance.specs.declared.reader.Sizes.{Sizes}
 use Rattle.instance.specs.declared.reader.SizesRead.{SizesRead}
 use Rattle.instance.specs.Answers.{saidSizes, saidTables, startOf, refusalOfSizes}
-use Rattle.instance.specs.Ends.{ends, listOf, ends-got, ends-of-refused}
 use Rattle.instance.specs.File.{Start}
 
 -- sizes, then the tables

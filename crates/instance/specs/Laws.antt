@@ -13,7 +13,7 @@ use Rattle.scope.specs.Operations.{readOf}
 use Rattle.scope.specs.Number.{limited}
 use Rattle.scope.specs.Kinds.{Event, Kind, Constraint, rulesOf, longest, lowOf, highOf}
 use Rattle.scope.specs.Instance.{Counts, Instance, countsOf, ended, constraintAt, parse}
-use Rattle.number.specs.Parsing.{andThen-got, unless-got, refused-got, repeat-length, repeat-also}
+use Rattle.number.specs.Parsing.{listOf, andThen-got, unless-got, repeat-length, repeat-also}
 use Rattle.number.specs.Each.{Each, each-head, each-drop, repeat-each}
 use Rattle.number.specs.Laws.{Ascending, limited-got, repeat-got}
 use Rattle.tables.specs.Rows.{rows, eventsOf, RowsIn}
@@ -25,10 +25,10 @@ use Rattle.constraint.specs.declared.kinds.Next.{Next}
 use Rattle.constraint.specs.Answers.{countsIn, saidNext, constraintOf}
 use Rattle.constraint.specs.Decoded.{decodedAt, endedBy, checkedAt, constraint-checked}
 use Rattle.constraint.specs.Valid.{InRange, decoded-got}
-use Rattle.constraint.specs.Walk.{Walk, walk-start, walk-read}
+use Rattle.constraint.specs.Walk.{Walk, constraintsIn, walk-start, walk-read}
 use Rattle.instance.specs.declared.reader.File.{File}
 use Rattle.instance.specs.Answers.{headStart, constraintsOf, instanceOf, saidFile}
-use Rattle.instance.specs.Ends.{listOf, endOf, wholeAt, whole-got}
+use Rattle.instance.specs.Ends.{endOf, wholeAt, whole-got}
 use Rattle.instance.specs.File.{Start, withConstraints, constraintIn, tablesAt, restAt, parse-parts}
 use Rattle.instance.specs.Start.{SizesIn, StartIn, TablesAt, tables-got}
 
@@ -101,9 +101,10 @@ pub record Accepted (s d te tg : List ℕ) (h : Head) : Type 0 where
   pub constraints-high : h .constraints ≤ 4096
   pub events : Each (EventIn (h .times) (h .resources)) (eventsOf d te (h .events))
   pub groups : Each (Ascending (h .times) 0) (rows tg (h .groups))
-  pub count : length (instanceOf s d te tg h .constraints) ≡ h .constraints
-  pub walk : Walk (countsIn h) s (h .constraints) 0 (h .start) (instanceOf s d te tg h .constraints)
-  pub valid : Each (ConstraintOf (countsIn h) (headStart d te tg h)) (instanceOf s d te tg h .constraints)
+  pub constraints : instanceOf s d te tg h .constraints ≡ constraintsIn h s
+  pub count : length (constraintsIn h s) ≡ h .constraints
+  pub walk : Walk (countsIn h) s (h .constraints) 0 (h .start) (constraintsIn h s)
+  pub valid : Each (ConstraintOf (countsIn h) (headStart d te tg h)) (constraintsIn h s)
 
 -- the instance that was parsed, in its parts
 record Parts (s : List ℕ) (i : Instance) (end : ℕ) : Type 0 where
@@ -175,28 +176,36 @@ module _ (s d te tg : List ℕ) (h : Head) (e : saidFile s d te tg (File.Accepte
   unfolding constraintsOf
   listed = end-got (constraintsOf s d te tg h) (parts .some) ∙ ap (got (instanceOf s d te tg h .constraints)) (parts .last)
 
+  decoded : repeat (h .constraints) (decodedAt (countsIn h) s) (h .start) ≡ got (instanceOf s d te tg h .constraints) (length s)
+  decoded =
+      repeat-also (h .constraints) (constraintIn start s) (decodedAt (countsIn h) s) (h .start)
+      (λ at c next f. rw counts-are at (constraint-got start s at f .decoded))
+      listed
+
+  same : instanceOf s d te tg h .constraints ≡ constraintsIn h s
+  unfolding constraintsIn
+  same = rw decoded
+
   pub accepted : Accepted s d te tg h
   accepted =
       let n = repeat-length (h .constraints) (constraintIn start s) (h .start) listed in
-      let z = starts .sizes in
       let E = length-events d te (h .events) in
+      let valid =
+      repeat-each (ConstraintOf (countsIn h) start) (h .constraints) (constraintIn start s) (h .start)
+      (λ at c next f. rw counts-are at (constraint-got start s at f .valid))
+      listed
+      in
       record {
         parsed = sym e ∙ ap (got (instanceOf s d te tg h)) (parts .last);
-        sizes = rw E at z;
+        sizes = rw E at (starts .sizes);
         groups-high = omega (arith, starts .group-count, length-rows tg (h .groups));
         constraints-high = omega (arith, parts .count);
         events = starts .events;
         groups = starts .groups;
-        count = n;
-        walk =
-            walk-start (countsIn h) s (h .constraints) (h .start) (instanceOf s d te tg h .constraints)
-            (repeat-also (h .constraints) (constraintIn start s) (decodedAt (countsIn h) s) (h .start)
-            (λ at c next f. rw counts-are at (constraint-got start s at f .decoded))
-            listed);
-        valid =
-            repeat-each (ConstraintOf (countsIn h) start) (h .constraints) (constraintIn start s) (h .start)
-            (λ at c next f. rw counts-are at (constraint-got start s at f .valid))
-            listed;
+        constraints = same;
+        count = rw (← same) n;
+        walk = walk-start (countsIn h) s (h .constraints) (h .start) (constraintsIn h s) (rw (← same) decoded);
+        valid = rw (← same) valid;
       }
 
 -- the rows of the tables, where these are as long as they have to be
@@ -209,12 +218,12 @@ module _ {s d te tg : List ℕ} {h : Head} (a : Accepted s d te tg h) where
 
   -- a turn of the walk, where the call answered x with the store l: the next constraint, and that it is valid
   pub record NextOf (i next : ℕ) (c : Constraint) : Type 0 where
-    pub whole : drop i (instanceOf s d te tg h .constraints) ≡ c ∷ drop (i + 1) (instanceOf s d te tg h .constraints)
-    pub walk : Walk (countsIn h) s (h .constraints) (i + 1) next (instanceOf s d te tg h .constraints)
+    pub whole : drop i (constraintsIn h s) ≡ c ∷ drop (i + 1) (constraintsIn h s)
+    pub walk : Walk (countsIn h) s (h .constraints) (i + 1) next (constraintsIn h s)
     pub valid : ConstraintOf (countsIn h) (headStart d te tg h) c
 
   pub accepted-next : {i at : ℕ} (l : List ℕ) (x : Next) {c : decl.Constraint} {next : ℕ}
-      → Walk (countsIn h) s (h .constraints) i at (instanceOf s d te tg h .constraints)
+      → Walk (countsIn h) s (h .constraints) i at (constraintsIn h s)
       → i < h .constraints
       → saidNext l x ≡ decodedAt (countsIn h) s at
       → x ≡ Next.Read c next
@@ -237,7 +246,7 @@ pub accepted-answer : {s d te tg : List ℕ} {h : Head}
     ≡ readOf s
 unfolding readOf
 accepted-answer {s} {d} {te} {tg} {h} a =
-    rw (a .parsed, a .count, length-events d te (h .events), length-rows tg (h .groups))
+    rw (a .parsed, a .constraints, a .count, length-events d te (h .events), length-rows tg (h .groups))
 
 pub refused-answer : (s : List ℕ) {k v : ℕ} → refused k v ≡ parse s → refusal k v ≡ readOf s
 unfolding readOf

@@ -48,6 +48,11 @@ got-value e = cc
 pub got-end : {A : Type 0} {a b : A} {m n : ℕ} → got a m ≡ got b n → m ≡ n
 got-end e = cc
 
+-- the list that was read; of a refusal none
+abbrev pub listOf : {A : Type 0} → Parsed (List A) → List A
+listOf (got xs end) = xs
+listOf (refused k v) = []
+
 -- by the way that a test took
 pub cond-case : {B : Type 0} (Q : Type 0) (t : Bool) {p q r : B} → (p ≡ r → Q) → (q ≡ r → Q) → cond t p q ≡ r → Q
 cond-case Q true l r e = l e

@@ -13,7 +13,7 @@ use lib.ListN.{length, getD, take, drop, length-append, List·getD-append, drop-
 use lib.Seq.{getD-take, getD-drop, getD-at, drop-cons}
 use Rattle.scope.specs.Kinds.{Event, member, groupAt}
 use Rattle.number.specs.Lists.{leading, length-leading, getD-leading}
-use Rattle.tables.specs.Rows.{rowOf, rowAt, rows, eventsOf}
+use Rattle.tables.specs.Rows.{rowOf, rowAt, rows, eventOf, eventsOf}
 
 -- a row: its length and its members
 length-rowOf : (r : List ℕ) → length (rowOf r) ≡ getD r 0 0
@@ -67,6 +67,16 @@ pub length-events : (d t : List ℕ) (n : ℕ) → length (eventsOf d t n) ≡ n
 unfolding eventsOf
 length-events d t zero = refl
 length-events d t (suc n) = simp (length-append, length-events d t n) (omega arith)
+
+pub events-at : (d t : List ℕ) (n e : ℕ) (other : Event) → e < n → getD (eventsOf d t n) e other ≡ eventOf d t e
+unfolding eventsOf
+events-at d t zero e other h = elim (not-suc-le-zero h) [ ]
+events-at d t (suc n) e other h =
+    ⊎-elim
+    (λ (k : e ≡ n). rw k (getD-at (eventsOf d t n) (eventOf d t n) [] other n (length-events d t n)))
+    (λ (l : e < n).
+    List·getD-append (eventsOf d t n) (eventOf d t n ∷ []) other e (rw length-events l) ∙ events-at d t n e other l)
+    (eq-or-lt-of-le (le-of-suc-le-suc h))
 
 -- looking for x in a list, member by member: y is the member at i
 module _ (x y : ℕ) (l : List ℕ) (i : ℕ) (h : i < length l) (e : y ≡ getD l i 0) where

@@ -13,7 +13,7 @@ use Rattle.scope.specs.Instance.{eventAt, groupsAt}
 use Rattle.number.specs.Parsing.{andThen-got, repeat-length}
 use Rattle.number.specs.Each.{Each, each-front, each-last, repeat-each}
 use Rattle.number.specs.Laws.{Ascending, ascending-length, limited-got, listed-got, repeat-got}
-use Rattle.tables.specs.Rows.{rowAt, rows, eventsOf, RowIn, RowsIn}
+use Rattle.tables.specs.Rows.{rowAt, rows, eventOf, eventsOf, RowIn, RowsIn}
 
 -- an event of an instance with T times and R resources
 pub record EventIn (T R : ℕ) (v : Event) : Type 0 where
@@ -83,14 +83,17 @@ groups-got T s at e =
       inside = p .inside (l .inside);
     }
 
--- the tables' rows: those of the events and those of the groups ascend
-pub event-row : {T R : ℕ} (d t : List ℕ) (n g : ℕ) → Each (EventIn T R) (eventsOf d t n) → g < n → Ascending R 0 (rowAt t g)
+-- each event and each group in the tables; their rows ascend
+pub event-in : {T R : ℕ} (d t : List ℕ) (n e : ℕ) → Each (EventIn T R) (eventsOf d t n) → e < n → EventIn T R (eventOf d t e)
 unfolding eventsOf
-event-row d t zero g e h = elim (not-suc-le-zero h) [ ]
-event-row {T} {R} d t (suc n) g e h =
-    ⊎-elim (λ (k : g ≡ n). rw k (each-last (eventsOf d t n) e .ascending))
-    (λ (l : g < n). event-row d t n g (each-front (eventsOf d t n) (record { duration = getD d n 0; resources = rowAt t n } ∷ []) e) l)
+event-in d t zero e p h = elim (not-suc-le-zero h) [ ]
+event-in d t (suc n) e p h =
+    ⊎-elim (λ (k : e ≡ n). rw k (each-last (eventsOf d t n) p))
+    (λ (l : e < n). event-in d t n e (each-front (eventsOf d t n) (eventOf d t n ∷ []) p) l)
     (eq-or-lt-of-le (le-of-suc-le-suc h))
+
+pub event-row : {T R : ℕ} (d t : List ℕ) (n e : ℕ) → Each (EventIn T R) (eventsOf d t n) → e < n → Ascending R 0 (rowAt t e)
+event-row d t n e p h = event-in d t n e p h .ascending
 
 pub group-ascends : {T : ℕ} (t : List ℕ) (n g : ℕ) → Each (Ascending T 0) (rows t n) → g < n → Ascending T 0 (rowAt t g)
 unfolding rows

@@ -19,10 +19,13 @@ unfoldable pub rows : List ℕ → ℕ → List (List ℕ)
 rows t zero = []
 rows t (suc g) = rows t g ++ (rowAt t g ∷ [])
 
--- the first n events, of a table of durations and a table of resources
+-- event e, from 0, of a table of durations and a table of resources; the first n events
+abbrev pub eventOf : List ℕ → List ℕ → ℕ → Event
+eventOf d t e = record { duration = getD d e 0; resources = rowAt t e }
+
 unfoldable pub eventsOf : List ℕ → List ℕ → ℕ → List Event
 eventsOf d t zero = []
-eventsOf d t (suc e) = eventsOf d t e ++ (record { duration = getD d e 0; resources = rowAt t e } ∷ [])
+eventsOf d t (suc e) = eventsOf d t e ++ (eventOf d t e ∷ [])
 
 -- the table has row g, whose count is no more than there is room for
 pub record RowIn (t : List ℕ) (g : ℕ) : Type 0 where

@@ -6,10 +6,11 @@ use mathlib.Core.Bool.{Bool, true, false, cond, _||_}
 use native.Mathlib.Omega.{arith}
 use borrow.Author.Tests.{ne-eqb, eqb-true}
 use lib.Dec.{eqb}
-use lib.ListN.{length, getD}
+use lib.ListN.{length, getD, length-append}
 use Rattle.scope.specs.Kinds.{Event, member, usersFrom, users}
 use Rattle.number.specs.Laws.{Ascending, none, more}
-use Rattle.tables.specs.Rows.{rowAt, rows, eventsOf}
+use Rattle.tables.specs.Rows.{rowAt, rows, eventOf, eventsOf}
+use Rattle.tables.specs.Laws.{length-events}
 
 -- how often x stands in a list, and in some lists together
 unfoldable pub occurrences : ℕ → List ℕ → ℕ
@@ -47,23 +48,38 @@ occurrences-once x n before [] none = refl
 occurrences-once x n before (y ∷ ys) (more a b r) =
     once-by (eqb x y) x y ys refl (occurrences-once x n y ys r) (λ p. below-once x n y ys r (omega arith))
 
--- one event more
-users-more : (r e : ℕ) (xs : List Event) (v : Event)
-    → length (usersFrom r e (xs ++ (v ∷ []))) ≡ length (usersFrom r e xs) + cond (member r (v .resources)) 1 0
-unfolding usersFrom
-users-more r e [] v = by (member r (v .resources))
-  where
-    by : (t : Bool) → length (cond t (e ∷ []) []) ≡ 0 + cond t 1 0
-    by true = refl
-    by false = refl
-users-more r e (x ∷ xs) v = by (member r (x .resources)) (users-more r (suc e) xs v)
-  where
-    by : (t : Bool)
-        → length (usersFrom r (suc e) (xs ++ (v ∷ []))) ≡ length (usersFrom r (suc e) xs) + cond (member r (v .resources)) 1 0
-        → length (cond t (e ∷ usersFrom r (suc e) (xs ++ (v ∷ []))) (usersFrom r (suc e) (xs ++ (v ∷ []))))
-        ≡ length (cond t (e ∷ usersFrom r (suc e) xs) (usersFrom r (suc e) xs)) + cond (member r (v .resources)) 1 0
-    by true h = omega arith
-    by false h = h
+-- one event more, with its number
+module _ (r : ℕ) (v : Event) where
+  abbrev lastUser : ℕ → List ℕ
+  lastUser e = cond (member r (v .resources)) (e ∷ []) []
+
+  users-cons : (t : Bool) (e n : ℕ) (us vs : List ℕ)
+      → us ≡ vs ++ lastUser (suc e + n)
+      → cond t (e ∷ us) us ≡ cond t (e ∷ vs) vs ++ lastUser (e + suc n)
+  users-cons t e n us vs h = let k : e + suc n ≡ suc e + n = omega arith in rw k (by t)
+    where
+      by : (t : Bool) → cond t (e ∷ us) us ≡ cond t (e ∷ vs) vs ++ lastUser (suc e + n)
+      by true = ap (λ (l : List ℕ). e ∷ l) h
+      by false = h
+
+  users-more : (e : ℕ) (xs : List Event) → usersFrom r e (xs ++ (v ∷ [])) ≡ usersFrom r e xs ++ lastUser (e + length xs)
+  unfolding usersFrom
+  users-more e [] = let k : e + 0 ≡ e = omega arith in rw k
+  users-more e (x ∷ xs) =
+      users-cons (member r (x .resources)) e (length xs) (usersFrom r (suc e) (xs ++ (v ∷ []))) (usersFrom r (suc e) xs)
+      (users-more (suc e) xs)
+
+-- the users among one event more: event number n + 1
+pub users-next : (r : ℕ) (d t : List ℕ) (n : ℕ)
+    → users r (eventsOf d t (suc n)) ≡ users r (eventsOf d t n) ++ cond (member r (rowAt t n)) (suc n ∷ []) []
+unfolding eventsOf
+users-next r d t n =
+    let k : 1 + length (eventsOf d t n) ≡ suc n = omega (arith, length-events d t n) in
+    users-more r (eventOf d t n) 1 (eventsOf d t n) ∙ rw k
+
+length-if : (t : Bool) (x : ℕ) → length (cond t (x ∷ []) []) ≡ cond t 1 0
+length-if true x = refl
+length-if false x = refl
 
 pub occurrencesIn-more : (x : ℕ) (rs : List (List ℕ)) (r : List ℕ)
     → occurrencesIn x (rs ++ (r ∷ [])) ≡ occurrencesIn x rs + occurrences x r
@@ -78,9 +94,13 @@ pub users-counted : (r R : ℕ) (d t : List ℕ) (n : ℕ)
 unfolding eventsOf rows usersFrom occurrencesIn
 users-counted r R d t zero h = refl
 users-counted r R d t (suc n) h =
-    let v : Event = record { duration = getD d n 0; resources = rowAt t n } in
-    let a = users-more r 1 (eventsOf d t n) v in
-    let b = occurrencesIn-more r (rows t n) (rowAt t n) in
-    let i = users-counted r R d t n (λ g k. h g (omega arith)) in
-    let o = occurrences-once r R 0 (rowAt t n) (h n (omega arith)) in
-    a ∙ rw (i, ← o) (sym b)
+    let m = member r (rowAt t n) in
+    ap length (users-next r d t n)
+    ∙ length-append (users r (eventsOf d t n)) (cond m (suc n ∷ []) [])
+    ∙ omega (
+      arith,
+      length-if m (suc n),
+      users-counted r R d t n (λ g k. h g (omega arith)),
+      occurrences-once r R 0 (rowAt t n) (h n (omega arith)),
+      occurrencesIn-more r (rows t n) (rowAt t n),
+    )

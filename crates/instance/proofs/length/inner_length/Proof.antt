@@ -49,13 +49,16 @@ loop-less c = search needs
 
 loop-again : tie.Need-loop-again Inv-loop μ-loop
 loop-again c =
-    let g = listed-in _ _ _ _ (c .before .before .before .loop-test .taken) (c .before .before .before .before .before .before .before .pre .1 .1) in
-    let m = inner-more (c .before .before .before .before .before .before .before .args .groups .now) (c .before .before .before .before .before .before .before .args .list .now) _ _ (c .before .before .before .loop-test .taken) in
+    let a = c .before .before .before .before .before .before .before in
+    let test = c .before .before .before .loop-test .taken in
+    let g = listed-in _ _ _ _ test (a .pre .1 .1) in
+    let m = inner-more (a .args .groups .now) (a .args .list .now) _ _ test in
     (omega arith, omega (arith, g .row .count), omega (arith, m))
 
 returns : tie.Need-returns Inv-loop μ-loop
 returns c =
-    omega (arith, inner-past (c .before .before .before .before .args .groups .now) (c .before .before .before .before .args .list .now) _ _ (c .loop-test .left))
+    let a = c .before .before .before .before .args in
+    omega (arith, inner-past (a .groups .now) (a .list .now) _ _ (c .loop-test .left))
 
 pub inner-length-spec : {M : Type 1} → statement M
 inner-length-spec =

@@ -59,12 +59,13 @@ group-size-requires-3 c κs =
 
 mul-both : tie.Need-mul-both
 mul-both c =
-    let v = rw (c .before .before .k4 .given .1) at (c .before .before .before .before .before .before .before .pre .1) in
+    let a = c .before .before .before .before .before .before .before in
+    let v = rw (c .before .before .k4 .given .1) at (a .pre .1) in
     let f = c .before .before .k4 .given .0 .0 in
-    let a = ascending-length _ 0 _ (v .0) (omega arith) in
-    let m : f .events ≤ 2048 = omega (arith, a, length-leading (f .events) (c .before .before .before .before .before .before .before .args .list .now), c .before .before .before .before .before .before .before .pre .0 .events) in
+    let l = ascending-length _ 0 _ (v .0) (omega arith) in
+    let m : f .events ≤ 2048 = omega (arith, l, length-leading (f .events) (a .args .list .now), a .pre .0 .events) in
     let n : c .group-size3 .result ≤ 125 =
-    omega (arith, c .group-size3 .ensures, one-in _ _ _ (c .before .before .before .before .before .before .before .pre .0 .rows) (v .1) .row .count)
+    omega (arith, c .group-size3 .ensures, one-in _ _ _ (a .pre .0 .rows) (v .1) .row .count)
     in
     omega (arith, mul-le-mul {n₂ = 2048} {m₂ = 125} m n)
 
@@ -84,11 +85,12 @@ enum-known-k-7 c = search needs
 
 inner-length-requires : tie.Need-inner-length-requires
 inner-length-requires c κs =
-    let v = rw (c .before .k7 .given .1) at (c .before .before .before .before .before .before .pre .1) in
+    let a = c .before .before .before .before .before .before in
+    let v = rw (c .before .k7 .given .1) at (a .pre .1) in
     let f = c .before .k7 .given .0 .0 in
-    let a = ascending-length _ 0 _ (v .1) (omega arith) in
-    let n : f .groups ≤ 2048 = omega (arith, a, length-leading (f .groups) (c .before .before .before .before .before .before .args .list .now), c .before .before .before .before .before .before .pre .0 .numbers) in
-    (omega (arith, c .before .before .before .before .before .before .pre .0 .room), (n, ascending-in _ _ 0 _ (c .before .before .before .before .before .before .pre .0 .rows) (v .1)))
+    let l = ascending-length _ 0 _ (v .1) (omega arith) in
+    let n : f .groups ≤ 2048 = omega (arith, l, length-leading (f .groups) (a .args .list .now), a .pre .0 .numbers) in
+    (omega (arith, a .pre .0 .room), (n, ascending-in _ _ 0 _ (a .pre .0 .rows) (v .1)))
 
 returns : tie.Need-returns
 unfolding listLength
@@ -97,15 +99,17 @@ returns c = rw (c .before .before .before .k .given .1)
 returns-2 : tie.Need-returns-2
 unfolding listLength
 returns-2 c =
-    let v = rw (c .before .before .k2 .given .1) at (c .before .before .before .before .before .before .before .pre .1) in
-    let g = group-row (c .before .before .before .before .before .before .before .args .groups .now) (c .before .before .before .before .before .before .before .args .head .groups) _ (v .1 .low) (v .1 .high) in
+    let a = c .before .before .before .before .before .before .before in
+    let v = rw (c .before .before .k2 .given .1) at (a .pre .1) in
+    let g = group-row (a .args .groups .now) (a .args .head .groups) _ (v .1 .low) (v .1 .high) in
     rw (c .before .before .k2 .given .1, g) (c .group-size .ensures)
 
 returns-3 : tie.Need-returns-3
 unfolding listLength
 returns-3 c =
-    let v = rw (c .before .before .before .k3 .given .1) at (c .before .before .before .before .before .before .before .before .pre .1) in
-    let g = group-row (c .before .before .before .before .before .before .before .before .args .groups .now) (c .before .before .before .before .before .before .before .before .args .head .groups) _ (v .1 .low) (v .1 .high) in
+    let a = c .before .before .before .before .before .before .before .before in
+    let v = rw (c .before .before .before .k3 .given .1) at (a .pre .1) in
+    let g = group-row (a .args .groups .now) (a .args .head .groups) _ (v .1 .low) (v .1 .high) in
     rw (c .before .before .before .k3 .given .1, g, ← (c .before .group-size2 .ensures)) (c .monus .ensures)
 
 returns-4 : tie.Need-returns-4
@@ -115,15 +119,17 @@ returns-4 c = rw (c .enum-told .given .1)
 returns-5 : tie.Need-returns-5
 unfolding listLength
 returns-5 c =
-    let v = rw (c .before .before .k4 .given .1) at (c .before .before .before .before .before .before .before .pre .1) in
-    let g = group-row (c .before .before .before .before .before .before .before .args .groups .now) (c .before .before .before .before .before .before .before .args .head .groups) _ (v .1 .low) (v .1 .high) in
+    let a = c .before .before .before .before .before .before .before in
+    let v = rw (c .before .before .k4 .given .1) at (a .pre .1) in
+    let g = group-row (a .args .groups .now) (a .args .head .groups) _ (v .1 .low) (v .1 .high) in
     rw (c .before .before .k4 .given .1, g, length-leading, ← (c .group-size3 .ensures))
 
 returns-6 : tie.Need-returns-6
 unfolding listLength
 returns-6 c =
-    let v = rw (c .before .before .k5 .given .1) at (c .before .before .before .before .before .before .before .pre .1) in
-    let g = group-row (c .before .before .before .before .before .before .before .args .groups .now) (c .before .before .before .before .before .before .before .args .head .groups) _ (v .1 .low) (v .1 .high) in
+    let a = c .before .before .before .before .before .before .before in
+    let v = rw (c .before .before .k5 .given .1) at (a .pre .1) in
+    let g = group-row (a .args .groups .now) (a .args .head .groups) _ (v .1 .low) (v .1 .high) in
     rw (c .before .before .k5 .given .1, g) (c .group-size4 .ensures)
 
 returns-7 : tie.Need-returns-7

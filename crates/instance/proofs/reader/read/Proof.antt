@@ -60,12 +60,11 @@ returns-2 c = rw parse-parts (search ladder depth 14)
 
 constraints-whole-requires : tie.Need-constraints-whole-requires
 constraints-whole-requires c κs =
-    let f = c .before .before .before .before .before .before .before .before .before .before .before .before .before .before .before .before .tables-at in
-    let p = c .before .before .before .before .before .before .before .before .before .before .before .before .before .before .before .before .before .before .before .before .before .before .before .before .before .pre in
-    start-lent _ _ _ _ _ (tables-start _ (f .last .1 .0) (f .last .1 .1 .0) (f .last .1 .1 .1 .0) _ _ _ (f .ensures) (c .before .before .before .before .before .before .before .before .t .given .1))
-    (f .kept .1 .1 .0 ∙ p .tables .resources-long)
-    (f .kept .1 .1 .1 .0 ∙ p .tables .groups-long)
-    (p .list-long)
+    let e = c .before .before .before .before .before .before .before .before in
+    let f = e .before .before .before .before .before .before .before .before .tables-at in
+    let p = e .before .before .before .before .before .before .before .before .before .before .before .before .before .before .before .before .before .pre in
+    let i = tables-start _ (f .last .1 .0) (f .last .1 .1 .0) (f .last .1 .1 .1 .0) _ _ _ (f .ensures) (e .t .given .1) in
+    start-lent _ _ _ _ _ i (f .kept .1 .1 .0 ∙ p .tables .resources-long) (f .kept .1 .1 .1 .0 ∙ p .tables .groups-long) (p .list-long)
 
 enum-told-3 : tie.Need-enum-told-3
 enum-told-3 c = search needs
@@ -105,10 +104,11 @@ same-length-14 c = search needs
 
 returns-4 : tie.Need-returns-4
 returns-4 c =
-    let f = c .before .before .before .before .before .before .before .before .before .before .before .before .before .before .before .before .before .before .before .before .before .tables-at in
+    let e = c .before .before .before .before .before .before .before .before .before .before .before .before .before in
+    let f = e .before .before .before .before .before .before .before .before .tables-at in
     read-accepted _ (f .last .1 .0) (f .last .1 .1 .0) (f .last .1 .1 .1 .0) _ _ _ _ _ _ _ _ _
     (f .ensures)
-    (c .before .before .before .before .before .before .before .before .before .before .before .before .before .t .given .1)
+    (e .t .given .1)
     (c .before .before .before .before .before .before .before .before .before .before .before .limited .ensures)
     (c .before .before .before .before .before .before .before .before .before .k .given .1)
     (c .before .before .before .before .constraints-whole .ensures)

@@ -47,8 +47,9 @@ returns-2 c = search ladder depth 14
 
 groups-at-requires : tie.Need-groups-at-requires
 groups-at-requires c κs =
-    let w = sizes-value _ _ (c .before .before .before .before .before .before .before .before .before .before .before .before .before .before .sizes-at .ensures) (c .before .before .before .before .before .before .before .before .before .before .before .before .z .given .1) in
-    (c .before .before .before .before .before .before .before .before .before .before .before .before .before .before .before .before .before .before .before .pre .groups-long, w .times-high)
+    let e = c .before .before .before .before .before .before .before .before .before in
+    let w = sizes-value _ _ (e .before .before .before .before .before .sizes-at .ensures) (e .before .before .before .z .given .1) in
+    (e .before .before .before .before .before .before .before .before .before .before .pre .groups-long, w .times-high)
 
 enum-known-g : tie.Need-enum-known-g
 enum-known-g c = search needs

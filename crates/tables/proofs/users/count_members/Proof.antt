@@ -31,7 +31,9 @@ loop-less : tie.Need-loop-less Inv-loop μ-loop
 loop-less c = search needs
 
 loop-again : tie.Need-loop-again Inv-loop μ-loop
-loop-again c = (omega arith, c .before .counts .given ∙ c .before .before .before .before .before .loop .inv .1, c .before .before .count-row .ensures)
+loop-again c =
+    let r = c .before .before in
+    (omega arith, c .before .counts .given ∙ r .before .before .before .loop .inv .1, r .count-row .ensures)
 
 same-length : tie.Need-same-length Inv-loop μ-loop
 same-length c = search needs

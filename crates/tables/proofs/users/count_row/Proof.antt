@@ -24,7 +24,9 @@ loop-holds : tie.Need-loop-holds Inv-loop μ-loop
 loop-holds c = (omega arith, c .row-len .ensures, omega arith, counted-start _ _ _ (c .before .before .before .pre .1 .1 .1))
 
 row-member-requires : tie.Need-row-member-requires Inv-loop μ-loop
-row-member-requires c κs = (c .before .before .before .before .before .pre .1 .0 .each (c .before .before .before .before .before .args .row) (omega arith), omega (arith, c .before .loop .inv .1))
+row-member-requires c κs =
+    let a = c .before .before .before .before .before in
+    (a .pre .1 .0 .each (a .args .row) (omega arith), omega (arith, c .before .loop .inv .1))
 
 cast-x : tie.Need-cast-x Inv-loop μ-loop
 cast-x c = search needs
@@ -37,10 +39,10 @@ slice-read-more c = search needs
 
 add-more : tie.Need-add-more Inv-loop μ-loop
 add-more c =
+    let a = c .before .before .before .before .before .before .before in
     let l = c .before .before .before .loop in
-    let r = c .before .before .before .before .before .before .before .pre .1 .0 in
-    omega
-    (arith, counted-small _ _ _ (c .before .row-member .result) _ (l .inv .3) r, l .inv .1, r .each (c .before .before .before .before .before .before .before .args .row) (omega arith) .count)
+    let small = counted-small _ _ _ (c .before .row-member .result) _ (l .inv .3) (a .pre .1 .0) in
+    omega (arith, small, l .inv .1, a .pre .1 .0 .each (a .args .row) (omega arith) .count)
 
 mul-counts : tie.Need-mul-counts Inv-loop μ-loop
 mul-counts c = search needs
