@@ -10,10 +10,10 @@ ghost use Rattle.scope.specs.Operations.{sizesOf};
 pub fn sizes(file: &[u8], bound: u64) -> SizesAnswer
     ensures { λ r. ⌜ sizesMeans r ≡ sizesOf (now (file .entry)) bound ⌝ }
 {
-    let mut durations = [0u8; 1024];
-    let mut resources = [0u8; 129024];
-    let mut groups = [0u8; 258048];
-    let mut list = [0u16; 2048];
+    let mut durations = tables::durations();
+    let mut resources = tables::resource_rows();
+    let mut groups = tables::group_rows();
+    let mut list = tables::list();
     let m = measure_bound(
         file,
         bound,

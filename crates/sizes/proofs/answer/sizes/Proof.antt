@@ -1,9 +1,20 @@
 -- `answer::sizes` meets its contract: the stores are long enough, and each case of `measure_bound` is a case of the answer.
 use borrow.Author.Needs.{needs}
-use mathlib.Core.Path.{refl}
 use Rattle.sizes.specs.Measured.{sizes-answered, sizes-refused}
 use Rattle.sizes.proofs.answer.sizes.Statement.{statement}
 use Rattle.sizes.proofs.answer.sizes.Tie as tie
+
+durations-requires : tie.Need-durations-requires
+durations-requires c κs = search needs
+
+resource-rows-requires : tie.Need-resource-rows-requires
+resource-rows-requires c κs = search needs
+
+group-rows-requires : tie.Need-group-rows-requires
+group-rows-requires c κs = search needs
+
+list-requires : tie.Need-list-requires
+list-requires c κs = search needs
 
 slice-aggregate-measure-bound : tie.Need-slice-aggregate-measure-bound
 slice-aggregate-measure-bound c = search needs
@@ -18,8 +29,7 @@ slice-aggregate-measure-bound-4 : tie.Need-slice-aggregate-measure-bound-4
 slice-aggregate-measure-bound-4 c = search needs
 
 measure-bound-requires : tie.Need-measure-bound-requires
-measure-bound-requires c κs =
-    record { tables = record { durations-long = refl; resources-long = refl; groups-long = refl }; list-long = refl }
+measure-bound-requires c κs = search needs
 
 enum-known-m : tie.Need-enum-known-m
 enum-known-m c = search needs
@@ -37,6 +47,10 @@ pub sizes-spec : {M : Type 1} → statement M
 sizes-spec =
     tie.close
     (tie.spec
+    durations-requires
+    resource-rows-requires
+    group-rows-requires
+    list-requires
     slice-aggregate-measure-bound
     slice-aggregate-measure-bound-2
     slice-aggregate-measure-bound-3
