@@ -2,7 +2,7 @@
 use mathlib.Core.Path.{_≡_, refl, sym, ap, _∙_}
 use mathlib.Core.List.{List}
 use mathlib.Core.Option.{none, some}
-use Prim.Native.Nat.{ℕ, suc, _≤_}
+use Prim.Native.Nat.{ℕ, zero, suc, _≤_}
 use native.Mathlib.Omega.{arith}
 use lib.ListN.{length}
 use borrow.Author.Tests.{eq-eqb, ne-eqb}
@@ -147,12 +147,16 @@ module _ (s : List ℕ) (lim : Limits) (A : Answer ℕ) (short : Short s lim) (w
   in-phase n t l h x = rw (turn-phase (w .machine .phase) t l h) at x
 
   pub turn-fine : Turn s (lim .lastVariable) (lim .rowsLent) w v → Fine s lim A w → Fine s lim A v
-  turn-fine (looks p t f a c r ws) x = rw (c, r, ws) (look-fine p t f a x)
-  turn-fine (run.deletes p t f d a c ws) x =
-      rw (c, ws)
-      (delete-turn s lim A (w .check) (w .rows) (w .words) (w .marks) (w .machine) p (v .machine) (v .marks) f a
-      (turn-phase (w .machine .phase) t (omega arith) (omega arith))
-      past (v .rows) d (in-phase 1 t (omega arith) (omega arith) x))
+  turn-fine (looks p t f r d a c ws) x = rw (c, ws) (by (turnOf (w .machine .phase)) refl)
+    where
+      by : (n : ℕ) → turnOf (w .machine .phase) ≡ n
+          → FineAt s lim A (w .check .tally) (w .check .clause) (v .rows) (w .words) (v .marks) (v .machine)
+      by zero e = rw (r e) (look-fine p e f a x)
+      by (suc zero) e =
+          delete-turn s lim A (w .check) (w .rows) (w .words) (w .marks) (w .machine) p (v .machine) (v .marks) f a
+          (turn-phase (w .machine .phase) e (omega arith) (omega arith))
+          past (v .rows) (d e) (in-phase 1 e (omega arith) (omega arith) x)
+      by (suc (suc n)) e = absurd (omega arith)
   turn-fine (keeps t a c k e ms) x =
       let y = in-phase 2 t (omega arith) (omega arith) x in
       rw (
