@@ -26,7 +26,7 @@ ghost use mathlib.Core.Path.{_≡_};
 ghost use Rattle.store.specs.Directory.{rowsOf, capacity};
 ghost use Rattle.bound.specs.Run.{answerOf, Driven};
 
-// The answer of a check that has ended.
+// The answer of a check that has ended; one that has not is never asked.
 fn answer(c: Check, m: Machine) -> CheckAnswer
     ensures { λ r. ⌜ r ≡ answerOf (c .tally .steps) (m .phase) ⌝ }
 {

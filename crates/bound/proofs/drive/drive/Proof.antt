@@ -7,7 +7,7 @@ use Rattle.store.specs.Directory.{rowsOf, capacity}
 use Rattle.store.specs.Rows.{Dies}
 use Rattle.bound.specs.Machine.{turnOf}
 use Rattle.bound.specs.Run.{World, world, ready, Ran, none, more, Turn, looks, keeps, judges, reads}
-use Rattle.bound.specs.Falling.{left, Past, Falls, turn-falls}
+use Rattle.bound.specs.Termination.{left, Past, Falls, turn-falls}
 use borrow.Author.Needs.{needs}
 use Rattle.bound.proofs.drive.drive.Statement.{statement}
 use Rattle.bound.proofs.drive.drive.Tie as tie
