@@ -153,8 +153,8 @@ module _ (s : List ℕ) (lim : Limits) (A : Answer ℕ) (c : Check) (R : ℕ →
         go steps.other d = other-wrong id next d
 
   -- a clause whose variables are opened again
-  module _ (w : Wiping s lim A (c .tally) (c .clause) R ws ms h at) (cl ms′ : List ℕ) (e : liveIn (c .tally) R ws h
-      ≡ some cl) (x : Wiped (inClause cl) ms ms′) (long : length ms′ ≡ length ms) where
+  module _ (w : Wiping s lim A (c .tally) (c .clause) R ws ms h at) (cl ms′ : List ℕ)
+      (e : liveIn (c .tally) R ws h ≡ some cl) (x : Wiped (inClause cl) ms ms′) (long : length ms′ ≡ length ms) where
     wiped-base : Base lim (c .tally) R ws ms′
     wiped-base = record { holding = w .base .holding; lent = w .base .lent; marked = rw long (w .base .marked) }
 

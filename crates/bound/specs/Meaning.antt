@@ -1,6 +1,6 @@
 -- What a check answers: the plain run's answer for the formula that stands in the stores.
 use mathlib.Core.Path.{_≡_, refl, sym, ap, _∙_}
-use mathlib.Core.List.{List}
+use mathlib.Core.List.{List, _++_, flatMap}
 use mathlib.Core.Option.{none, some}
 use Prim.Native.Nat.{ℕ, zero, suc, _≤_}
 use native.Mathlib.Omega.{arith}
@@ -18,7 +18,7 @@ use Rattle.store.specs.Marks.{marksOf}
 use Rattle.store.specs.Rows.{Found, hit, miss, Finds, Dies}
 use Rattle.store.specs.Live.{held, rowClause, liveRows, live-found}
 use Rattle.store.specs.Holding.{Holding, Good, found-good}
-use Rattle.store.specs.Marked.{BuiltFor}
+use Rattle.store.specs.Marked.{mark, Plain, BuiltFor, Built}
 use Rattle.store.specs.Built.{Each, built-holding, built-live}
 use Rattle.theory.specs.Cases.{impossible}
 use Rattle.bound.specs.declared.machine.Phase.{Phase}
@@ -118,8 +118,8 @@ pub record Short (s : List ℕ) (lim : Limits) : Type 0 where
   pub few-rows : lim .rowsLent ≤ largest
 
 -- a turn keeps what holds
-module _ (s : List ℕ) (lim : Limits) (A : Answer ℕ) (short : Short s lim) (w v : World) (long : length (v .marks)
-    ≡ length (w .marks)) (past : Past (w .check) (w .machine)) where
+module _ (s : List ℕ) (lim : Limits) (A : Answer ℕ) (short : Short s lim) (w v : World)
+    (long : length (v .marks) ≡ length (w .marks)) (past : Past (w .check) (w .machine)) where
   look-keeps : (p : Probe) → turnOf (w .machine .phase) ≡ 0
       → Finds (lim .rowsLent) (w .rows) (w .check .tally .rows) (w .machine .want) p
       → Advances s (w .machine) (p .hit) (w .words) (w .marks) (v .machine) (v .marks)
@@ -255,3 +255,12 @@ driven-means s last cap n used R ws ms r f d x =
       omega arith,
       begins,
     ) .1)
+
+-- the same for a formula that stood in the words with each clause's last word marked, of which the directory was built
+pub check-means : (s : List ℕ) (last cap n : ℕ) (R : ℕ → Row) (ws₀ ws ms : List ℕ) (r : CheckAnswer) (f : List (List ℕ)) (rest : List ℕ)
+    → Plain f → Each (Good last) f → ws₀ ≡ flatMap mark f ++ rest → length f ≤ cap → last ≤ length ms → marksOf ms ≡ allOpen
+    → Built ws₀ ws cap R (words f) n → Driven s last cap n (words f) R ws ms r
+    → checkMeans r ≡ plainRun (limits last (length ws) cap) f s
+check-means s last cap n R ws₀ ws ms r f rest plain good e fits marked unmarked b d =
+    driven-means s last cap n (words f) R ws ms r f d
+    (built-stands f rest last cap n R ws ms (b .built f rest plain e refl fits) good fits marked unmarked)

@@ -63,8 +63,8 @@ module _ (s : List ℕ) (lim : Limits) (A : Answer ℕ) (c : Check) (R : ℕ →
   id-gone h at w e = w .answer ∙ rw (e, w .step .counts)
 
   -- a live clause is deleted
-  module _ (h at i : ℕ) (w : Deleting s lim A (c .tally) (c .clause) R ws ms h at) (cl : List ℕ) (e : liveIn (c .tally) R ws h
-      ≡ some cl) (l : i < c .tally .rows) (same : R i .id ≡ h) where
+  module _ (h at i : ℕ) (w : Deleting s lim A (c .tally) (c .clause) R ws ms h at) (cl : List ℕ)
+      (e : liveIn (c .tally) R ws h ≡ some cl) (l : i < c .tally .rows) (same : R i .id ≡ h) where
     abbrev R′ : ℕ → Row
     R′ = put R i (dying (R i))
 
