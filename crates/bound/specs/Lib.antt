@@ -3,9 +3,9 @@ pub mod Listing
 pub mod Machine
 pub mod Check
 pub mod Run
-pub mod Falling
+pub mod Termination
 pub mod Hints
-pub mod Fine
+pub mod Invariant
 pub mod LookMeans
 pub mod StepMeans
 pub mod ReadMeans

@@ -23,7 +23,7 @@ use Rattle.bound.specs.declared.check.Check.{Check}
 use Rattle.bound.specs.Listing.{Ahead, last-id, more-ids, ids-ahead}
 use Rattle.bound.specs.Machine.{onward, onward-end, onward-more, walked, walked-last, walked-early, walkedMarks}
 use Rattle.bound.specs.Hints.{inHint, inHints, IsLive, open-inside}
-use Rattle.bound.specs.Fine.{Base, ending, Adding, before, liveIn, Walking, Wiping, FineAt}
+use Rattle.bound.specs.Invariant.{Base, ending, Adding, before, liveIn, Walking, Wiping, InvariantAt}
 
 module _ (s : List ℕ) (lim : Limits) (A : Answer ℕ) (c : Check) (R : ℕ → Row) (ws ms : List ℕ) (h at : ℕ) where
   -- a hint that is not live
@@ -53,7 +53,7 @@ module _ (s : List ℕ) (lim : Limits) (A : Answer ℕ) (c : Check) (R : ℕ →
     -- all its literals are false
     all-false : (id next : ℕ) → standing (marksOf ms) steps.falsified cl ≡ steps.falsified → (left : List ℕ) → w .left ≡ left
         → Ahead s next id (w .adding .step .after) left
-        → FineAt s lim A (c .tally) (c .clause) R ws ms (walked steps.falsified id next)
+        → InvariantAt s lim A (c .tally) (c .clause) R ws ms (walked steps.falsified id next)
     all-false id next d left q (last-id z t) =
         rw (walked-last id next z)
         (record {
@@ -66,7 +66,7 @@ module _ (s : List ℕ) (lim : Limits) (A : Answer ℕ) (c : Check) (R : ℕ →
         rw (walked-early id next z) (answer-by steps.falsified d (id ∷ rest) q ∙ rw (w .adding .step .counts))
 
     other-wrong : (id next : ℕ) → standing (marksOf ms) steps.falsified cl ≡ steps.other
-        → FineAt s lim A (c .tally) (c .clause) R ws ms (walked steps.other id next)
+        → InvariantAt s lim A (c .tally) (c .clause) R ws ms (walked steps.other id next)
     unfolding walked
     other-wrong id next d = answer-by steps.other d (w .left) refl ∙ rw (w .adding .step .counts)
 
@@ -84,7 +84,8 @@ module _ (s : List ℕ) (lim : Limits) (A : Answer ℕ) (c : Check) (R : ℕ →
         apart : (v : ℕ) → inHints (liveIn (c .tally) R ws) (w .adding .hints) v ≡ false → v ≡ l / 2 → ⊥
         unfolding inHints
         apart v f z =
-            let a = or-false (inHint (liveIn (c .tally) R ws h) v) (inHints (liveIn (c .tally) R ws) (w .left) v) (w .among v f) .0
+            let a = or-false (inHint (liveIn (c .tally) R ws h) v) (inHints (liveIn (c .tally) R ws) (w .left) v) (w .among v f)
+            .0
             in
             let b : inClause cl v ≡ false = rw e at a in
             let t : inClause cl (l / 2) ≡ true = open-inside (marksOf ms) cl d in
@@ -114,7 +115,7 @@ module _ (s : List ℕ) (lim : Limits) (A : Answer ℕ) (c : Check) (R : ℕ →
             }
 
         one-open : (id next : ℕ) (left : List ℕ) → w .left ≡ left → Ahead s next id (w .adding .step .after) left
-            → FineAt s lim A (c .tally) (c .clause) R ws ms′ (walked (steps.oneOpen l) id next)
+            → InvariantAt s lim A (c .tally) (c .clause) R ws ms′ (walked (steps.oneOpen l) id next)
         unfolding walked hintsShow inHints
         one-open id next left q (last-id z t) =
             rw (onward-end Walk (Refused 16) id next z) (answer-by (steps.oneOpen l) d [] q ∙ rw (w .adding .step .counts))
@@ -137,7 +138,7 @@ module _ (s : List ℕ) (lim : Limits) (A : Answer ℕ) (c : Check) (R : ℕ →
 
     -- by how it stands
     pub hint-judged : All (Good (lim .lastVariable)) cl → (id next : ℕ) → number s at ≡ got id next
-        → FineAt s lim A (c .tally) (c .clause) R ws (walkedMarks (standing (marksOf ms) steps.falsified cl) ms)
+        → InvariantAt s lim A (c .tally) (c .clause) R ws (walkedMarks (standing (marksOf ms) steps.falsified cl) ms)
         (walked (standing (marksOf ms) steps.falsified cl) id next)
     unfolding walkedMarks
     hint-judged good id next n = go (standing (marksOf ms) steps.falsified cl) refl
@@ -146,14 +147,14 @@ module _ (s : List ℕ) (lim : Limits) (A : Answer ℕ) (c : Check) (R : ℕ →
         there = ids-ahead s at id next (w .left) (w .adding .step .after) n (w .left-at)
 
         go : (x : Standing) → standing (marksOf ms) steps.falsified cl ≡ x
-            → FineAt s lim A (c .tally) (c .clause) R ws (walkedMarks x ms) (walked x id next)
+            → InvariantAt s lim A (c .tally) (c .clause) R ws (walkedMarks x ms) (walked x id next)
         go steps.falsified d = all-false id next d (w .left) refl there
         go (steps.oneOpen l) d = one-open l d good id next (w .left) refl there
         go steps.other d = other-wrong id next d
 
   -- a clause whose variables are opened again
-  module _ (w : Wiping s lim A (c .tally) (c .clause) R ws ms h at) (cl ms′ : List ℕ) (e : liveIn (c .tally) R ws h
-      ≡ some cl) (x : Wiped (inClause cl) ms ms′) (long : length ms′ ≡ length ms) where
+  module _ (w : Wiping s lim A (c .tally) (c .clause) R ws ms h at) (cl ms′ : List ℕ)
+      (e : liveIn (c .tally) R ws h ≡ some cl) (x : Wiped (inClause cl) ms ms′) (long : length ms′ ≡ length ms) where
     wiped-base : Base lim (c .tally) R ws ms′
     wiped-base = record { holding = w .base .holding; lent = w .base .lent; marked = rw long (w .base .marked) }
 
@@ -170,14 +171,14 @@ module _ (s : List ℕ) (lim : Limits) (A : Answer ℕ) (c : Check) (R : ℕ →
     no-hints q v = rw q
 
     pub clause-wiped : (id next : ℕ) → number s at ≡ got id next → c .clause .hints ≤ at
-        → FineAt s lim A (c .tally) (c .clause) R ws ms′ (onward Wipe Next id next)
+        → InvariantAt s lim A (c .tally) (c .clause) R ws ms′ (onward Wipe Next id next)
     clause-wiped id next n past = go (w .left) refl (ids-ahead s at id next (w .left) (w .step .after) n (w .left-at))
       where
         k : at < next
         k = number-got s at n .ahead
 
         go : (left : List ℕ) → w .left ≡ left → Ahead s next id (w .step .after) left
-            → FineAt s lim A (c .tally) (c .clause) R ws ms′ (onward Wipe Next id next)
+            → InvariantAt s lim A (c .tally) (c .clause) R ws ms′ (onward Wipe Next id next)
         go left q (last-id z t) =
             rw (onward-end Wipe Next id next z)
             (record {

@@ -1,8 +1,8 @@
 -- What a check answers: the plain run's answer for the formula that stands in the stores.
 use mathlib.Core.Path.{_≡_, refl, sym, ap, _∙_}
-use mathlib.Core.List.{List}
+use mathlib.Core.List.{List, _++_, flatMap}
 use mathlib.Core.Option.{none, some}
-use Prim.Native.Nat.{ℕ, suc, _≤_}
+use Prim.Native.Nat.{ℕ, zero, suc, _≤_}
 use native.Mathlib.Omega.{arith}
 use lib.ListN.{length}
 use borrow.Author.Tests.{eq-eqb, ne-eqb}
@@ -18,7 +18,7 @@ use Rattle.store.specs.Marks.{marksOf}
 use Rattle.store.specs.Rows.{Found, hit, miss, Finds, Dies}
 use Rattle.store.specs.Live.{held, rowClause, liveRows, live-found}
 use Rattle.store.specs.Holding.{Holding, Good, found-good}
-use Rattle.store.specs.Marked.{BuiltFor}
+use Rattle.store.specs.Marked.{mark, Plain, BuiltFor, Built}
 use Rattle.store.specs.Built.{Each, built-holding, built-live}
 use Rattle.laws.specs.Booleans.{impossible}
 use Rattle.bound.specs.declared.machine.Phase.{Phase}
@@ -31,8 +31,8 @@ use Rattle.bound.specs.Machine.{turnOf, turn-phase, Advances, gone, brok
 use Rattle.bound.specs.Check.{largest}
 use Rattle.bound.specs.Run as run
 use Rattle.bound.specs.Run.{World, Turn, looks, keeps, judges, reads, Ran, answerOf, Driven}
-use Rattle.bound.specs.Falling.{Past, turn-falls}
-use Rattle.bound.specs.Fine.{Base, liveIn, Walking, Wiping, Deleting, FineIn, FineAt, Fine}
+use Rattle.bound.specs.Termination.{Past, turn-falls}
+use Rattle.bound.specs.Invariant.{Base, liveIn, Walking, Wiping, Deleting, InvariantIn, InvariantAt, Invariant}
 use Rattle.bound.specs.LookMeans.{hint-gone, hint-judged, clause-wiped}
 use Rattle.bound.specs.StepMeans.{id-gone, id-deleted, clause-kept, clause-judged}
 use Rattle.bound.specs.ReadMeans.{step-read}
@@ -56,13 +56,13 @@ module _ (s : List ℕ) (lim : Limits) (A : Answer ℕ) (c : Check) (R : ℕ
     clause-is = live-found R ws (c .tally .rows) (m .want) p (b .holding .rising) what
 
   walk-turn : m .phase ≡ Walk → Walking s lim A (c .tally) (c .clause) R ws ms (m .want) (m .at)
-      → FineAt s lim A (c .tally) (c .clause) R ws ms′ r
+      → InvariantAt s lim A (c .tally) (c .clause) R ws ms′ r
   walk-turn e w = by a
     where
       b : Base lim (c .tally) R ws ms
       b = w .adding .base
 
-      by : Advances s m (p .hit) ws ms r ms′ → FineAt s lim A (c .tally) (c .clause) R ws ms′ r
+      by : Advances s m (p .hit) ws ms r ms′ → InvariantAt s lim A (c .tally) (c .clause) R ws ms′ r
       by (gone z q) = rw q (hint-gone s lim A c R ws ms (m .want) (m .at) w (clause-is b ∙ gone-none _ _ z))
       by (broken k v n q) = let x = list-cut s (m .at) k v n in let y = w .left-at in impossible (cc)
       by (walks id next l n z q t) =
@@ -77,10 +77,10 @@ module _ (s : List ℕ) (lim : Limits) (A : Answer ℕ) (c : Check) (R : ℕ
 
   wipe-turn : m .phase ≡ Wipe → c .clause .hints ≤ m .at → length ms′ ≡ length ms
       → Wiping s lim A (c .tally) (c .clause) R ws ms (m .want) (m .at)
-      → FineAt s lim A (c .tally) (c .clause) R ws ms′ r
+      → InvariantAt s lim A (c .tally) (c .clause) R ws ms′ r
   wipe-turn e past long w = by a
     where
-      by : Advances s m (p .hit) ws ms r ms′ → FineAt s lim A (c .tally) (c .clause) R ws ms′ r
+      by : Advances s m (p .hit) ws ms r ms′ → InvariantAt s lim A (c .tally) (c .clause) R ws ms′ r
       by (gone z q) = absurd (rw (clause-is (w .base) ∙ gone-none _ _ z) at (w .live .0))
       by (broken k v n q) = let x = list-cut s (m .at) k v n in let y = w .left-at in impossible (cc)
       by (walks id next l n z q t) = impossible (cc)
@@ -92,17 +92,17 @@ module _ (s : List ℕ) (lim : Limits) (A : Answer ℕ) (c : Check) (R : ℕ
       by (idle z) = absurd (omega (arith, ap turnOf e))
 
   delete-turn : m .phase ≡ Delete → c .clause .hints ≤ m .at → (R′ : ℕ → Row) → Dies (lim .rowsLent) R R′ (p .at)
-      → Deleting s lim A (c .tally) (c .clause) R ws ms (m .want) (m .at) → FineAt s lim A (c .tally) (c .clause) R′ ws ms′ r
+      → Deleting s lim A (c .tally) (c .clause) R ws ms (m .want) (m .at) → InvariantAt s lim A (c .tally) (c .clause) R′ ws ms′ r
   delete-turn e past R′ d w = by a
     where
-      by : Advances s m (p .hit) ws ms r ms′ → FineAt s lim A (c .tally) (c .clause) R′ ws ms′ r
+      by : Advances s m (p .hit) ws ms r ms′ → InvariantAt s lim A (c .tally) (c .clause) R′ ws ms′ r
       by (gone z q) = rw q (id-gone s lim A c R ws ms (m .want) (m .at) w (clause-is (w .base) ∙ gone-none _ _ z))
       by (broken k v n q) = let x = list-cut s (m .at) k v n in let y = w .left-at in impossible (cc)
       by (walks id next l n z q t) = impossible (cc)
       by (wipes id next l n z q t) = impossible (cc)
       by (machine.deletes id next l n z q t) = found (what (w .base))
         where
-          found : Found R (c .tally .rows) (m .want) p → FineAt s lim A (c .tally) (c .clause) R′ ws ms′ r
+          found : Found R (c .tally .rows) (m .want) p → InvariantAt s lim A (c .tally) (c .clause) R′ ws ms′ r
           found (hit h i j) =
               rw (q, t, d .dies (omega (arith, w .base .holding .fit)))
               (id-deleted s lim A c R ws ms (m .want) (m .at) (p .at) w (rowClause (p .hit) ws) (clause-is (w .base)
@@ -118,18 +118,19 @@ pub record Short (s : List ℕ) (lim : Limits) : Type 0 where
   pub few-rows : lim .rowsLent ≤ largest
 
 -- a turn keeps what holds
-module _ (s : List ℕ) (lim : Limits) (A : Answer ℕ) (short : Short s lim) (w v : World) (long : length (v .marks)
-    ≡ length (w .marks)) (past : Past (w .check) (w .machine)) where
-  look-fine : (p : Probe) → turnOf (w .machine .phase) ≡ 0
+module _ (s : List ℕ) (lim : Limits) (A : Answer ℕ) (short : Short s lim) (w v : World)
+    (long : length (v .marks) ≡ length (w .marks)) (past : Past (w .check) (w .machine)) where
+  look-keeps : (p : Probe) → turnOf (w .machine .phase) ≡ 0
       → Finds (lim .rowsLent) (w .rows) (w .check .tally .rows) (w .machine .want) p
       → Advances s (w .machine) (p .hit) (w .words) (w .marks) (v .machine) (v .marks)
-      → Fine s lim A w → FineAt s lim A (w .check .tally) (w .check .clause) (w .rows) (w .words) (v .marks) (v .machine)
-  look-fine p t f a = go (w .machine .phase) refl t
+      → Invariant s lim A w → InvariantAt s lim A (w .check .tally) (w .check .clause) (w .rows) (w .words) (v .marks)
+      (v .machine)
+  look-keeps p t f a = go (w .machine .phase) refl t
     where
       go : (ph : Phase) → w .machine .phase ≡ ph → turnOf ph ≡ 0
-          → FineIn s lim A (w .check .tally) (w .check .clause) (w .rows) (w .words) (w .marks) ph (w .machine .at)
+          → InvariantIn s lim A (w .check .tally) (w .check .clause) (w .rows) (w .words) (w .marks) ph (w .machine .at)
           (w .machine .want)
-          → FineAt s lim A (w .check .tally) (w .check .clause) (w .rows) (w .words) (v .marks) (v .machine)
+          → InvariantAt s lim A (w .check .tally) (w .check .clause) (w .rows) (w .words) (v .marks) (v .machine)
       go Next e t x = absurd (omega arith)
       go Walk e t x = walk-turn s lim A (w .check) (w .rows) (w .words) (w .marks) (w .machine) p (v .machine) (v .marks) f a e x
       go Followed e t x = absurd (omega arith)
@@ -141,19 +142,24 @@ module _ (s : List ℕ) (lim : Limits) (A : Answer ℕ) (short : Short s lim) (w
       go (Refused k) e t x = absurd (omega arith)
 
   -- what holds in the phase of a turn
-  in-phase : (n : ℕ) → turnOf (w .machine .phase) ≡ n → 1 ≤ n → n ≤ 4 → Fine s lim A w
-      → FineIn s lim A (w .check .tally) (w .check .clause) (w .rows) (w .words) (w .marks) (machine.phaseOf n) (w .machine .at)
+  in-phase : (n : ℕ) → turnOf (w .machine .phase) ≡ n → 1 ≤ n → n ≤ 4 → Invariant s lim A w
+      → InvariantIn s lim A (w .check .tally) (w .check .clause) (w .rows) (w .words) (w .marks) (machine.phaseOf n)
+      (w .machine .at)
       (w .machine .want)
   in-phase n t l h x = rw (turn-phase (w .machine .phase) t l h) at x
 
-  pub turn-fine : Turn s (lim .lastVariable) (lim .rowsLent) w v → Fine s lim A w → Fine s lim A v
-  turn-fine (looks p t f a c r ws) x = rw (c, r, ws) (look-fine p t f a x)
-  turn-fine (run.deletes p t f d a c ws) x =
-      rw (c, ws)
-      (delete-turn s lim A (w .check) (w .rows) (w .words) (w .marks) (w .machine) p (v .machine) (v .marks) f a
-      (turn-phase (w .machine .phase) t (omega arith) (omega arith))
-      past (v .rows) d (in-phase 1 t (omega arith) (omega arith) x))
-  turn-fine (keeps t a c k e ms) x =
+  pub turn-keeps : Turn s (lim .lastVariable) (lim .rowsLent) w v → Invariant s lim A w → Invariant s lim A v
+  turn-keeps (looks p t f r d a c ws) x = rw (c, ws) (by (turnOf (w .machine .phase)) refl)
+    where
+      by : (n : ℕ) → turnOf (w .machine .phase) ≡ n
+          → InvariantAt s lim A (w .check .tally) (w .check .clause) (v .rows) (w .words) (v .marks) (v .machine)
+      by zero e = rw (r e) (look-keeps p e f a x)
+      by (suc zero) e =
+          delete-turn s lim A (w .check) (w .rows) (w .words) (w .marks) (w .machine) p (v .machine) (v .marks) f a
+          (turn-phase (w .machine .phase) e (omega arith) (omega arith))
+          past (v .rows) (d e) (in-phase 1 e (omega arith) (omega arith) x)
+      by (suc (suc n)) e = absurd (omega arith)
+  turn-keeps (keeps t a c k e ms) x =
       let y = in-phase 2 t (omega arith) (omega arith) x in
       rw (
         e,
@@ -164,30 +170,30 @@ module _ (s : List ℕ) (lim : Limits) (A : Answer ℕ) (short : Short s lim) (w
             (y .adding .literals-at),
       )
       (clause-kept s lim A (w .check) (w .rows) (w .words) (w .marks) y (short .few-rows) (short .few-words))
-  turn-fine (judges t c e r ws ms) x =
+  turn-keeps (judges t c e r ws ms) x =
       rw (e, c, r, ws, ms) (clause-judged s lim A (w .check) (w .rows) (w .words) (w .marks) (w .machine .at)
       (in-phase 3 t (omega arith) (omega arith) x))
-  turn-fine (reads t a e r ws) x =
+  turn-keeps (reads t a e r ws) x =
       rw (e, r, ws)
       (step-read s lim A (w .check) (w .rows) (w .words) (w .marks) (w .machine .at) (v .check) (v .marks)
       (in-phase 4 t (omega arith) (omega arith) x) (short .few-bytes) long a)
 
 -- a run keeps what holds
-ran-fine : (s : List ℕ) (lim : Limits) (A : Answer ℕ) → Short s lim → (w v : World)
+ran-keeps : (s : List ℕ) (lim : Limits) (A : Answer ℕ) → Short s lim → (w v : World)
     → Ran s (lim .lastVariable) (lim .rowsLent) w v
-    → Past (w .check) (w .machine) × Fine s lim A w → Past (v .check) (v .machine) × Fine s lim A v
-ran-fine s lim A short w v run.none x = x
-ran-fine s lim A short w v (run.more u v′ r t long) x =
-    let y = ran-fine s lim A short w u r x in
-    (turn-falls s (lim .lastVariable) (lim .rowsLent) u v t (y .0) .0, turn-fine s lim A short u v long (y .0) t (y .1))
+    → Past (w .check) (w .machine) × Invariant s lim A w → Past (v .check) (v .machine) × Invariant s lim A v
+ran-keeps s lim A short w v run.none x = x
+ran-keeps s lim A short w v (run.more u v′ r t long) x =
+    let y = ran-keeps s lim A short w u r x in
+    (turn-falls s (lim .lastVariable) (lim .rowsLent) u v t (y .0) .0, turn-keeps s lim A short u v long (y .0) t (y .1))
 
 -- the answer of a check that has ended
-ended-answer : (s : List ℕ) (lim : Limits) (A : Answer ℕ) (w : World) → 5 ≤ turnOf (w .machine .phase) → Fine s lim A w
+ended-answer : (s : List ℕ) (lim : Limits) (A : Answer ℕ) (w : World) → 5 ≤ turnOf (w .machine .phase) → Invariant s lim A w
     → checkMeans (answerOf (w .check .tally .steps) (w .machine .phase)) ≡ A
 ended-answer s lim A w h = go (w .machine .phase) h
   where
     go : (ph : Phase) → 5 ≤ turnOf ph
-        → FineIn s lim A (w .check .tally) (w .check .clause) (w .rows) (w .words) (w .marks) ph (w .machine .at)
+        → InvariantIn s lim A (w .check .tally) (w .check .clause) (w .rows) (w .words) (w .marks) ph (w .machine .at)
         (w .machine .want)
         → checkMeans (answerOf (w .check .tally .steps) ph) ≡ A
     go Next t x = absurd (omega arith)
@@ -235,7 +241,7 @@ driven-means s last cap n used R ws ms r f d x =
     let lim = limits last (length ws) cap in
     let A = plainRun lim f s in
     let short : Short s lim = record { few-bytes = d .few-bytes; few-words = d .few-words; few-rows = d .few-rows } in
-    let begins : Fine s lim A (run.ready n used R ws ms) =
+    let begins : Invariant s lim A (run.ready n used R ws ms) =
     record {
       base = record { holding = x .holding; lent = refl; marked = x .marked };
       unmarked = x .unmarked;
@@ -245,7 +251,16 @@ driven-means s last cap n used R ws ms r f d x =
       answer = rw (x .live, x .count, x .size);
     } in
     ap checkMeans (d .answer)
-    ∙ ended-answer s lim A (d .end) (d .over) (ran-fine s lim A short (run.ready n used R ws ms) (d .end) (d .ran) (
+    ∙ ended-answer s lim A (d .end) (d .over) (ran-keeps s lim A short (run.ready n used R ws ms) (d .end) (d .ran) (
       omega arith,
       begins,
     ) .1)
+
+-- the same for a formula that stood in the words with each clause's last word marked, of which the directory was built
+pub check-means : (s : List ℕ) (last cap n : ℕ) (R : ℕ → Row) (ws₀ ws ms : List ℕ) (r : CheckAnswer) (f : List (List ℕ)) (rest : List ℕ)
+    → Plain f → Each (Good last) f → ws₀ ≡ flatMap mark f ++ rest → length f ≤ cap → last ≤ length ms → marksOf ms ≡ allOpen
+    → Built ws₀ ws cap R (words f) n → Driven s last cap n (words f) R ws ms r
+    → checkMeans r ≡ plainRun (limits last (length ws) cap) f s
+check-means s last cap n R ws₀ ws ms r f rest plain good e fits marked unmarked b d =
+    driven-means s last cap n (words f) R ws ms r f d
+    (built-stands f rest last cap n R ws ms (b .built f rest plain e refl fits) good fits marked unmarked)

@@ -27,7 +27,7 @@ use Rattle.bound.specs.Reading.{tokensAt, AddsAt, DeletesAt, MisformedAt
 use Rattle.bound.specs.Listing.{Ahead, last-id, more-ids, ids-ahead, list-cut}
 use Rattle.bound.specs.Machine.{onward, onward-end, onward-more}
 use Rattle.bound.specs.Check.{largest, firstId, entered, counted, stepped, TakesStep, over, takes}
-use Rattle.bound.specs.Fine.{Base, InStep, ending, Adding, before, liveIn, stateOf, Reading, FineAt}
+use Rattle.bound.specs.Invariant.{Base, InStep, ending, Adding, before, liveIn, stateOf, Reading, InvariantAt}
 
 -- where bytes are left, the run takes the step that is read
 run-step : (s : List ℕ) (at k : ℕ) (lim : Limits) (st : State) → at < length s
@@ -130,11 +130,11 @@ module _ (s : List ℕ) (lim : Limits) (A : Answer ℕ) (c : Check) (R : ℕ →
       unfolding hintsShow
       none-show = rw one-more
 
-      pub step-adds : FineAt s lim A (counted (c .tally)) k R ws ms′ (entered s (stepped c (Adds k)))
+      pub step-adds : InvariantAt s lim A (counted (c .tally)) k R ws ms′ (entered s (stepped c (Adds k)))
       step-adds = go (number s (k .hints)) refl
         where
           by : (id next : ℕ) (hs : List ℕ) → a .hints ≡ hs → Ahead s next id (tokensAt s (a .next)) hs
-              → FineAt s lim A (counted (c .tally)) k R ws ms′ (onward Walk (Refused 16) id next)
+              → InvariantAt s lim A (counted (c .tally)) k R ws ms′ (onward Walk (Refused 16) id next)
           by id next hs q (last-id z t) = rw (onward-end Walk (Refused 16) id next z) (answer-adds [] q ∙ none-show)
           by id next hs q (more-ids z rest t) =
               rw (onward-more Walk (Refused 16) id next z)
@@ -148,7 +148,7 @@ module _ (s : List ℕ) (lim : Limits) (A : Answer ℕ) (c : Check) (R : ℕ →
               })
 
           go : (x : Parsed ℕ) → number s (k .hints) ≡ x
-              → FineAt s lim A (counted (c .tally)) k R ws ms′ (firstId Walk (Refused 16) (k .hints) x)
+              → InvariantAt s lim A (counted (c .tally)) k R ws ms′ (firstId Walk (Refused 16) (k .hints) x)
           go (got id next) e = by id next (a .hints) refl (ids-ahead s (k .hints) id next (a .hints) (tokensAt s (a .next)) e
               (a .hints-stand .listed))
           go (refused j o) e = let x = list-cut s (k .hints) j o e in let y = a .hints-stand .listed in impossible (cc)
@@ -167,12 +167,12 @@ module _ (s : List ℕ) (lim : Limits) (A : Answer ℕ) (c : Check) (R : ℕ →
       unfolding perform wellFormed
       answer-deletes ids q = taken .2 ∙ rw (d .step, q)
 
-      pub step-deletes : FineAt s lim A (counted (c .tally)) ids-clause R ws ms (entered s (stepped c (Deletes from)))
+      pub step-deletes : InvariantAt s lim A (counted (c .tally)) ids-clause R ws ms (entered s (stepped c (Deletes from)))
       unfolding deleted
       step-deletes = go (number s from) refl
         where
           by : (id next : ℕ) → from < next → (ids : List ℕ) → d .ids ≡ ids → Ahead s next id (tokensAt s (d .next)) ids
-              → FineAt s lim A (counted (c .tally)) ids-clause R ws ms (onward Delete Next id next)
+              → InvariantAt s lim A (counted (c .tally)) ids-clause R ws ms (onward Delete Next id next)
           by id next l ids q (last-id z t) =
               rw (onward-end Delete Next id next z)
               (record {
@@ -195,7 +195,7 @@ module _ (s : List ℕ) (lim : Limits) (A : Answer ℕ) (c : Check) (R : ℕ →
               })
 
           go : (x : Parsed ℕ) → number s from ≡ x
-              → FineAt s lim A (counted (c .tally)) ids-clause R ws ms (firstId Delete Next from x)
+              → InvariantAt s lim A (counted (c .tally)) ids-clause R ws ms (firstId Delete Next from x)
           go (got id next) e = by id next (number-got s from e .ahead) (d .ids) refl
               (ids-ahead s from id next (d .ids) (tokensAt s (d .next)) e (d .stand .listed))
           go (refused j o) e = let x = list-cut s from j o e in let y = d .stand .listed in impossible (cc)
@@ -204,7 +204,7 @@ module _ (s : List ℕ) (lim : Limits) (A : Answer ℕ) (c : Check) (R : ℕ →
 pub step-read : (s : List ℕ) (lim : Limits) (A : Answer ℕ) (c : Check) (R : ℕ
     → Row) (ws ms : List ℕ) (at : ℕ) (r : Check) (ms′ : List ℕ)
     → Reading s lim A (c .tally) (c .clause) R ws ms at → length s ≤ largest → length ms′ ≡ length ms
-    → TakesStep s c at (lim .lastVariable) ms r ms′ → FineAt s lim A (r .tally) (r .clause) R ws ms′ (entered s r)
+    → TakesStep s c at (lim .lastVariable) ms r ms′ → InvariantAt s lim A (r .tally) (r .clause) R ws ms′ (entered s r)
 step-read s lim A c R ws ms at r ms′ w short long (over h q) = rw q (no-step s lim A c R ws ms at w h)
 step-read s lim A c R ws ms at r ms′ w short long (takes x h rs q) = rw q (by x rs)
   where
@@ -212,7 +212,7 @@ step-read s lim A c R ws ms at r ms′ w short long (takes x h rs q) = rw q (by 
     clean = (w .base .marked, w .unmarked)
 
     by : (x : Read) → ReadsStep (readStep (tokensAt s at)) s at (c .tally .highest) (lim .lastVariable) ms ms′ x
-        → FineAt s lim A (stepped c x .tally) (stepped c x .clause) R ws ms′ (entered s (stepped c x))
+        → InvariantAt s lim A (stepped c x .tally) (stepped c x .clause) R ws ms′ (entered s (stepped c x))
     by x (adds k a i f) = step-adds s lim A c R ws ms at w h short k a ms′ long (f clean)
     by x (deletes from a i e d) = rw e (step-deletes s lim A c R ws ms at w h short from a d)
     by x (misformed f) = step-misformed s lim A c R ws ms at w h short (f clean)

@@ -34,11 +34,10 @@ pub record World : Type 0 where
 
 -- a turn, for the proof s, with variables up to the last and a directory of cap rows
 pub data Turn (s : List ℕ) (last cap : ℕ) (w v : World) : Type 0 where
-  looks : (p : Probe) → turnOf (w .machine .phase) ≡ 0 → Finds cap (w .rows) (w .check .tally .rows) (w .machine .want) p
+  looks : (p : Probe) → turnOf (w .machine .phase) ≤ 1 → Finds cap (w .rows) (w .check .tally .rows) (w .machine .want) p
+      → (turnOf (w .machine .phase) ≡ 0 → v .rows ≡ w .rows)
+      → (turnOf (w .machine .phase) ≡ 1 → Dies cap (w .rows) (v .rows) (p .at))
       → Advances s (w .machine) (p .hit) (w .words) (w .marks) (v .machine) (v .marks)
-      → v .check ≡ w .check → v .rows ≡ w .rows → v .words ≡ w .words → Turn s last cap w v
-  deletes : (p : Probe) → turnOf (w .machine .phase) ≡ 1 → Finds cap (w .rows) (w .check .tally .rows) (w .machine .want) p
-      → Dies cap (w .rows) (v .rows) (p .at) → Advances s (w .machine) (p .hit) (w .words) (w .marks) (v .machine) (v .marks)
       → v .check ≡ w .check → v .words ≡ w .words → Turn s last cap w v
   keeps : turnOf (w .machine .phase) ≡ 2 → Appends cap (w .rows) (v .rows) (w .check .tally .rows) (rowOf (w .check))
       → v .check ≡ keptAs (w .check) → Copies s (w .check .clause .literals) (w .words) (w .check .tally .words) (v .words)

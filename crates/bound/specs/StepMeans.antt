@@ -33,7 +33,7 @@ use Rattle.bound.specs.Listing.{Ahead, last-id, more-ids, ids-ahead}
 use Rattle.bound.specs.Machine.{onward, onward-end, onward-more}
 use Rattle.bound.specs.Check.{withPhase, verdict, rowOf, largest, keptAs, entered}
 use Rattle.bound.specs.Hints.{inHint, inHints, IsLive, outside-false, literals-good, hints-same, live-same}
-use Rattle.bound.specs.Fine.{Base, ending, before, liveIn, stateOf, Following, Keeping, Deleting, FineAt}
+use Rattle.bound.specs.Invariant.{Base, ending, before, liveIn, stateOf, Following, Keeping, Deleting, InvariantAt}
 
 -- what a deletion leaves does not go by the clauses that were live before it
 not-by-live : (n : ℕ) (t : Tally) (L L′ : Live) (o : Option Live) → byDeleted (stateOf n t L) o ≡ byDeleted (stateOf n t L′) o
@@ -63,8 +63,8 @@ module _ (s : List ℕ) (lim : Limits) (A : Answer ℕ) (c : Check) (R : ℕ →
   id-gone h at w e = w .answer ∙ rw (e, w .step .counts)
 
   -- a live clause is deleted
-  module _ (h at i : ℕ) (w : Deleting s lim A (c .tally) (c .clause) R ws ms h at) (cl : List ℕ) (e : liveIn (c .tally) R ws h
-      ≡ some cl) (l : i < c .tally .rows) (same : R i .id ≡ h) where
+  module _ (h at i : ℕ) (w : Deleting s lim A (c .tally) (c .clause) R ws ms h at) (cl : List ℕ)
+      (e : liveIn (c .tally) R ws h ≡ some cl) (l : i < c .tally .rows) (same : R i .id ≡ h) where
     abbrev R′ : ℕ → Row
     R′ = put R i (dying (R i))
 
@@ -81,7 +81,7 @@ module _ (s : List ℕ) (lim : Limits) (A : Answer ℕ) (c : Check) (R : ℕ →
         }
 
     pub id-deleted : (id next : ℕ) → number s at ≡ got id next → c .clause .hints ≤ at
-        → FineAt s lim A (c .tally) (c .clause) R′ ws ms (onward Delete Next id next)
+        → InvariantAt s lim A (c .tally) (c .clause) R′ ws ms (onward Delete Next id next)
     unfolding deleted
     id-deleted id next n past = go (w .left) refl (ids-ahead s at id next (w .left) (w .step .after) n (w .left-at))
       where
@@ -89,7 +89,7 @@ module _ (s : List ℕ) (lim : Limits) (A : Answer ℕ) (c : Check) (R : ℕ →
         k = number-got s at n .ahead
 
         go : (left : List ℕ) → w .left ≡ left → Ahead s next id (w .step .after) left
-            → FineAt s lim A (c .tally) (c .clause) R′ ws ms (onward Delete Next id next)
+            → InvariantAt s lim A (c .tally) (c .clause) R′ ws ms (onward Delete Next id next)
         go left q (last-id z t) =
             rw (onward-end Delete Next id next z)
             (record {
@@ -181,7 +181,7 @@ module _ (s : List ℕ) (lim : Limits) (A : Answer ℕ) (c : Check) (R : ℕ →
       kept-used : min (c .tally .words + c .clause .size) largest ≡ c .tally .words + length (w .adding .literals)
       kept-used = omega (arith, w .words-fit, w .adding .size)
 
-      pub clause-kept : FineAt s lim A (keptAs c .tally) (keptAs c .clause) kept-rows kept-words ms (entered s (keptAs c))
+      pub clause-kept : InvariantAt s lim A (keptAs c .tally) (keptAs c .clause) kept-rows kept-words ms (entered s (keptAs c))
       clause-kept =
           record {
             base =
@@ -213,7 +213,7 @@ module _ (s : List ℕ) (lim : Limits) (A : Answer ℕ) (c : Check) (R : ℕ →
   -- a clause that follows is judged
   module _ (at : ℕ) (w : Following s lim A (c .tally) (c .clause) R ws ms at) where
     abbrev Judged : Phase → Type 0
-    Judged p = FineAt s lim A (c .tally) (c .clause) R ws ms (entered s (withPhase c p))
+    Judged p = InvariantAt s lim A (c .tally) (c .clause) R ws ms (entered s (withPhase c p))
 
     -- the empty clause
     empty-judged : w .adding .literals ≡ [] → (t : Bool) → ltb at (length s) ≡ t → Judged (cond t (Refused 18) Proved)

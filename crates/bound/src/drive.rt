@@ -26,7 +26,7 @@ ghost use mathlib.Core.Path.{_≡_};
 ghost use Rattle.store.specs.Directory.{rowsOf, capacity};
 ghost use Rattle.bound.specs.Run.{answerOf, Driven};
 
-// The answer of a check that has ended.
+// The answer of a check that has ended; one that has not is never asked.
 fn answer(c: Check, m: Machine) -> CheckAnswer
     ensures { λ r. ⌜ r ≡ answerOf (c .tally .steps) (m .phase) ⌝ }
 {
@@ -75,14 +75,12 @@ pub fn drive(
         let at = m.at;
         let tally = c.tally;
         let count = tally.rows;
-        if turn == LOOK {
+        if turn <= DELETE {
             let p = find(rows, count, m.want);
             let row = p.hit;
-            m = advance(m, row, proof, words, marks);
-        } else if turn == DELETE {
-            let p = find(rows, count, m.want);
-            let row = p.hit;
-            mark_dead(rows, p.at);
+            if turn == DELETE {
+                mark_dead(rows, p.at);
+            }
             m = advance(m, row, proof, words, marks);
         } else if turn == KEEP {
             append(rows, count, row_of(c));

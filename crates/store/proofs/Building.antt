@@ -13,7 +13,7 @@ use Rattle.scope.specs.Formula.{words}
 use Rattle.scope.specs.Steps.{put}
 use Rattle.store.specs.declared.directory.Row.{Row}
 use Rattle.store.specs.Clauses.{slice-past}
-use Rattle.store.specs.Marked.{mark, Small, Plain, flat, rowsFor, Hold, BuiltFor}
+use Rattle.store.specs.Marked.{mark, Small, Plain, flat, rowsFor, RowsAre, BuiltFor}
 
 -- a word without its mark
 unfoldable pub plain : ℕ → ℕ
@@ -83,13 +83,13 @@ module _ (id first i : ℕ) (ws : List ℕ) (end : ℕ) (h : i < end) (k : end �
   unfolding rowsIn
   rows-unmarked m = rw (slice-cons i end ws 0 h k, lt-leb 2147483648 (getD ws i 0) m, add-one)
 
-hold-cons : (R : ℕ → Row) (k : ℕ) (r : Row) (rs : List Row) → R k ≡ r → Hold R (k + 1) rs → Hold R k (r ∷ rs)
-unfolding Hold
-hold-cons R k r rs e t = (e, rw add-one at t)
+rows-cons : (R : ℕ → Row) (k : ℕ) (r : Row) (rs : List Row) → R k ≡ r → RowsAre R (k + 1) rs → RowsAre R k (r ∷ rs)
+unfolding RowsAre
+rows-cons R k r rs e t = (e, rw add-one at t)
 
-hold-nil : (R : ℕ → Row) (k : ℕ) → Hold R k []
-unfolding Hold
-hold-nil R k = tt
+rows-nil : (R : ℕ → Row) (k : ℕ) → RowsAre R k []
+unfolding RowsAre
+rows-nil R k = tt
 
 -- Between the words: n rows are there, the clause at hand began at first, i of end words are passed
 pub record Building (ws₀ ws : List ℕ) (cap : ℕ) (R : ℕ → Row) (end n first i : ℕ) : Type 0 where
@@ -99,7 +99,7 @@ pub record Building (ws₀ ws : List ℕ) (cap : ℕ) (R : ℕ → Row) (end n f
   pub words : ws ≡ plainTo ws₀ i
   pub count : n + length (rowsIn (n + 1) first i (slice i end ws₀)) ≡ length (rowsIn 1 0 0 (slice 0 end ws₀))
   pub hold : length (rowsIn 1 0 0 (slice 0 end ws₀)) ≤ cap → (R′ : ℕ → Row) → ((k : ℕ) → k < n → R′ k ≡ R k)
-      → Hold R′ n (rowsIn (n + 1) first i (slice i end ws₀)) → Hold R′ 0 (rowsIn 1 0 0 (slice 0 end ws₀))
+      → RowsAre R′ n (rowsIn (n + 1) first i (slice i end ws₀)) → RowsAre R′ 0 (rowsIn 1 0 0 (slice 0 end ws₀))
 
 pub build-start : (ws₀ : List ℕ) (cap : ℕ) (R : ℕ → Row) (end : ℕ) → Building ws₀ ws₀ cap R end 0 0 0
 build-start ws₀ cap R end =
@@ -143,7 +143,7 @@ module _ (ws₀ ws : List ℕ) (cap : ℕ) (R : ℕ
             λ c R″ same t.
             let l : n < cap = omega (arith, b .count, ap length e) in
             b .hold c R″ (λ j g. same j (omega arith) ∙ ap (λ f. f j) (a l) ∙ rw (ne-eqb j n (λ z. omega arith)))
-            (rw e (hold-cons R″ n _ _ (same n (omega arith) ∙ ap (λ f. f n) (a l) ∙ rw (eq-eqb n n refl, r)) t));
+            (rw e (rows-cons R″ n _ _ (same n (omega arith) ∙ ap (λ f. f n) (a l) ∙ rw (eq-eqb n n refl, r)) t));
       }
 
 -- what the rows of marked clauses are
@@ -212,7 +212,7 @@ module _ (f : List (List ℕ)) (rest ws₀ ws : List ℕ) (cap : ℕ) (R : ℕ
       let back : drop i ws₀ ≡ rest = rw (e, z) (drop-at (flatMap mark f) rest (words f) long) in
       let all : rowsIn 1 0 0 (slice 0 end ws₀) ≡ rowsFor 1 0 f = rw (first-words end y) (rows-marks 1 0 f p) in
       let full : length (rowsIn 1 0 0 (slice 0 end ws₀)) ≡ length f = ap length all ∙ length-rows 1 0 f in
-      let last : Hold R n (rowsIn (n + 1) first i (slice i end ws₀)) = rw none (hold-done n first i) in
+      let last : RowsAre R n (rowsIn (n + 1) first i (slice i end ws₀)) = rw none (hold-done n first i) in
       record {
         unmarked = b .words ∙ rw (back, first-words i z, plain-marks f p);
         rows = rw (← all) (b .hold (omega arith) R (λ k l. refl) last);
@@ -222,8 +222,8 @@ module _ (f : List (List ℕ)) (rest ws₀ ws : List ℕ) (cap : ℕ) (R : ℕ
       rows-done : (n first i : ℕ) → rowsIn (n + 1) first i [] ≡ []
       rows-done n first i = rows-none (n + 1) first i
 
-      hold-done : (n first i : ℕ) → Hold R n (rowsIn (n + 1) first i [])
-      hold-done n first i = rw (rows-none (n + 1) first i) (hold-nil R n)
+      hold-done : (n first i : ℕ) → RowsAre R n (rowsIn (n + 1) first i [])
+      hold-done n first i = rw (rows-none (n + 1) first i) (rows-nil R n)
 
 pub build-length : {ws₀ ws : List ℕ} {cap : ℕ} {R : ℕ → Row} {end n first i : ℕ} → Building ws₀ ws cap R end n first i
     → end ≤ length ws₀

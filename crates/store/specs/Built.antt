@@ -16,7 +16,7 @@ use Rattle.store.specs.Clauses.{part}
 use Rattle.store.specs.Rows.{Rising}
 use Rattle.store.specs.Live.{liveRows, row-found, row-missing}
 use Rattle.store.specs.Holding.{All, all-at, Good, Holding}
-use Rattle.store.specs.Marked.{flat, rowsFor, Hold, BuiltFor}
+use Rattle.store.specs.Marked.{flat, rowsFor, RowsAre, BuiltFor}
 
 -- P of every literal of some clauses
 abbrev pub Each : (ℕ → Type 0) → List (List ℕ) → Type 0
@@ -30,9 +30,9 @@ clauseAt f i = getD f i []
 abbrev wordsBefore : List (List ℕ) → ℕ → ℕ
 wordsBefore f i = words (take i f)
 
-row-at : (R : ℕ → Row) (k id first : ℕ) (f : List (List ℕ)) → Hold R k (rowsFor id first f) → (i : ℕ) → i < length f
+row-at : (R : ℕ → Row) (k id first : ℕ) (f : List (List ℕ)) → RowsAre R k (rowsFor id first f) → (i : ℕ) → i < length f
     → R (k + i) ≡ record { id = id + i; first = first + wordsBefore f i; len = length (clauseAt f i); live = 1 }
-unfolding Hold rowsFor words
+unfolding RowsAre rowsFor words
 row-at R k id first [] h i l = absurd (omega arith)
 row-at R k id first (c ∷ cs) h zero l =
     let e : (n : ℕ) → n + 0 ≡ n = λ n. omega arith in rw (e k, e id, e first) (h .0)

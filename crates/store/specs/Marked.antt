@@ -32,14 +32,14 @@ rowsFor id first [] = []
 rowsFor id first (c ∷ cs) = record { id = id; first = first; len = length c; live = 1 } ∷ rowsFor (suc id) (first + length c) cs
 
 -- the rows from k on
-unfoldable pub Hold : (ℕ → Row) → ℕ → List Row → Type 0
-Hold R k [] = Unit
-Hold R k (r ∷ rs) = (R k ≡ r) × Hold R (suc k) rs
+unfoldable pub RowsAre : (ℕ → Row) → ℕ → List Row → Type 0
+RowsAre R k [] = Unit
+RowsAre R k (r ∷ rs) = (R k ≡ r) × RowsAre R (suc k) rs
 
 -- what the building of the directory leaves, for clauses that stand marked in the words
 pub record BuiltFor (f : List (List ℕ)) (rest ws′ : List ℕ) (R : ℕ → Row) (n : ℕ) : Type 0 where
   pub unmarked : ws′ ≡ flat f ++ rest
-  pub rows : Hold R 0 (rowsFor 1 0 f)
+  pub rows : RowsAre R 0 (rowsFor 1 0 f)
   pub count : n ≡ length f
 
 pub record Built (ws ws′ : List ℕ) (cap : ℕ) (R : ℕ → Row) (total n : ℕ) : Type 0 where

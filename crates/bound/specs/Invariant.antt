@@ -123,18 +123,18 @@ module _ (s : List ℕ) (lim : Limits) (A : Answer ℕ) (tally : Tally) (clause 
     pub answer : A ≡ ending lim step (byDeleted (stateOf (step .done) tally (liveIn tally R ws))
         (deleted (liveIn tally R ws) (h ∷ left)))
 
-  abbrev pub FineIn : Phase → ℕ → ℕ → Type 0
-  FineIn Next at want = Reading at
-  FineIn Walk at want = Walking want at
-  FineIn Followed at want = Following at
-  FineIn Keep at want = Keeping
-  FineIn Wipe at want = Wiping want at
-  FineIn Delete at want = Deleting want at
-  FineIn Proved at want = A ≡ answered (tally .steps)
-  FineIn (Refused k) at want = A ≡ refusal k (tally .steps)
+  abbrev pub InvariantIn : Phase → ℕ → ℕ → Type 0
+  InvariantIn Next at want = Reading at
+  InvariantIn Walk at want = Walking want at
+  InvariantIn Followed at want = Following at
+  InvariantIn Keep at want = Keeping
+  InvariantIn Wipe at want = Wiping want at
+  InvariantIn Delete at want = Deleting want at
+  InvariantIn Proved at want = A ≡ answered (tally .steps)
+  InvariantIn (Refused k) at want = A ≡ refusal k (tally .steps)
 
-  abbrev pub FineAt : Machine → Type 0
-  FineAt m = FineIn (m .phase) (m .at) (m .want)
+  abbrev pub InvariantAt : Machine → Type 0
+  InvariantAt m = InvariantIn (m .phase) (m .at) (m .want)
 
-abbrev pub Fine : List ℕ → Limits → Answer ℕ → World → Type 0
-Fine s lim A w = FineAt s lim A (w .check .tally) (w .check .clause) (w .rows) (w .words) (w .marks) (w .machine)
+abbrev pub Invariant : List ℕ → Limits → Answer ℕ → World → Type 0
+Invariant s lim A w = InvariantAt s lim A (w .check .tally) (w .check .clause) (w .rows) (w .words) (w .marks) (w .machine)

@@ -21,7 +21,6 @@ use Rattle.bound.specs.Reading.{ReadsStep, adds, deletes, misformed}
 use Rattle.bound.specs.Machine as machine
 use Rattle.bound.specs.Machine.{turnOf, turn-phase, stopped, onward, walked, Advances, gone, broken, walks, wipes, idle}
 use Rattle.bound.specs.Check.{verdict, firstId, enteredAt, entered, stepped, TakesStep, over, takes}
-use Rattle.bound.specs.Run as run
 use Rattle.bound.specs.Run.{World, Turn, looks, keeps, judges, reads}
 
 -- what is left: of a proof of P bytes and a step whose hints stand at h, by stages and by the offset in each
@@ -203,10 +202,8 @@ lower-falls P w v h l e = (rw e (l .past), rw e (l .less))
 pub turn-falls : (s : List ℕ) (last cap : ℕ) (w v : World) → Turn s last cap w v → Past (w .check) (w .machine)
     → Falls (length s) w v
 unfolding leftAt
-turn-falls s last cap w v (looks p t f a c r ws) l =
-    lower-falls (length s) w v _ (advance-lower s (w .check .clause .hints) (w .machine) a (omega arith) l) (rw c)
-turn-falls s last cap w v (run.deletes p t f d a c ws) l =
-    lower-falls (length s) w v _ (advance-lower s (w .check .clause .hints) (w .machine) a (omega arith) l) (rw c)
+turn-falls s last cap w v (looks p t f r d a c ws) l =
+    lower-falls (length s) w v _ (advance-lower s (w .check .clause .hints) (w .machine) a t l) (rw c)
 turn-falls s last cap w v (keeps t a c k e ms) l =
     let h = w .check .clause .hints in
     lower-falls (length s) w v h
