@@ -29,18 +29,25 @@ pub fn write_gates(
         (world s (now (text .entry)) (now (words .entry))) (world (r .sink) (now (text .exit)) (now (words .exit))) (r .next) ⌝ }
 {
     match kind {
+        Kind::Clash(_) => Written { sink: s, next: v },
+        Kind::Unavailable(_) => Written { sink: s, next: v },
+        Kind::Preferred(_) => Written { sink: s, next: v },
+        Kind::Split(_) => Written { sink: s, next: v },
+        Kind::Spread(_) => Written { sink: s, next: v },
+        Kind::Busy(_) => Written { sink: s, next: v },
         Kind::Cluster(f) => {
+            let n = f.groups;
             let sink = kinds::write_ors(
-                job, model, text, words, s, head, f.resource, groups, list, f.groups, v,
+                job, model, text, words, s, head, f.resource, groups, list, n, v,
             );
-            Written {
-                sink,
-                next: v + f.groups,
-            }
+            let next = v + n;
+            Written { sink, next }
         }
-        Kind::Idle(f) => kinds::write_gaps(
-            job, model, text, words, s, head, f.resource, groups, list, f.groups, v,
-        ),
-        _ => Written { sink: s, next: v },
+        Kind::Idle(f) => {
+            let n = f.groups;
+            kinds::write_gaps(
+                job, model, text, words, s, head, f.resource, groups, list, n, v,
+            )
+        }
     }
 }
