@@ -13,8 +13,8 @@ use Rattle.literals.specs.Variables.{xAt}
 use Rattle.literals.specs.Words.{Holds}
 use Rattle.literals.specs.Numbered.{xsOf, gapGates, idleGates}
 use Rattle.items.specs.Written.{Room, Wrote, Left, left-turn, room-first}
-use Rattle.kinds.proofs.Lengths.{length-gaps}
-use Rattle.kinds.proofs.GroupUses.{leading-turn, leading-end}
+use Rattle.kinds.specs.Lengths.{length-gaps}
+use Rattle.kinds.specs.GroupUses.{leading-turn, leading-end}
 
 -- the variables of a group's gates
 group-gates : (xs : List ℕ) (m v : ℕ) → gates (map gate (gapGates xs 1 m v)) ≡ 3 * m

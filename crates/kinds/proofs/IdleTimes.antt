@@ -14,7 +14,7 @@ use Rattle.gates.specs.Literals.{LiteralsTo}
 use Rattle.gates.specs.Rows.{gates-map}
 use Rattle.literals.specs.Numbered.{gapGates}
 use Rattle.items.specs.Written.{Wrote, wrote-then}
-use Rattle.kinds.proofs.Lengths.{length-gaps}
+use Rattle.kinds.specs.Lengths.{length-gaps}
 
 -- a word that was put back
 pub put-back : (b : List ℕ) (k y : ℕ) → set (set b k y) k (getD b k 0) ≡ b

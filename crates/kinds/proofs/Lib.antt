@@ -1,5 +1,2 @@
-pub mod Lengths
-pub mod Cases
-pub mod GroupUses
 pub mod IdleTimes
 pub mod GroupGaps

@@ -11,7 +11,7 @@ use Rattle.literals.specs.Words.{holds-none, holds-as}
 use Rattle.literals.specs.Numbered.{numbered}
 use Rattle.kinds.specs.Ground.{ground-sizes, ground-event, ground-resource, ground-group, ground-ascends, ground-events}
 use Rattle.kinds.specs.Counted.{countedList}
-use Rattle.kinds.proofs.Cases.{clash-literals, spread-fit, cluster-fit, idle-fit}
+use Rattle.kinds.specs.Cases.{clash-literals, spread-fit, cluster-fit, idle-fit}
 use borrow.Author.Needs.{needs}
 use Rattle.kinds.proofs.counted.gather.Statement.{statement}
 use Rattle.kinds.proofs.counted.gather.Tie as tie

@@ -8,7 +8,7 @@ use Rattle.literals.specs.Tables.{groupIn}
 use Rattle.items.specs.Held.{held-literals}
 use Rattle.items.specs.Written.{Room, Left, left-start, left-room, left-end}
 use Rattle.kinds.specs.Ground.{ground-sizes, ground-resource, ground-group}
-use Rattle.kinds.proofs.GroupUses.{leading-at, uses-proper, uses-count}
+use Rattle.kinds.specs.GroupUses.{leading-at, uses-proper, uses-count}
 use Rattle.kinds.proofs.GroupGaps.{idleLeft, idle-turn, idle-room, idle-end}
 use borrow.Author.Needs.{needs}
 use Rattle.kinds.proofs.gaps.write_gaps.Statement.{statement}

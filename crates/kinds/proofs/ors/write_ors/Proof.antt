@@ -8,7 +8,7 @@ use Rattle.literals.specs.Tables.{groupIn}
 use Rattle.items.specs.Held.{held-literals}
 use Rattle.items.specs.Written.{Left, left-start, left-turn, left-end}
 use Rattle.kinds.specs.Ground.{ground-sizes, ground-resource, ground-group}
-use Rattle.kinds.proofs.GroupUses.{leading-at, uses-proper, uses-count, orsLeft, ors-turn, ors-end, or-wrote}
+use Rattle.kinds.specs.GroupUses.{leading-at, uses-proper, uses-count, orsLeft, ors-turn, ors-end, or-wrote}
 use borrow.Author.Needs.{needs}
 use Rattle.kinds.proofs.ors.write_ors.Statement.{statement}
 use Rattle.kinds.proofs.ors.write_ors.Tie as tie

@@ -7,7 +7,7 @@ use lib.ListN.{length, take, length-map}
 use Rattle.scope.specs.Cnf.{or}
 use Rattle.scope.specs.Kinds.{from, clash, spread, cluster, idle}
 use Rattle.number.specs.Each.{Each}
-use Rattle.number.specs.Laws.{ascending-length}
+use Rattle.number.specs.Laws.{Ascending, ascending-length}
 use Rattle.number.specs.Lists.{leading, length-leading, leading-take}
 use Rattle.tables.specs.Rows.{rowAt}
 use Rattle.constraint.specs.declared.kinds.Head.{Head}
@@ -18,7 +18,7 @@ use Rattle.literals.specs.Numbered.{numbered, xsOf, innerCount, idleGates}
 use Rattle.literals.specs.Tables.{groupIn}
 use Rattle.kinds.specs.Ground.{Ground, cellsOf, ground-events}
 use Rattle.kinds.specs.Counted.{only, countedList, listIn, Fit, GatesIn}
-use Rattle.kinds.proofs.Lengths.{length-every, length-each, length-idle}
+use Rattle.kinds.specs.Lengths.{length-every, length-each, length-idle}
 
 -- a clash has no gates, and none of its literals is counted here
 pub clash-literals : (T C : ℕ) (group : ℕ → List ℕ) (r v : ℕ) → countedList T C group (clash r) .literals v ≡ []
@@ -49,6 +49,18 @@ pub record Idles (times v next : ℕ) : Type 0 where
   pub count : (next - v) / 3 ≤ 255
   pub last : v + 2 + 3 * ((next - v) / 3) ≤ 8000003
 
+-- how many gates a cluster and an idle limit have
+module _ (groups : List ℕ) (h : Head) (r : ℕ) (hs : List ℕ) where
+  abbrev pub groupXs : List (List ℕ)
+  groupXs = xsOf (h .times) (cellsOf h) (groupIn groups) r hs
+
+  pub cluster-gates : length (map or groupXs) ≡ length hs
+  cluster-gates =
+      length-map groupXs or ∙ length-map hs (λ g. map (xAt (h .times) (cellsOf h) r) (groupIn groups g))
+
+  pub idle-gates : (v : ℕ) → length (idleGates groupXs v) ≡ 3 * innerCount groupXs
+  idle-gates v = length-idle groupXs v
+
 module _ (groups list : List ℕ) (h : Head) where
   pub spread-fit : (n g lo hi : ℕ) → Fit groups list h (spread (leading n list) g lo hi) → Events groups list n g
   unfolding countedList numbered
@@ -71,19 +83,21 @@ module _ (groups list : List ℕ) (h : Head) where
   cluster-fit r n lo hi v next f g =
       let i = length-leading n list in
       let e = length-every 1 v (length (leading n list)) in
-      let x = length-map (leading n list) (λ g. map (xAt (h .times) (cellsOf h) r) (groupIn groups g)) in
-      let o = length-map (xsOf (h .times) (cellsOf h) (groupIn groups) r (leading n list)) or in
-      record { count = omega (arith, f .short v, i, e); last = omega (arith, g .next, g .small, i, x, o) }
-
-  abbrev idleTimes : (r n : ℕ) → ℕ
-  idleTimes r n = innerCount (xsOf (h .times) (cellsOf h) (groupIn groups) r (leading n list))
+      let x = cluster-gates groups h r (leading n list) in
+      record { count = omega (arith, f .short v, i, e); last = omega (arith, g .next, g .small, i, x) }
 
   pub idle-fit : (r n lo hi v next : ℕ) → Fit groups list h (idle r (leading n list) lo hi)
       → GatesIn groups h (idle r (leading n list) lo hi) v next
-      → Idles (innerCount (xsOf (h .times) (cellsOf h) (groupIn groups) r (leading n list))) v next
+      → Idles (innerCount (groupXs groups h r (leading n list))) v next
   unfolding countedList numbered
   idle-fit r n lo hi v next f g =
-      let e = length-every 3 (v + 2) (idleTimes r n) in
-      let x = length-idle (xsOf (h .times) (cellsOf h) (groupIn groups) r (leading n list)) v in
-      let k : (next - v) / 3 ≡ idleTimes r n = omega (arith, g .next, x) in
+      let m = innerCount (groupXs groups h r (leading n list)) in
+      let e = length-every 3 (v + 2) m in
+      let x = idle-gates groups h r (leading n list) v in
+      let k : (next - v) / 3 ≡ m = omega (arith, g .next, x) in
       record { value = k; count = omega (arith, f .short v, e, k); last = omega (arith, g .next, g .small, x, k) }
+
+  -- the groups of a list that stands in the store
+  pub groups-room : (n : ℕ) → Ground groups h → length list ≡ 2048 → Ascending (h .groups) 0 (leading n list) → n ≤ length list
+  groups-room n g s a =
+      omega (arith, g .numbers, length-leading n list, ascending-length (h .groups) 0 (leading n list) a (omega arith))

@@ -1,0 +1,2 @@
+// The clauses of a constraint.
+mod added;
