@@ -29,7 +29,16 @@ fn write_event_starts(
     let v = cells + y;
     let mut z = s;
     for t in 0..times {
-        z = gates::write_start(job, model, text, words, z, t == 0, y + (t + 1), v + (t + 1));
+        z = gates::clauses::write_start(
+            job,
+            model,
+            text,
+            words,
+            z,
+            t == 0,
+            y + (t + 1),
+            v + (t + 1),
+        );
     }
     z
 }

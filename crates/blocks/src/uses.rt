@@ -35,7 +35,7 @@ fn write_resource_uses(
     let mut z = s;
     for t in 0..times {
         let m = literals::y_of_events(users, n, times, t + 1, &mut buf);
-        z = gates::write_or(job, model, text, words, z, &mut buf, m, v + t);
+        z = gates::clauses::write_or(job, model, text, words, z, &mut buf, m, v + t);
     }
     z
 }

@@ -143,17 +143,21 @@ gates-append (hard c ∷ is) js = gates-append is js
 gates-append (soft w l ∷ is) js = gates-append is js
 
 pub count-gates : (J w : ℕ) (r : Rule) (xs : List ℕ) (v : ℕ)
-  → gates (countInto J w r xs v) ≡ length xs * J + cond (r .zeroFree) (r .lo - 1) 0
+    → gates (countInto J w r xs v) ≡ length xs * J + cond (r .zeroFree) (r .lo - 1) 0
 unfolding countInto boundItems
 count-gates J w r xs v =
     let q : ℕ → ℕ = lastRow noRow (ones xs) J v in
     let low : List Item = cond (r .zeroFree) (shortUnits w q 2 (r .lo - 1) (v + length xs * J)) (lowUnits w q (r .lo)) in
     gates-append (map gate (counter noRow (ones xs) J v)) (low ++ highUnits w q (r .hi) (length xs))
-    ∙ rw (gates-map (counter noRow (ones xs) J v), counter-length noRow xs J v, gates-append low (highUnits w q (r .hi) (length xs)),
-      high-gates w q (r .hi) (length xs))
-      (ap (_+_ (length xs * J)) (add-zero (gates low) ∙ go (r .zeroFree)))
+    ∙ rw (
+      gates-map (counter noRow (ones xs) J v),
+      counter-length noRow xs J v,
+      gates-append low (highUnits w q (r .hi) (length xs)),
+      high-gates w q (r .hi) (length xs),
+    )
+    (ap (_+_ (length xs * J)) (add-zero (gates low) ∙ go (r .zeroFree)))
   where
     go : (t : Bool) → gates (cond t (shortUnits w (lastRow noRow (ones xs) J v) 2 (r .lo - 1) (v + length xs * J)) (lowUnits w (lastRow noRow (ones xs) J v) (r .lo)))
-      ≡ cond t (r .lo - 1) 0
+        ≡ cond t (r .lo - 1) 0
     go true = short-gates w (lastRow noRow (ones xs) J v) 2 (r .lo - 1) (v + length xs * J)
     go false = low-gates w (lastRow noRow (ones xs) J v) (r .lo)

@@ -38,7 +38,7 @@ fn write_earlier(
     ensures { λ r. ⌜ now (buf .exit) ≡ now (buf .entry) ⌝ }
 {
     let x = buf[k];
-    let z = gates::write_or(job, model, text, words, s, buf, k, o);
+    let z = gates::clauses::write_or(job, model, text, words, s, buf, k, o);
     buf[k] = x;
     z
 }
@@ -60,7 +60,7 @@ fn write_later(
         (world s (now (text .entry)) (now (words .entry))) (world r (now (text .exit)) (now (words .exit))) ⌝ }
     ensures { λ r. ⌜ take n (now (buf .exit)) ≡ take n (now (buf .entry)) ⌝ }
 {
-    gates::write_or(job, model, text, words, s, &mut buf[a..], n - a, o)
+    gates::clauses::write_or(job, model, text, words, s, &mut buf[a..], n - a, o)
 }
 
 // G, H and I of member k of a group, whose X are the first n words of buf. These stay; the word after them does not.
@@ -83,7 +83,7 @@ fn write_gap(
     let x = buf[k];
     let a = write_earlier(job, model, text, words, s, buf, k, v);
     let b = write_later(job, model, text, words, a, buf, k + 1, n, v + 1);
-    gates::write_idling(job, model, text, words, b, x, 2 * v, 2 * (v + 1), v + 2)
+    gates::clauses::write_idling(job, model, text, words, b, x, 2 * v, 2 * (v + 1), v + 2)
 }
 
 // Those of each member of a group but first and last.

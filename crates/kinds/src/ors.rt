@@ -46,7 +46,7 @@ pub fn write_ors(
         let k = i as usize;
         let g = list[k] as u32;
         let n = literals::x_of_group(groups, g, times, cells, resource, &mut buf);
-        z = gates::write_or(job, model, text, words, z, &mut buf, n, v + i);
+        z = gates::clauses::write_or(job, model, text, words, z, &mut buf, n, v + i);
     }
     z
 }

@@ -38,7 +38,17 @@ pub fn write_gates(
         Kind::Cluster(f) => {
             let n = f.groups;
             let sink = kinds::write_ors(
-                job, model, text, words, s, head, f.resource, groups, list, n, v,
+                job,
+                model,
+                text,
+                words,
+                s,
+                head,
+                f.resource,
+                groups,
+                list,
+                n,
+                v,
             );
             let next = v + n;
             Written { sink, next }
@@ -46,7 +56,17 @@ pub fn write_gates(
         Kind::Idle(f) => {
             let n = f.groups;
             kinds::write_gaps(
-                job, model, text, words, s, head, f.resource, groups, list, n, v,
+                job,
+                model,
+                text,
+                words,
+                s,
+                head,
+                f.resource,
+                groups,
+                list,
+                n,
+                v,
             )
         }
     }

@@ -65,7 +65,7 @@ tables-last d te i T n t e =
 module _ {s d te tg : List ℕ} {h : Head} (a : Accepted s d te tg h) where
   -- its constraints are those that the walk decodes
   pub accepted-whole : repeat (h .constraints) (decodedAt (countsIn h) s) (h .start) ≡ got (instanceOf s d te tg h .constraints) (length s)
-  accepted-whole = rw sub-zero at (a .walk .left)
+  accepted-whole = rw (a .constraints) (rw sub-zero at (a .walk .left))
 
   pub accepted-decoded : decodedOf s h ≡ instanceOf s d te tg h .constraints
   unfolding decodedOf

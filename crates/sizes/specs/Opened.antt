@@ -102,7 +102,7 @@ module _ {s d te tg list : List ℕ} {h : Head} {B : ℕ} (o : Opened s d te tg 
           users = opened-users;
           ascending = o .accepted .groups;
           valid = accepted-instance (o .accepted);
-          walk = o .accepted .walk;
+          walk = rw (o .accepted .constraints) (o .accepted .walk);
         }
 
     -- with what stands before the constraints
