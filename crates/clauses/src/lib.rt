@@ -1,0 +1,1 @@
+// The clauses of an instance's formula, in the order of document 01.
