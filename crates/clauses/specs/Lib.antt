@@ -1,5 +1,7 @@
 pub mod Writable
 pub mod Position
 pub mod Before
+pub mod Blocks
 pub mod Known
 pub mod Fitting
+pub mod Walked

@@ -1,1 +1,2 @@
 // The clauses of an instance's formula, in the order of document 01.
+mod before;
