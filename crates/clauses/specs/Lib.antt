@@ -5,3 +5,4 @@ pub mod Blocks
 pub mod Known
 pub mod Fitting
 pub mod Walked
+pub mod Whole
