@@ -1,17 +1,17 @@
 -- The items that stand before the constraints: starts, uses and durations; and the whole formula in these two parts.
-use mathlib.Core.Path.{_≡_, refl, ap, _∙_, sym}
+use mathlib.Core.Path.{_≡_, refl, _∙_, sym}
 use mathlib.Core.List.{List, [], _∷_, _++_, map, flatMap, append-assoc}
-use Prim.Native.Nat.{ℕ, zero, suc, _+_, _-_, _*_, _≤_, _<_}
+use Prim.Native.Nat.{ℕ, _+_, _-_, _*_}
 use native.Mathlib.Omega.{arith}
-use lib.ListN.{length, take, length-append, length-map}
-use Rattle.scope.specs.Kinds.{Constraint, from, upTo}
-use Rattle.scope.specs.Cnf.{Gate, Item, gate, gates}
+use lib.ListN.{length, length-append, length-map}
+use Rattle.scope.specs.Kinds.{Constraint, upTo}
+use Rattle.scope.specs.Cnf.{Item, gate, gates}
 use Rattle.sink.specs.Run.{Ran}
 use Rattle.sink.specs.Lines.{Line, lines}
 use Rattle.sink.specs.World.{World}
 use Rattle.gates.specs.Rows.{gates-map}
 use Rattle.literals.specs.Numbered.{allNumbered, durationLists, startClauses, useGates, constraintItems, listItems, numberedFormula}
-use Rattle.items.specs.Written.{gates-both, Room, Wrote, room-first, room-rest, wrote-then}
+use Rattle.items.specs.Written.{gates-both, Room, Wrote, wrote-then}
 use Rattle.items.specs.Numbers.{length-upTo}
 
 -- starts have no gates

@@ -1,7 +1,7 @@
 -- The counted lists of a constraint of an accepted file are short, and so its writer can be called.
-use mathlib.Core.Path.{_≡_, refl, sym, ap, _∙_}
+use mathlib.Core.Path.{_≡_, refl}
 use mathlib.Core.List.{List, [], _∷_, map}
-use Prim.Native.Nat.{ℕ, _+_, _*_, _≤_, _<_, max}
+use Prim.Native.Nat.{ℕ, _≤_}
 use native.Mathlib.Omega.{arith}
 use lib.ListN.{length}
 use Rattle.scope.specs.Kinds.{Kind, clash, unavailable, preferred, split, spread, busy, cluster, idle, Constraint, Event, Atom, Rule, Y, Entry, atom, between, upTo, users, groupAt, rulesOf, lowOf, longest}
@@ -14,11 +14,10 @@ use Rattle.constraint.specs.Answers.{countsIn}
 use Rattle.constraint.specs.Valid.{InRange}
 use Rattle.instance.specs.Answers.{instanceOf, headStart}
 use Rattle.instance.specs.Laws.{Accepted, ConstraintOf, event-rows}
-use Rattle.instance.specs.Stores.{Tables}
 use Rattle.literals.specs.Users.{usersIn, users-in}
 use Rattle.literals.specs.Numbered.{Numbered}
 use Rattle.literals.specs.Laws.{Means, Mean, mean-none, mean-more, kind-means}
-use Rattle.literals.specs.Tables.{groupIn, groupsOf, numbered-same}
+use Rattle.literals.specs.Tables.{groupIn, numbered-same}
 use Rattle.kinds.specs.Ground.{cellsOf}
 use Rattle.rules.specs.Fits.{Short, Fits, listsIn}
 use Rattle.clauses.specs.Known.{groups-within, known-groups}

@@ -1,21 +1,19 @@
 -- What is known of an accepted file and its tables, for the writers: the rows, the durations, the formula by the tables.
-use mathlib.Core.Path.{_≡_, refl, sym, ap, _∙_}
+use mathlib.Core.Path.{_≡_, refl, _∙_}
 use mathlib.Core.List.{List, [], _∷_}
-use Prim.Native.Nat.{ℕ, _+_, _*_, _≤_, _<_}
+use Prim.Native.Nat.{ℕ}
 use native.Mathlib.Omega.{arith}
 use lib.ListN.{length, take}
-use Rattle.scope.specs.Kinds.{Kind, clash, unavailable, preferred, split, spread, busy, cluster, idle, Constraint}
+use Rattle.scope.specs.Kinds.{Kind, clash, unavailable, preferred, split, spread, busy, cluster, idle}
 use Rattle.scope.specs.Instance.{Counts}
 use Rattle.scope.specs.Formula.{formula}
 use Rattle.number.specs.Each.{Each, each-none, each-more, each-map}
-use Rattle.tables.specs.Rows.{RowsIn}
 use Rattle.tables.specs.Reading.{event-in, group-ascends}
 use Rattle.constraint.specs.declared.kinds.Head.{Head}
 use Rattle.constraint.specs.Valid.{OneOf, InRange}
 use Rattle.constraint.specs.Walk.{constraintsIn}
 use Rattle.instance.specs.Answers.{instanceOf}
-use Rattle.instance.specs.Laws.{Accepted, event-rows, group-rows}
-use Rattle.instance.specs.Stores.{Tables}
+use Rattle.instance.specs.Laws.{Accepted, group-rows}
 use Rattle.literals.specs.Variables.{Within}
 use Rattle.literals.specs.Proper.{ascending-within}
 use Rattle.literals.specs.Users.{usersIn}

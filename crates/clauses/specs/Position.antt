@@ -1,10 +1,9 @@
 -- The position of a run stops at 2 ^ 63 - 1.
-use mathlib.Core.Path.{_≡_, ap}
+use mathlib.Core.Path.{ap}
 use mathlib.Core.Bool.{Bool, true, false, cond}
 use mathlib.Core.List.{List, [], _∷_, flatMap}
 use Prim.Native.Nat.{ℕ, _≤_}
 use native.Mathlib.Omega.{arith}
-use lib.ListN.{length}
 use Rattle.sink.specs.Run.{run, Ran, run-at}
 use Rattle.sink.specs.Lines.{Line, clauseLine, softLine}
 use Rattle.sink.specs.Block.{mark}

@@ -1,9 +1,9 @@
 -- The whole formula: its blocks and its constraints, each with room for its variables, are its lines.
-use mathlib.Core.Path.{_≡_, refl, sym, ap, _∙_}
+use mathlib.Core.Path.{_≡_, ap, _∙_}
 use mathlib.Core.List.{List, _++_}
-use Prim.Native.Nat.{ℕ, _+_, _*_, _≤_}
+use Prim.Native.Nat.{ℕ, _+_, _*_}
 use native.Mathlib.Omega.{arith}
-use lib.ListN.{length, take}
+use lib.ListN.{take}
 use Rattle.scope.specs.Cnf.{Item, gates}
 use Rattle.scope.specs.Formula.{primary, formula, variables}
 use Rattle.tables.specs.Laws.{length-events}

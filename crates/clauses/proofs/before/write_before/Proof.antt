@@ -1,6 +1,5 @@
 -- `before::write_before` meets its contract.
-use Prim.Native.Nat.{_+_, _*_, _≤_}
-use mathlib.Core.Path.{_≡_, refl}
+use mathlib.Core.Path.{refl}
 use native.Mathlib.Omega.{arith}
 use lib.ListN.{take}
 use Rattle.literals.specs.Users.{usersIn}
