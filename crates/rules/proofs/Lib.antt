@@ -1,1 +1,2 @@
 pub mod GatesOf
+pub mod CountedList
