@@ -1,2 +1,3 @@
 pub mod GatesOf
 pub mod CountedList
+pub mod ClashTimes
