@@ -2,6 +2,7 @@
 mod added;
 mod clash;
 mod list;
+mod part;
+mod rules;
 
-pub use clash::write_clash;
-pub use list::write_list;
+pub use part::write_constraint;
