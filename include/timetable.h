@@ -18,6 +18,8 @@
  *    4   a counted list is longer than 255                     offset of the constraint's kind
  *    5   lo is above hi, or above the list's length            offset of the constraint's kind
  *    6   bytes are left over                                   offset of the first
+ *    7   the bound is above 4,095                              the bound
+ *    8   the formula has more than 8,000,000 variables         0
  *   10   a timetable has the wrong length                      length wanted
  *   11   a timetable has a byte above 1                        offset of the first
  *   12   not a timetable                                       first event that breaks it, from 1
@@ -48,6 +50,18 @@ uint32_t timetable_read(const uint8_t *file, size_t file_length,
                         uint64_t *times, uint64_t *events,
                         uint64_t *resources, uint64_t *groups,
                         uint64_t *constraints, uint64_t *value);
+
+/*
+ * What a proof check needs of the caller's stores at a bound: the sizes of the
+ * hard clauses and the tail for the bound.
+ * Refusals: 1 to 6 for the file, then 7, then 8, the tail included.
+ * Accepted: *variables is how many variables there are, *clauses how many
+ * clauses, and *words how many literals they have; *value is left alone.
+ */
+uint32_t timetable_sizes(const uint8_t *file, size_t file_length,
+                         uint64_t bound, uint64_t *variables,
+                         uint64_t *clauses, uint64_t *words,
+                         uint64_t *value);
 
 /*
  * The score of a timetable: E x T bytes "taken", then E x T bytes "starts".

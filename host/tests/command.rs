@@ -6,7 +6,7 @@ use std::fs;
 use std::io::Write;
 use std::path::{Path, PathBuf};
 use std::process::{Command, Stdio};
-use support::{hex, FILE_A};
+use support::{hex, oversized, FILE_A};
 use timetable::command::refusals;
 use timetable::reference::Refusal;
 
@@ -122,6 +122,30 @@ fn a_long_file_is_shown_around_the_offset() {
 }
 
 #[test]
+fn sizes_prints_what_to_lend() {
+    let found = run(&["sizes", &school("toy.instance"), "3"]);
+    assert_eq!(found.printed, "variables 1478\nclauses 4835\nwords 12187\n");
+    assert_eq!((found.said.as_str(), found.status), ("", 0));
+    let found = run(&["sizes", &school("toy.instance"), "4096"]);
+    assert_eq!(
+        found,
+        Run {
+            printed: "refused 7 4096\n".to_string(),
+            said: "timetable sizes: bound 4096: refusal 7 4096: the bound is above 4,095; \
+                   it is 4096\n"
+                .to_string(),
+            status: 1,
+        }
+    );
+    let large = file("oversized", &oversized());
+    let found = run(&["sizes", &large, "0"]);
+    assert_eq!(found.printed, "refused 8 0\n");
+    let said = "timetable sizes: oversized: refusal 8 0: the formula has more than 8,000,000 \
+                variables\n";
+    assert_eq!((found.said.as_str(), found.status), (said, 1));
+}
+
+#[test]
 fn score_prints_both_amounts() {
     let toy = [school("toy.instance"), school("toy.timetable")];
     let found = run(&["score", &toy[0], &toy[1]]);
@@ -227,7 +251,7 @@ fn help_names_every_subcommand_and_each_has_its_own() {
     assert_eq!((overview.said.as_str(), overview.status), ("", 0));
     assert_eq!(overview, run(&["-h"]));
     assert_eq!(overview, run(&["help"]));
-    for name in ["read", "score", "same"] {
+    for name in ["read", "sizes", "score", "same"] {
         assert!(overview.printed.contains(&format!("\n  {name} ")));
         let help = run(&[name, "--help"]);
         assert_eq!((help.said.as_str(), help.status), ("", 0));
@@ -270,6 +294,18 @@ fn wrong_usage_is_told_and_prints_nothing() {
         ),
         (vec!["read", &missing], "timetable read: "),
         (vec!["same", &toy, "-", "-"], twice),
+        (
+            vec!["sizes", &toy, "-1"],
+            "timetable sizes: there is no option '-1'\n",
+        ),
+        (
+            vec!["sizes", &toy, "3x"],
+            "timetable sizes: '3x' is no number\n",
+        ),
+        (
+            vec!["sizes", &toy, "18446744073709551616"],
+            "timetable sizes: 18446744073709551616 is above 18446744073709551615\n",
+        ),
     ] {
         let found = run(&words);
         assert_eq!((found.printed.as_str(), found.status), ("", 2), "{words:?}");

@@ -1,12 +1,15 @@
 //! The match of models and timetables, and the meaning of "no timetable", on
 //! tiny random instances: every assignment of Y and S is tried.
 
+mod support;
+
+use support::both::{score, sizes};
 use timetable::generate::{
     damaged_bytes, damaged_numbers, encode, instance, model, model_with_tail, proof, Random, Shape,
 };
 use timetable::prover::{clause_list, encode_steps, forgeries, solve, Step, Verdict};
 use timetable::reference::{
-    check, decode, score, sizes, Infeasibility, Instance, Kind, Literal, Objective, Refusal,
+    check, decode, Infeasibility, Instance, Kind, Literal, Objective, Refusal,
 };
 
 /// Shapes with at most 12 variables Y and S.

@@ -1,5 +1,5 @@
-//! The engine against the reference: the same inputs, every byte of every
-//! buffer compared after each call.
+//! The engine against the reference on many seeded inputs, valid and damaged:
+//! `support::both` compares every byte of every buffer after each call.
 //!
 //! `DIFFERENTIAL_SEED` is the first seed and `DIFFERENTIAL_CASES` the number of
 //! cases, where others are wanted than the gate's.
@@ -8,42 +8,42 @@ mod support;
 
 use std::collections::BTreeMap;
 use std::env;
-use std::hint::black_box;
 use std::panic::{catch_unwind, AssertUnwindSafe};
 use std::thread;
 use std::time::{Duration, Instant};
-use support::cases::{self, Case};
-use timetable::engine::{self, call};
+use support::both::{read, same_sheet, score, sizes};
+use timetable::engine;
 use timetable::generate::{
     damaged_bytes, damaged_instance, damaged_numbers, damaged_table, encode, instance, school,
     timetable, Random, Shape,
 };
-use timetable::reference::{self, Instance};
+use timetable::reference::{Instance, Refusal};
 
 /// Cases of a run, and how long they may take.
 const CASES: u64 = 20_000;
 const LIMIT: Duration = Duration::from_secs(120);
 
 #[test]
-fn every_case_of_the_vectors_has_the_expected_answer() {
-    let run = cases::compare(|case| match case {
-        Case::Read(file) => Some(engine::read(file).map(cases::accepted)),
-        Case::Score(file, table) => Some(engine::score(file, table).map(cases::scored)),
-        Case::SameSheet(file, first, second) => {
-            Some(engine::same_sheet(file, first, second).map(cases::compared))
-        }
-        _ => None,
-    });
-    assert_eq!(run, 450 + 240 + 240);
-}
-
-#[test]
 fn files_are_read_alike() {
     let seen = each_seed(|random| {
         let file = any_file(random);
-        read_alike(random, &file)
+        number_of(read(&file))
     });
     assert_eq!(seen, [0, 1, 2, 3, 4, 5, 6]);
+}
+
+#[test]
+fn formulas_are_sized_alike() {
+    let seen = each_seed(|random| {
+        let file = match random.below(10) {
+            0 => any_file(random),
+            1 => encode(&instance(random, &many_units())),
+            _ => mostly_accepted(random).0,
+        };
+        let bound = any_bound(random);
+        number_of(sizes(&file, Some(bound)))
+    });
+    assert_eq!(seen, [0, 1, 2, 3, 4, 5, 6, 7, 8]);
 }
 
 #[test]
@@ -51,7 +51,7 @@ fn timetables_are_scored_alike() {
     let seen = each_seed(|random| {
         let (file, instance) = mostly_accepted(random);
         let table = any_table(random, &instance);
-        score_alike(random, &file, &table)
+        number_of(score(&file, &table))
     });
     assert_eq!(seen, [0, 1, 2, 3, 4, 5, 6, 10, 11, 12]);
 }
@@ -66,7 +66,7 @@ fn timetables_are_compared_alike() {
             1 => damaged_table(random, &first),
             _ => any_table(random, &instance),
         };
-        same_sheet_alike(random, &file, &first, &second)
+        number_of(same_sheet(&file, &first, &second))
     });
     assert_eq!(seen, [0, 1, 2, 3, 4, 5, 6, 10, 11, 12]);
 }
@@ -79,36 +79,36 @@ fn large_timetables_are_scored_alike() {
         let file = encode(&instance);
         for _ in 0..20 {
             let table = timetable(&mut random, &instance);
-            assert_eq!(score_alike(&mut random, &file, &table), 0);
-            assert_eq!(same_sheet_alike(&mut random, &file, &table, &table), 0);
+            assert!(score(&file, &table).is_ok());
+            assert_eq!(same_sheet(&file, &table, &table), Ok(true));
             let damaged = damaged_table(&mut random, &table);
-            score_alike(&mut random, &file, &damaged);
+            let _ = score(&file, &damaged);
         }
     }
 }
 
 #[test]
 fn every_prefix_of_a_file_is_read_alike() {
-    let mut random = Random::new(first_seed());
     for file in [
         &include_bytes!("../schools/toy.instance")[..],
         &include_bytes!("../schools/small.instance")[..],
     ] {
         for length in 0..=file.len() {
-            read_alike(&mut random, &file[..length]);
+            assert_eq!(read(&file[..length]).is_ok(), length == file.len());
         }
     }
 }
 
 #[test]
 fn every_byte_of_a_file_changed_is_read_alike() {
-    let mut random = Random::new(first_seed());
     let file = include_bytes!("../schools/toy.instance");
     for at in 0..file.len() {
         for byte in 0..=u8::MAX {
             let mut file = file.to_vec();
             file[at] = byte;
-            read_alike(&mut random, &file);
+            let accepted = read(&file);
+            let sized = sizes(&file, Some(u64::from(byte)));
+            assert_eq!(accepted.err(), sized.err());
         }
     }
 }
@@ -120,6 +120,7 @@ fn calls_fit_the_stack_that_the_header_names() {
         let file = include_bytes!("../schools/small.instance");
         let table = include_bytes!("../schools/small.timetable");
         assert!(engine::read(file).is_ok());
+        assert!(engine::sizes(file, 10).is_ok());
         assert!(engine::score(file, table).is_ok());
         assert!(engine::same_sheet(file, table, table).is_ok());
     });
@@ -157,6 +158,21 @@ fn first_seed() -> u64 {
 fn number(variable: &str) -> Option<u64> {
     let text = env::var(variable).ok()?;
     Some(text.parse().expect("a number"))
+}
+
+/// The number that a call returned.
+fn number_of<T>(answer: Result<T, Refusal>) -> u32 {
+    answer.err().map_or(0, |refusal| refusal.number)
+}
+
+/// A bound, most often a small one.
+fn any_bound(random: &mut Random) -> u64 {
+    match random.below(10) {
+        0 => 4_094 + random.below(4) as u64,
+        1 => random.draw() >> random.below(64),
+        2..=4 => random.below(4_096) as u64,
+        _ => random.below(60) as u64,
+    }
 }
 
 /// An instance of any shape.
@@ -214,120 +230,13 @@ fn long_lists() -> Shape {
     }
 }
 
-/// A buffer that is lent, with bytes around it that no call may change.
-struct Lent {
-    bytes: Vec<u8>,
-    before: Vec<u8>,
-}
-
-/// How many bytes stand before a lent part, and as many after it.
-const MARGIN: usize = 16;
-
-impl Lent {
-    /// `part` between bytes drawn at random.
-    fn new(random: &mut Random, part: &[u8]) -> Lent {
-        let mut bytes: Vec<u8> = (0..part.len() + 2 * MARGIN)
-            .map(|_| random.draw() as u8)
-            .collect();
-        bytes[MARGIN..][..part.len()].copy_from_slice(part);
-        Lent {
-            before: bytes.clone(),
-            bytes,
-        }
+/// Instances with many soft units, so that a high bound gives a long tail.
+fn many_units() -> Shape {
+    Shape {
+        times: 20..=40,
+        events: 5..=20,
+        constraints: 60..=120,
+        soft: 100,
+        ..Shape::small()
     }
-
-    fn part(&self) -> &[u8] {
-        &self.bytes[MARGIN..self.bytes.len() - MARGIN]
-    }
-
-    /// An input, and what stands around it, is as it was before the call.
-    fn assert_unchanged(&self) {
-        assert!(
-            black_box(&self.bytes) == &self.before,
-            "bytes of an input changed"
-        );
-    }
-}
-
-/// Reads `file` with both, and compares the answer and every output. Gives the
-/// number that the engine returned.
-fn read_alike(random: &mut Random, file: &[u8]) -> u32 {
-    let lent = Lent::new(random, file);
-    let mut draw = || random.draw();
-    let dirty = call::Counts {
-        times: draw(),
-        events: draw(),
-        resources: draw(),
-        groups: draw(),
-        constraints: draw(),
-    };
-    let dirty_value = draw();
-    let mut counts = dirty;
-    let mut value = dirty_value;
-    let number = call::read(lent.part(), &mut counts, &mut value);
-    let (counts, value) = black_box((counts, value));
-    let found = (number, value, counts);
-    let expected = match reference::read(file) {
-        Ok(summary) => {
-            let counts = call::Counts {
-                times: summary.times as u64,
-                events: summary.events as u64,
-                resources: summary.resources as u64,
-                groups: summary.groups as u64,
-                constraints: summary.constraints as u64,
-            };
-            (0, dirty_value, counts)
-        }
-        Err(refusal) => (refusal.number, refusal.value, dirty),
-    };
-    assert_eq!(found, expected, "file {file:02x?}");
-    lent.assert_unchanged();
-    number
-}
-
-/// Scores `table` with both, and compares the answer and every output.
-fn score_alike(random: &mut Random, file: &[u8], table: &[u8]) -> u32 {
-    let lent = [Lent::new(random, file), Lent::new(random, table)];
-    let dirty = call::Amounts {
-        infeasibility: random.draw(),
-        objective: random.draw(),
-    };
-    let dirty_value = random.draw();
-    let mut amounts = dirty;
-    let mut value = dirty_value;
-    let number = call::score(lent[0].part(), lent[1].part(), &mut amounts, &mut value);
-    let (amounts, value) = black_box((amounts, value));
-    let found = (number, value, amounts);
-    let expected = match reference::score(file, table) {
-        Ok(score) => {
-            let amounts = call::Amounts {
-                infeasibility: score.infeasibility.0,
-                objective: score.objective.0,
-            };
-            (0, dirty_value, amounts)
-        }
-        Err(refusal) => (refusal.number, refusal.value, dirty),
-    };
-    assert_eq!(found, expected, "file {file:02x?}, timetable {table:02x?}");
-    lent.iter().for_each(Lent::assert_unchanged);
-    number
-}
-
-/// Compares two timetables with both, and compares the answer.
-fn same_sheet_alike(random: &mut Random, file: &[u8], first: &[u8], second: &[u8]) -> u32 {
-    let lent = [file, first, second].map(|part| Lent::new(random, part));
-    let mut value = random.draw();
-    let [lent_file, lent_first, lent_second] = lent.each_ref().map(Lent::part);
-    let number = call::same_sheet(lent_file, lent_first, lent_second, &mut value);
-    let found = (number, black_box(value));
-    let expected = match reference::same_sheet(file, first, second) {
-        Ok(same) => (0, u64::from(same)),
-        Err(refusal) => (refusal.number, refusal.value),
-    };
-    assert_eq!(
-        found, expected,
-        "file {file:02x?}, timetables {first:02x?} and {second:02x?}"
-    );
-    lent.iter().for_each(Lent::assert_unchanged);
-    number
 }

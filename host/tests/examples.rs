@@ -2,11 +2,12 @@
 
 mod support;
 
+use support::both::{read, score, sizes};
 use support::{first_times, hex, numbers, refused, FILE_A, PROOF_A};
 use timetable::generate::model;
 use timetable::reference::{
-    check, decode, deviation, read, read_number, score, sizes, text_program, Infeasibility,
-    Instance, Objective, Range, Score,
+    check, decode, deviation, read_number, text_program, Infeasibility, Instance, Objective, Range,
+    Score,
 };
 
 fn scored<E>(infeasibility: u64, objective: u64) -> Result<Score, E> {

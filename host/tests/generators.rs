@@ -1,14 +1,16 @@
 //! The generators give what their names say, and damaged inputs reach every
 //! refusal of their place.
 
+mod support;
+
 use std::collections::BTreeMap;
+use support::both::{read, same_sheet, score, sizes};
 use timetable::generate::{
     damaged_instance, damaged_numbers, damaged_table, encode, instance, lent, model, number_starts,
     proof, timetable, Random, Shape,
 };
 use timetable::reference::{
-    check, decode, read, same_sheet, score, sizes, text, text_program, text_size, Infeasibility,
-    Instance, Refusal,
+    check, decode, text, text_program, text_size, Infeasibility, Instance, Refusal,
 };
 
 /// How often each refusal was given; 0 stands for acceptance.

@@ -6,11 +6,12 @@
 
 mod support;
 
+use support::both::{read, same_sheet, score, sizes};
 use support::{clauses, first_times, hex, numbers, oversized, refused, FILE_A, PROOF_A};
 use timetable::prover::{clause_list, encode_steps, solve, Verdict};
 use timetable::reference::{
-    check, decode, read, same_sheet, score, sizes, text, text_program, text_size, Infeasibility,
-    Instance, Objective, Refusal, Score, Summary,
+    check, decode, text, text_program, text_size, Infeasibility, Instance, Objective, Refusal,
+    Score, Summary,
 };
 
 fn read_of(file: &str) -> Result<Summary, Refusal> {

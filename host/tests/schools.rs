@@ -1,8 +1,10 @@
 //! Two schools with a solver's model and refutation, and the answers expected.
 
+mod support;
+
+use support::both::{read, same_sheet, score, sizes};
 use timetable::reference::{
-    check, decode, read, same_sheet, score, sizes, text, text_size, Infeasibility, Objective,
-    Refusal, Score, Sizes, Summary,
+    check, decode, text, text_size, Infeasibility, Objective, Refusal, Score, Sizes, Summary,
 };
 
 struct School {

@@ -1,11 +1,10 @@
-//! Runs every case of vectors/cases.txt against the reference.
+//! Runs every case of vectors/cases.txt, by the reference and by the engine.
 
 mod support;
 
+use support::both::{read, same_sheet, score, sizes};
 use support::cases::{self, Case};
-use timetable::reference::{
-    check, decode, read, same_sheet, score, sizes, text, text_program, text_size, Refusal,
-};
+use timetable::reference::{check, decode, text, text_program, text_size, Refusal};
 
 #[test]
 fn every_case_has_the_expected_answer() {
@@ -30,7 +29,7 @@ fn unparsable_lines_are_seen() {
     }
 }
 
-/// The reference's answer, in the form of the file.
+/// The answer, in the form of the file.
 fn answer(case: &Case) -> Result<String, Refusal> {
     match case {
         Case::Read(file) => read(file).map(cases::accepted),

@@ -55,6 +55,30 @@ static void read_refused(void)
     expect("constraints, cut", constraints, kept);
 }
 
+static void sized(void)
+{
+    uint64_t variables = kept, clauses = kept, words = kept, value = kept;
+    uint32_t number = timetable_sizes(file, sizeof file, 3, &variables, &clauses,
+                                      &words, &value);
+    expect("sizes", number, 0);
+    expect("variables", variables, 8);
+    expect("clauses", clauses, 16);
+    expect("words", words, 30);
+    expect("value, sizes", value, kept);
+}
+
+static void sizes_refused(void)
+{
+    uint64_t variables = kept, clauses = kept, words = kept, value = kept;
+    uint32_t number = timetable_sizes(file, sizeof file, 4096, &variables, &clauses,
+                                      &words, &value);
+    expect("sizes, bound too high", number, 7);
+    expect("value, bound too high", value, 4096);
+    expect("variables, bound too high", variables, kept);
+    expect("clauses, bound too high", clauses, kept);
+    expect("words, bound too high", words, kept);
+}
+
 static void scored(void)
 {
     uint64_t infeasibility = kept, objective = kept, value = kept;
@@ -94,6 +118,8 @@ int main(void)
 {
     read_accepted();
     read_refused();
+    sized();
+    sizes_refused();
     scored();
     score_refused();
     same_sheet();

@@ -9,10 +9,12 @@ use scope::ReadAnswer;
 use scope::Refusal;
 use scope::ScoreAnswer;
 use scope::SheetAnswer;
+use scope::SizesAnswer;
 use sheet::same_sheet;
 use sheet::score;
+use sizes::sizes;
 ghost use mathlib.Core.Path.{_≡_};
-ghost use Rattle.engine.specs.Operations.{readCall, sameSheetCall, scoreCall};
+ghost use Rattle.engine.specs.Operations.{readCall, sameSheetCall, scoreCall, sizesCall};
 
 // A refusal: its value goes to *value, its number is returned.
 fn refuse(f: Refusal, value: &mut u64) -> u32
@@ -44,6 +46,30 @@ pub extern "C" fn timetable_read(
             *resources = z.resources as u64;
             *groups = z.groups as u64;
             *constraints = z.constraints as u64;
+            0
+        }
+    }
+}
+
+// What stores the hard clauses and the tail for a bound need, or 1 to 8.
+#[no_mangle]
+pub extern "C" fn timetable_sizes(
+    file: &[u8],
+    bound: u64,
+    variables: &mut u64,
+    clauses: &mut u64,
+    words: &mut u64,
+    value: &mut u64,
+) -> u32
+    ensures { λ r. ⌜ record { number = r; value = now (value .exit); outputs = (now (variables .exit), now (clauses .exit), now (words .exit)) } ≡ sizesCall (now (file .entry)) bound (now (value .entry)) (now (variables .entry), now (clauses .entry), now (words .entry)) ⌝ }
+{
+    let answer = sizes(file, bound);
+    match answer {
+        SizesAnswer::Refused(f) => refuse(f, value),
+        SizesAnswer::Sizes(z) => {
+            *variables = z.variables;
+            *clauses = z.clauses;
+            *words = z.words;
             0
         }
     }

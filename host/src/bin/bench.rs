@@ -11,6 +11,8 @@ use timetable::{engine, reference};
 
 /// Lessons of the schools.
 const LESSONS: [usize; 5] = [50, 100, 200, 400, 1_000];
+/// The bound of sizes.
+const BOUND: u64 = 10;
 /// Rounds of a comparison, and how long one side's turn is.
 const ROUNDS: usize = 7;
 const TURN: Duration = Duration::from_millis(40);
@@ -38,6 +40,13 @@ fn main() {
             ("read", *lessons, file.len()),
             || engine::read(file).is_ok(),
             || reference::read(file).is_ok(),
+        );
+    }
+    for School { lessons, file, .. } in &schools {
+        row(
+            ("sizes", *lessons, file.len()),
+            || engine::sizes(file, BOUND).is_ok(),
+            || reference::sizes(file, Some(BOUND)).is_ok(),
         );
     }
     for School {

@@ -8,6 +8,8 @@ use std::io::{self, Read};
 #[derive(Clone, Copy, PartialEq, Eq)]
 pub enum Role {
     Instance,
+    /// A number; every other operand is a file.
+    Bound,
     Timetable,
     /// Of two timetables.
     First,
@@ -18,6 +20,7 @@ impl Role {
     pub fn name(self) -> &'static str {
         match self {
             Role::Instance => "INSTANCE",
+            Role::Bound => "BOUND",
             Role::Timetable => "TIMETABLE",
             Role::First => "FIRST",
             Role::Second => "SECOND",
@@ -27,6 +30,7 @@ impl Role {
     pub fn about(self) -> &'static str {
         match self {
             Role::Instance => "the instance file",
+            Role::Bound => "a cost, from 0 to 4095",
             Role::Timetable => "a timetable's bytes",
             Role::First => "the first timetable's bytes",
             Role::Second => "the second timetable's bytes",
@@ -37,9 +41,43 @@ impl Role {
 /// An operand as it was given, with what it holds.
 pub struct Operand {
     pub role: Role,
-    /// The file's name, for messages.
+    /// Its name, for messages.
     pub name: String,
-    pub bytes: Vec<u8>,
+    content: Content,
+}
+
+enum Content {
+    Bytes(Vec<u8>),
+    Number(u64),
+}
+
+impl Operand {
+    fn read(role: Role, word: &OsStr) -> Result<Operand, String> {
+        if role == Role::Bound {
+            let value = number(word)?;
+            return Ok(Operand {
+                role,
+                name: format!("bound {value}"),
+                content: Content::Number(value),
+            });
+        }
+        Ok(Operand {
+            role,
+            name: match is_standard_input(word) {
+                true => "standard input".to_string(),
+                false => word.to_string_lossy().into_owned(),
+            },
+            content: Content::Bytes(file(word)?),
+        })
+    }
+
+    /// The bytes of a file; a number has none.
+    pub fn bytes(&self) -> &[u8] {
+        match &self.content {
+            Content::Bytes(bytes) => bytes,
+            Content::Number(_) => &[],
+        }
+    }
 }
 
 /// The operands of a subcommand, in the order of its roles.
@@ -58,22 +96,22 @@ impl Operands {
         if given.iter().filter(|word| is_standard_input(word)).count() > 1 {
             return Err("standard input can be read once only".to_string());
         }
-        let operands = roles.iter().zip(given).map(|(&role, word)| {
-            Ok(Operand {
-                role,
-                bytes: file(&word)?,
-                name: match is_standard_input(&word) {
-                    true => "standard input".to_string(),
-                    false => word.to_string_lossy().into_owned(),
-                },
-            })
-        });
+        let operands = roles.iter().zip(given);
+        let operands = operands.map(|(&role, word)| Operand::read(role, &word));
         Ok(Operands(operands.collect::<Result<_, String>>()?))
     }
 
     /// The bytes of the file at `place`, from 0.
     pub fn bytes(&self, place: usize) -> &[u8] {
-        &self.0[place].bytes
+        self.0[place].bytes()
+    }
+
+    /// The number at `place`, from 0; a file is none.
+    pub fn number(&self, place: usize) -> u64 {
+        match self.0[place].content {
+            Content::Number(value) => value,
+            Content::Bytes(_) => 0,
+        }
     }
 
     pub fn operand(&self, place: usize) -> &Operand {
@@ -90,6 +128,16 @@ impl Operands {
 
 fn is_standard_input(word: &OsStr) -> bool {
     word == "-"
+}
+
+/// A number in decimal digits.
+fn number(word: &OsStr) -> Result<u64, String> {
+    let text = word.to_string_lossy();
+    if text.is_empty() || !text.bytes().all(|byte| byte.is_ascii_digit()) {
+        return Err(format!("'{text}' is no number"));
+    }
+    text.parse()
+        .map_err(|_| format!("{text} is above {}", u64::MAX))
 }
 
 /// A file's bytes.

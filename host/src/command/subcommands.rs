@@ -26,6 +26,22 @@ pub const SUBCOMMANDS: &[Subcommand] = &[
         },
     },
     Subcommand {
+        name: "sizes",
+        operands: &[Role::Instance, Role::Bound],
+        about: "what stores a proof check at a bound needs",
+        prints: "variables, clauses and words of the hard clauses and the tail for the bound, \
+                 each with its number on a line",
+        refusals: &[1..=8],
+        run: |given| {
+            let found = engine::sizes(given.bytes(0), given.number(1))?;
+            Ok(lines(&[
+                ("variables", found.variables),
+                ("clauses", found.clauses),
+                ("words", found.words),
+            ]))
+        },
+    },
+    Subcommand {
         name: "score",
         operands: &[Role::Instance, Role::Timetable],
         about: "the infeasibility and the objective of a timetable",
@@ -84,7 +100,7 @@ impl Refused {
     pub fn message(&self, given: &Operands) -> String {
         let by_number = given.place_of(roles(self.refusal.number));
         let operand = given.operand(self.place.or(by_number).unwrap_or(0));
-        let message = refusals::message(self.refusal, &operand.bytes);
+        let message = refusals::message(self.refusal, operand.bytes());
         format!("{}: {message}", operand.name)
     }
 }
@@ -92,6 +108,7 @@ impl Refused {
 /// The roles of the operands that can earn refusal `number`.
 fn roles(number: u32) -> &'static [Role] {
     match number {
+        7 => &[Role::Bound],
         10..=12 => &[Role::Timetable, Role::First],
         _ => &[Role::Instance],
     }

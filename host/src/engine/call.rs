@@ -4,6 +4,8 @@
 //! aligned, it is good for as many elements as are said, and no other pointer
 //! of the call reaches what a `&mut` reaches. So every call here is sound.
 
+use crate::reference::FormulaSize;
+
 /// What an accepted instance has.
 #[derive(Clone, Copy, Debug, Default, PartialEq, Eq)]
 pub struct Counts {
@@ -26,6 +28,22 @@ pub fn read(file: &[u8], counts: &mut Counts, value: &mut u64) -> u32 {
             &mut counts.resources,
             &mut counts.groups,
             &mut counts.constraints,
+            value,
+        )
+    }
+}
+
+/// 0 with the sizes written, or 1 to 8 with `value` written.
+pub fn sizes(file: &[u8], bound: u64, sizes: &mut FormulaSize, value: &mut u64) -> u32 {
+    // SAFETY: see the head of this file; the fields of `sizes` do not overlap.
+    unsafe {
+        c::timetable_sizes(
+            file.as_ptr(),
+            file.len(),
+            bound,
+            &mut sizes.variables,
+            &mut sizes.clauses,
+            &mut sizes.words,
             value,
         )
     }
@@ -81,6 +99,16 @@ mod c {
             resources: *mut u64,
             groups: *mut u64,
             constraints: *mut u64,
+            value: *mut u64,
+        ) -> u32;
+
+        pub fn timetable_sizes(
+            file: *const u8,
+            file_length: usize,
+            bound: u64,
+            variables: *mut u64,
+            clauses: *mut u64,
+            words: *mut u64,
             value: *mut u64,
         ) -> u32;
 

@@ -6,7 +6,7 @@
 
 pub mod call;
 
-use crate::reference::{Infeasibility, Objective, Refusal, Score, Summary};
+use crate::reference::{FormulaSize, Infeasibility, Objective, Refusal, Score, Summary};
 use call::{Amounts, Counts};
 
 /// Reads an instance file: accepted, or 1 to 6.
@@ -22,6 +22,15 @@ pub fn read(file: &[u8]) -> Result<Summary, Refusal> {
         groups: counts.groups as usize,
         constraints: counts.constraints as usize,
     })
+}
+
+/// What a proof check at `bound` needs of its stores, or 1 to 8.
+pub fn sizes(file: &[u8], bound: u64) -> Result<FormulaSize, Refusal> {
+    let mut sizes = FormulaSize::default();
+    let mut value = 0;
+    let number = call::sizes(file, bound, &mut sizes, &mut value);
+    accepted(number, value)?;
+    Ok(sizes)
 }
 
 /// The score of a timetable, or 1 to 6, 10 to 12.

@@ -387,12 +387,29 @@ pub struct Sizes {
     pub top: u64,
 }
 
+/// What a formula needs of a store: a byte for each variable, a row for each
+/// clause, a word for each literal.
+#[derive(Clone, Copy, Debug, Default, PartialEq, Eq)]
+pub struct FormulaSize {
+    pub variables: u64,
+    pub clauses: u64,
+    pub words: u64,
+}
+
 /// The sizes of the formula, or 1 to 8. 7 and the tail only with a bound.
 pub fn sizes(file: &[u8], bound: Option<u64>) -> Result<Sizes, Refusal> {
     Sizes::of(&Instance::read(file)?, bound)
 }
 
 impl Sizes {
+    pub fn formula(&self) -> FormulaSize {
+        FormulaSize {
+            variables: self.variables,
+            clauses: self.clauses,
+            words: self.words,
+        }
+    }
+
     /// The sizes of the formula of `instance`, or 7 or 8.
     pub fn of(instance: &Instance, bound: Option<u64>) -> Result<Sizes, Refusal> {
         if let Some(bound) = bound.filter(|&bound| bound > LARGEST_BOUND) {

@@ -14,7 +14,7 @@ mod sheet;
 mod text;
 
 pub use clauses::{
-    sizes, walk, walk_with_tail, Literal, Sink, Sizes, LARGEST_BOUND, LARGEST_FORMULA,
+    sizes, walk, walk_with_tail, FormulaSize, Literal, Sink, Sizes, LARGEST_BOUND, LARGEST_FORMULA,
 };
 pub use instance::{
     read, Constraint, Event, Instance, Kind, Range, Summary, LARGEST_HI, LONGEST_LIST, MOST_TIMES,

@@ -1,6 +1,7 @@
 //! Helpers shared by the tests.
 #![allow(dead_code)]
 
+pub mod both;
 pub mod cases;
 
 use timetable::prover::clause_list;
