@@ -9,7 +9,6 @@ ghost use Rattle.scope.specs.Formula.{highUnits, shortUnits, countInto};
 ghost use Rattle.sink.specs.Run.{Ran};
 ghost use Rattle.sink.specs.Lines.{lines};
 ghost use Rattle.sink.specs.World.{world, step, rowOver};
-ghost use Rattle.sink.specs.Lend.{partBase, Before};
 ghost use Rattle.gates.specs.Literals.{Literal, Literals};
 ghost use Rattle.counts.specs.UnitLines.{turned, unitsFrom, shortLines};
 ghost use Rattle.counts.specs.CountLines.{ruleOf, lowItems};
@@ -215,43 +214,4 @@ pub fn write_count(
     let z = gates::cells::write_counter(job, model, text, words, s, lits, first, cols);
     let y = write_low(job, model, text, words, z, weight, b, q, first + n * cols);
     write_high(job, model, text, words, y, weight, b.hi, q, n)
-}
-
-// A counted list as a part of the formula: its writer is lent the outputs from its own start on, and what stands before it is as
-// it was.
-pub fn write_part(
-    job: Job,
-    model: &[u8],
-    text: &mut [u8],
-    words: &mut [u32],
-    s: Sink,
-    lits: &[u32],
-    first: u32,
-    cols: u32,
-    weight: u32,
-    b: Bounds,
-) -> Sink
-    requires { ⌜ Literals (now lits) × (1 ≤ first) × (first + length (now lits) * cols + length (now lits) ≤ 1073741824) × (b .lo ≤ length (now lits)) ⌝ }
-    requires { ⌜ s .at ≤ 9223372036854775807 ⌝ }
-    ensures { λ r. ⌜ Ran (step job (now (model .entry))) (lines first (countInto cols weight (ruleOf b) (now (lits .entry)) first))
-        (world s (now (text .entry)) (now (words .entry))) (world r (now (text .exit)) (now (words .exit))) ⌝ }
-    ensures { λ r. ⌜ Before (partBase (job .mode) (s .at)) (now (text .entry)) (now (text .exit)) × Before (partBase (job .mode) (s .at)) (now (words .entry)) (now (words .exit)) ⌝ }
-{
-    let base = sink::part_base(job, s);
-    let t = sink::lesser(base, text.len());
-    let w = sink::lesser(base, words.len());
-    let z = sink::placed(s, s.at - base);
-    let r = write_count(
-        job,
-        model,
-        &mut text[t..],
-        &mut words[w..],
-        z,
-        lits,
-        first,
-        cols,
-        weight,
-        b,
-    );
-    sink::placed(r, digits::advance(base, r.at))
 }

@@ -15,51 +15,25 @@ ghost use Rattle.items.specs.Written.{Room, Wrote};
 ghost use Rattle.kinds.specs.Counted.{listIn, Fit};
 ghost use Rattle.rules.specs.BoundsFor.{BoundsFor};
 
+fn bounds(lo: u32, hi: u32, free: bool) -> Bounds
+    ensures { λ r. ⌜ r ≡ record { lo = lo; hi = hi; free = free } ⌝ }
+{
+    Bounds { lo, hi, free }
+}
+
 // Its bounds as written; in a busy limit a count of 0 is free.
 fn bounds_of(k: Kind) -> Bounds
     ensures { λ r. ⌜ BoundsFor k r ⌝ }
 {
     match k {
-        Kind::Clash(_) => Bounds {
-            lo: 0,
-            hi: 1,
-            free: false,
-        },
-        Kind::Unavailable(_) => Bounds {
-            lo: 0,
-            hi: 0,
-            free: false,
-        },
-        Kind::Preferred(_) => Bounds {
-            lo: 0,
-            hi: 0,
-            free: false,
-        },
-        Kind::Split(f) => Bounds {
-            lo: f.lo,
-            hi: f.hi,
-            free: false,
-        },
-        Kind::Spread(f) => Bounds {
-            lo: f.lo,
-            hi: f.hi,
-            free: false,
-        },
-        Kind::Busy(f) => Bounds {
-            lo: f.lo,
-            hi: f.hi,
-            free: true,
-        },
-        Kind::Cluster(f) => Bounds {
-            lo: f.lo,
-            hi: f.hi,
-            free: false,
-        },
-        Kind::Idle(f) => Bounds {
-            lo: f.lo,
-            hi: f.hi,
-            free: false,
-        },
+        Kind::Clash(_) => bounds(0, 1, false),
+        Kind::Unavailable(_) => bounds(0, 0, false),
+        Kind::Preferred(_) => bounds(0, 0, false),
+        Kind::Split(f) => bounds(f.lo, f.hi, false),
+        Kind::Spread(f) => bounds(f.lo, f.hi, false),
+        Kind::Busy(f) => bounds(f.lo, f.hi, true),
+        Kind::Cluster(f) => bounds(f.lo, f.hi, false),
+        Kind::Idle(f) => bounds(f.lo, f.hi, false),
     }
 }
 
