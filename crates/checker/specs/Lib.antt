@@ -1,0 +1,3 @@
+pub mod NonEmpty
+pub mod Storable
+pub mod Tails
