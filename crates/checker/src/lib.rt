@@ -1,1 +1,6 @@
-// The operation that checks a bound proof; specs/ has what it needs of the formula and its tail.
+// The operation that checks a bound proof.
+mod answer;
+mod prepare;
+mod write;
+
+pub use answer::check;
