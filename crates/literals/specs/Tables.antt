@@ -37,7 +37,7 @@ module _ (us vs f h : ℕ → List ℕ) (e : (r : ℕ) → us r ≡ vs r) where
   xs-same T C r each-none = refl
   xs-same T C r (each-more p ps) = rw (p, xs-same T C r ps)
 
-  numbered-same : (T C : ℕ) (k : Kind) → Each (λ g. f g ≡ h g) (groupsOf k) → numbered T C us f k ≡ numbered T C vs h k
+  pub numbered-same : (T C : ℕ) (k : Kind) → Each (λ g. f g ≡ h g) (groupsOf k) → numbered T C us f k ≡ numbered T C vs h k
   unfolding numbered groupsOf
   numbered-same T C (clash r) p = rw (e r)
   numbered-same T C (unavailable r g) (each-more p ps) = rw p

@@ -1,1 +1,4 @@
 pub mod GatesOf
+pub mod CountedList
+pub mod ClashTimes
+pub mod Others

@@ -1,0 +1,4 @@
+pub mod Fits
+pub mod BoundsFor
+pub mod Clash
+pub mod OneList

@@ -1,0 +1,58 @@
+-- What the writer of the blocks before the constraints is lent.
+use mathlib.Core.List.{List}
+use mathlib.Core.Path.{_≡_}
+use Prim.Native.Nat.{ℕ, _+_, _*_, _≤_}
+use native.Mathlib.Nat.{mul-le-mul}
+use native.Mathlib.Omega.{arith}
+use lib.ListN.{take}
+use Rattle.scope.specs.Cnf.{Item}
+use Rattle.tables.specs.Rows.{RowsIn}
+use Rattle.constraint.specs.declared.kinds.Head.{Head}
+use Rattle.literals.specs.Variables.{Sizes}
+use Rattle.literals.specs.Users.{usersIn}
+use Rattle.literals.specs.Numbered.{allNumbered, durationLists}
+use Rattle.kinds.specs.Ground.{cellsOf}
+use Rattle.items.specs.Written.{Room}
+use Rattle.blocks.specs.Durations.{Durations}
+use Rattle.clauses.specs.Before.{blockItems, blocks-room}
+
+-- the items of the blocks, by the tables
+abbrev pub beforeItems : (durations resources : List ℕ) → Head → List Item
+beforeItems d te h = blockItems (h .times) (cellsOf h) (usersIn te (h .events)) (h .events) (h .resources) (take (h .events) d)
+
+pub record Begun (d te : List ℕ) (h : Head) : Type 0 where
+  pub durations : Durations d (h .events) (h .times)
+  pub resources : h .resources ≤ 99
+  pub rows : RowsIn te (h .events)
+  pub room : Room (2 * cellsOf h + 1) (beforeItems d te h)
+
+-- so each of their writers can be called, from the variables v and u on
+module _ {d te : List ℕ} {h : Head} (b : Begun d te h) where
+  pub begun-sizes : Sizes (h .times) (cellsOf h)
+  begun-sizes =
+      record {
+        times = b .durations .times;
+        cells =
+            omega
+            (arith, mul-le-mul {n₁ = h .events} {m₁ = h .times} {n₂ = 1024} {m₂ = 125} (b .durations .events) (b .durations .times));
+      }
+
+  pub begun-count : h .resources * h .times ≤ 12375
+  begun-count = omega (arith, mul-le-mul {n₁ = h .resources} {m₁ = h .times} {n₂ = 99} {m₂ = 125} (b .resources) (b .durations .times))
+
+  pub begun-uses : {v : ℕ} → v ≡ 2 * cellsOf h + 1
+      → RowsIn te (h .events) × ((h .events ≤ 1024) × ((h .resources ≤ 255) × ((h .times ≤ 125) × ((1 ≤ v) × (v + h .resources * h .times ≤ 1073741824)))))
+  begun-uses e = (
+    b .rows,
+    (
+      b .durations .events,
+      (omega (arith, b .resources), (b .durations .times, (omega arith, omega (arith, begun-sizes .cells, begun-count)))),
+    ),
+  )
+
+  pub begun-durations : {v u : ℕ} → v ≡ 2 * cellsOf h + 1 → u ≡ v + h .resources * h .times
+      → Durations d (h .events) (h .times) × Room u (allNumbered 0 (durationLists (h .times) 1 (take (h .events) d)) u)
+  begun-durations {v} {u} e f = (
+    b .durations,
+    blocks-room (h .times) (cellsOf h) (usersIn te (h .events)) (h .events) (h .resources) (take (h .events) d) (omega arith) (b .room),
+  )

@@ -1,0 +1,8 @@
+pub mod Writable
+pub mod Position
+pub mod Before
+pub mod Blocks
+pub mod Known
+pub mod Fitting
+pub mod Walked
+pub mod Whole

@@ -1,0 +1,47 @@
+// The blocks before the constraints.
+use constraint::Head;
+use items::Written;
+use sink::Job;
+use sink::Sink;
+ghost use Prim.Native.Nat.{_+_, _*_};
+ghost use Rattle.sink.specs.World.{world, step};
+ghost use Rattle.kinds.specs.Ground.{cellsOf};
+ghost use Rattle.items.specs.Written.{Wrote};
+ghost use Rattle.clauses.specs.Blocks.{Begun, beforeItems};
+
+// Starts, uses and durations.
+pub fn write_before(
+    job: Job,
+    model: &[u8],
+    text: &mut [u8],
+    words: &mut [u32],
+    s: Sink,
+    head: Head,
+    durations: &[u8],
+    resources: &[u8],
+) -> Written
+    requires { ⌜ Begun (now durations) (now resources) head ⌝ }
+    ensures { λ r. ⌜ Wrote (step job (now (model .entry))) (2 * cellsOf head + 1) (beforeItems (now (durations .entry)) (now (resources .entry)) head)
+        (world s (now (text .entry)) (now (words .entry))) (world (r .sink) (now (text .exit)) (now (words .exit))) (r .next) ⌝ }
+{
+    let times = head.times;
+    let events = head.events;
+    let cells = events * times;
+    let a = blocks::write_starts(job, model, text, words, s, events, times, cells);
+    let v = 2 * cells + 1;
+    let count = head.resources;
+    let b = blocks::write_uses(
+        job,
+        model,
+        text,
+        words,
+        a,
+        resources,
+        count,
+        events,
+        times,
+        v,
+    );
+    let next = v + count * times;
+    blocks::write_durations(job, model, text, words, b, durations, events, times, next)
+}

@@ -1,0 +1,6 @@
+// The clauses of an instance's formula, in the order of document 01.
+mod before;
+mod formula;
+mod walk;
+
+pub use formula::write_formula;

@@ -1,0 +1,123 @@
+// The operation of decoding. It asks nothing of the caller.
+use crate::run::truth_of;
+use crate::size::Form;
+use crate::size::form_of;
+use constraint::Head;
+use scope::Objective;
+use scope::Refusal;
+use sink::Sink;
+use sizes::Measured;
+use sizes::measure;
+use sizing::Size;
+ghost use mathlib.Core.Path.{_≡_};
+ghost use Prim.Native.Nat.{_*_, _≤_};
+ghost use Rattle.instance.specs.Start.{SizesIn};
+ghost use Rattle.instance.specs.Stores.{Stores};
+ghost use Rattle.sizes.specs.Measured.{SizedBy};
+ghost use Rattle.scope.specs.Operations.{decodeOf};
+ghost use Rattle.model.specs.Answers.{judgedOf, EvaluatedAs, returned};
+
+// "a hard clause is false"
+const CLAUSE_FALSE: u8 = 13;
+
+// How many bytes of the model hold Y and S, with the weight of the soft clauses that it falsifies; or a refusal.
+pub enum Evaluation {
+    Holds(usize, Objective),
+    Refused(Refusal),
+}
+
+// How many bytes hold Y and S.
+fn part_size(cells: usize) -> usize
+    requires { ⌜ cells ≤ 128000 ⌝ }
+    ensures { λ r. ⌜ r ≡ 2 * cells ⌝ }
+{
+    2 * cells
+}
+
+// 13, or the length of the part and the weight.
+fn judge(s: Sink, head: Head) -> Evaluation
+    requires { ⌜ SizesIn (head .times) (head .events) (head .resources) ⌝ }
+    ensures { λ r. ⌜ r ≡ judgedOf s head ⌝ }
+{
+    let bad = s.bad;
+    if bad == 0 {
+        let cells = head.events as usize * head.times as usize;
+        let part = part_size(cells);
+        let cost = Objective(s.lost);
+        return Evaluation::Holds(part, cost);
+    }
+    let value = bad as u64;
+    Evaluation::Refused(Refusal {
+        number: CLAUSE_FALSE,
+        value,
+    })
+}
+
+// A model for a file that was read and sized: 10, 11, then 13.
+fn evaluate_read(
+    file: &[u8],
+    model: &[u8],
+    head: Head,
+    size: Size,
+    durations: &[u8],
+    resources: &[u8],
+    groups: &[u8],
+    list: &mut [u16],
+) -> Evaluation
+    requires { ⌜ SizedBy (now file) (now durations) (now resources) (now groups) head size × Stores (now durations) (now resources) (now groups) (now list) ⌝ }
+    ensures { λ r. ⌜ EvaluatedAs (now (file .entry)) (now (model .entry)) r ⌝ }
+{
+    let form = form_of(model, size.variables);
+    match form {
+        Form::Right => {
+            let s = truth_of(file, model, head, size, durations, resources, groups, list);
+            judge(s, head)
+        }
+        Form::Refused(f) => Evaluation::Refused(f),
+    }
+}
+
+// The length of the part with Y and S and the falsified soft weight, or refusals 1 to 6, 8, 10, 11 and 13. One run over the
+// clauses serves both; the work is linear in the formula.
+pub fn evaluate(file: &[u8], model: &[u8]) -> Evaluation
+    ensures { λ r. ⌜ EvaluatedAs (now (file .entry)) (now (model .entry)) r ⌝ }
+{
+    let mut durations = tables::durations();
+    let mut resources = tables::resource_rows();
+    let mut groups = tables::group_rows();
+    let mut list = tables::list();
+    let m = measure(file, &mut durations, &mut resources, &mut groups, &mut list);
+    match m {
+        Measured::Sized(head, size) => evaluate_read(
+            file,
+            model,
+            head,
+            size,
+            &durations,
+            &resources,
+            &groups,
+            &mut list,
+        ),
+        Measured::Refused(f) => Evaluation::Refused(f),
+    }
+}
+
+// The part of the model that holds Y and S, its first 2 × E × T bytes, with 0 in *number and the cost in *value; or an empty
+// part, with the number and the value of the refusal.
+pub fn decode<'a>(file: &[u8], model: &'a [u8], number: &mut u8, value: &mut u64) -> &'a [u8]
+    ensures { λ r. ⌜ (now r, now (number .exit), now (value .exit)) ≡ returned (decodeOf (now (file .entry)) (now (model .entry))) ⌝ }
+{
+    let e = evaluate(file, model);
+    match e {
+        Evaluation::Holds(n, cost) => {
+            *number = 0;
+            *value = cost.0;
+            &model[..n]
+        }
+        Evaluation::Refused(f) => {
+            *number = f.number;
+            *value = f.value;
+            &model[..0]
+        }
+    }
+}
