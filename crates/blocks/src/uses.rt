@@ -2,17 +2,16 @@
 use sink::Job;
 use sink::Sink;
 ghost use mathlib.Core.List.{flatMap, map};
-ghost use Prim.Native.Nat.{_+_, _*_, _≤_, _<_};
+ghost use Prim.Native.Nat.{_+_, _*_, _≤_};
 ghost use lib.ListN.{length, take};
 ghost use Rattle.scope.specs.Kinds.{upTo};
 ghost use Rattle.scope.specs.Cnf.{gate};
 ghost use Rattle.number.specs.Each.{Each};
-ghost use Rattle.tables.specs.Rows.{RowsIn};
 ghost use Rattle.sink.specs.Run.{Ran};
 ghost use Rattle.sink.specs.Lines.{lines};
 ghost use Rattle.sink.specs.World.{world, step};
 ghost use Rattle.literals.specs.Variables.{Within};
-ghost use Rattle.literals.specs.Users.{usersIn};
+ghost use Rattle.literals.specs.Filled.{usersAt, UserRows};
 ghost use Rattle.literals.specs.Numbered.{useGates};
 
 // Those of one resource, whose events are the first n of a list, from the variable v on.
@@ -40,29 +39,29 @@ fn write_resource_uses(
     z
 }
 
-// Those of all resources: the events of each are gathered once.
+// Those of all resources, by the table of their users.
 pub fn write_uses(
     job: Job,
     model: &[u8],
     text: &mut [u8],
     words: &mut [u32],
     s: Sink,
-    resources: &[u8],
+    users: &[u16],
     count: u32,
-    events: u32,
     times: u32,
     v: u32,
 ) -> Sink
-    requires { ⌜ RowsIn (now resources) events × ((events ≤ 1024) × ((count ≤ 255) × ((times ≤ 125) × ((1 ≤ v) × (v + count * times ≤ 1073741824))))) ⌝ }
-    ensures { λ r. ⌜ Ran (step job (now (model .entry))) (lines v (map gate (flatMap (λ r. useGates times (usersIn (now (resources .entry)) events r)) (upTo count))))
+    requires { ⌜ UserRows (now users) × ((count ≤ 99) × ((times ≤ 125) × ((1 ≤ v) × (v + count * times ≤ 1073741824)))) ⌝ }
+    ensures { λ r. ⌜ Ran (step job (now (model .entry))) (lines v (map gate (flatMap (λ r. useGates times (usersAt (now (users .entry)) r)) (upTo count))))
         (world s (now (text .entry)) (now (words .entry))) (world r (now (text .exit)) (now (words .exit))) ⌝ }
 {
-    let mut users = [0u16; 1024];
     let mut z = s;
     let mut next = v;
     for r in 0..count {
-        let n = literals::users_of(resources, events, r + 1, &mut users);
-        z = write_resource_uses(job, model, text, words, z, &users, n, times, next);
+        let at = (r + 1) as usize * 1025;
+        let n = users[at] as usize;
+        let first = at + 1;
+        z = write_resource_uses(job, model, text, words, z, &users[first..], n, times, next);
         next = next + times;
     }
     z

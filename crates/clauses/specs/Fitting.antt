@@ -1,5 +1,5 @@
 -- The counted lists of a constraint of an accepted file are short, and so its writer can be called.
-use mathlib.Core.Path.{_≡_, refl}
+use mathlib.Core.Path.{_≡_, refl, sym, _∙_}
 use mathlib.Core.List.{List, [], _∷_, map}
 use Prim.Native.Nat.{ℕ, _≤_}
 use native.Mathlib.Omega.{arith}
@@ -13,8 +13,9 @@ use Rattle.constraint.specs.declared.kinds.Head.{Head}
 use Rattle.constraint.specs.Answers.{countsIn}
 use Rattle.constraint.specs.Valid.{InRange}
 use Rattle.instance.specs.Answers.{instanceOf, headStart}
-use Rattle.instance.specs.Laws.{Accepted, ConstraintOf, event-rows}
+use Rattle.instance.specs.Laws.{Accepted, ConstraintOf}
 use Rattle.literals.specs.Users.{usersIn, users-in}
+use Rattle.literals.specs.Filled.{Filled, usersAt, filled-users, filled-rows}
 use Rattle.literals.specs.Numbered.{Numbered}
 use Rattle.literals.specs.Laws.{Means, Mean, mean-none, mean-more, kind-means}
 use Rattle.literals.specs.Tables.{groupIn, numbered-same}
@@ -59,27 +60,28 @@ rules-reached T es gs (busy r g lo hi) h = one-reached _ refl h
 rules-reached T es gs (cluster r hs lo hi) h = one-reached _ refl h
 rules-reached T es gs (idle r hs lo hi) h = one-reached _ refl h
 
-module _ {s d te tg : List ℕ} {h : Head} (a : Accepted s d te tg h) where
+module _ {s d te tg us : List ℕ} {h : Head} (a : Accepted s d te tg h) (f : Filled us (usersIn te (h .events))) where
   -- a kind's counted lists by the tables
   table-means : (k : Kind) → InRange (countsIn h) k
-      → Mean (num (instanceOf s d te tg h)) (rulesOf (h .times) (eventsOf d te (h .events)) (rows tg (h .groups)) k) (listsIn te tg h k)
-  table-means k f =
+      → Mean (num (instanceOf s d te tg h)) (rulesOf (h .times) (eventsOf d te (h .events)) (rows tg (h .groups)) k) (listsIn us tg h k)
+  table-means k i =
       let same =
-      numbered-same (λ r. users r (eventsOf d te (h .events))) (usersIn te (h .events)) (groupAt (rows tg (h .groups))) (groupIn tg)
-      (users-in d te (h .events)) (h .times) (cellsOf h) k
-      (each-map (λ g w. group-row tg (h .groups) g (w .low) (w .high)) (groups-within (countsIn h) k f))
+      numbered-same (λ r. users r (eventsOf d te (h .events))) (usersAt us) (groupAt (rows tg (h .groups))) (groupIn tg)
+      (λ r. users-in d te (h .events) r ∙ sym (filled-users te (h .events) f r)) (h .times) (cellsOf h) k
+      (each-map (λ g w. group-row tg (h .groups) g (w .low) (w .high)) (groups-within (countsIn h) k i))
       in
       rw same at (rw (length-events d te (h .events)) at (kind-means (instanceOf s d te tg h) k))
 
   -- what its writer asks for
-  pub known-fits : {list : List ℕ} {c : Constraint} → length te ≡ 129024 → length tg ≡ 258048 → length list ≡ 2048
-      → ConstraintOf (countsIn h) (headStart d te tg h) c → Fits te tg list h (c .kind)
-  known-fits {c = c} le lg ll v =
+  pub known-fits : {list : List ℕ} {c : Constraint} → length tg ≡ 258048 → length list ≡ 2048
+      → ConstraintOf (countsIn h) (headStart d te tg h) c → Fits us tg list h (c .kind)
+  known-fits {c = c} lg ll v =
       record {
         ground = known-groups a lg;
         store = ll;
         range = v .fields;
-        rows = event-rows a le;
+        rows = filled-rows te (h .events) f (a .sizes .events-high);
+        resources = a .sizes .resources-high;
         short =
             short-lists (table-means (c .kind) (v .fields)) (v .short)
             (rules-reached (h .times) (eventsOf d te (h .events)) (rows tg (h .groups)) (c .kind) (v .reached));

@@ -13,10 +13,11 @@ use Rattle.constraint.specs.declared.kinds.Head.{Head}
 use Rattle.constraint.specs.Valid.{OneOf, InRange}
 use Rattle.constraint.specs.Walk.{constraintsIn}
 use Rattle.instance.specs.Answers.{instanceOf}
-use Rattle.instance.specs.Laws.{Accepted, group-rows}
+use Rattle.instance.specs.Laws.{Accepted, event-rows, group-rows}
 use Rattle.literals.specs.Variables.{Within}
 use Rattle.literals.specs.Proper.{ascending-within}
 use Rattle.literals.specs.Users.{usersIn}
+use Rattle.literals.specs.Filled.{EventRows}
 use Rattle.literals.specs.Numbered.{numberedFormula}
 use Rattle.literals.specs.Tables.{groupsOf, groupIn, Held, formula-tables}
 use Rattle.kinds.specs.Ground.{Ground, cellsOf}
@@ -47,6 +48,16 @@ module _ {s d te tg : List ℕ} {h : Head} (a : Accepted s d te tg h) where
         numbers = omega (arith, a .groups-high);
         rows = group-rows a l;
         ascends = λ g k. group-ascends tg (h .groups) g (a .groups) k;
+      }
+
+  -- the table of users can be filled
+  pub known-rows : length te ≡ 129024 → EventRows te (h .events)
+  known-rows l =
+      record {
+        most = h .resources;
+        few = a .sizes .resources-high;
+        rows = event-rows a l;
+        ascends = λ e k. event-in d te (h .events) e (a .events) k .ascending;
       }
 
   pub known-durations : length d ≡ 1024 → Durations d (h .events) (h .times)

@@ -17,6 +17,7 @@ use Rattle.sink.specs.Run.{Ran}
 use Rattle.sink.specs.Lines.{Line, lines}
 use Rattle.sink.specs.World.{World}
 use Rattle.literals.specs.Users.{usersIn}
+use Rattle.literals.specs.Filled.{Filled, usersAt}
 use Rattle.literals.specs.Numbered.{constraintItems}
 use Rattle.literals.specs.Tables.{groupIn}
 use Rattle.kinds.specs.Ground.{cellsOf}
@@ -25,54 +26,56 @@ use Rattle.rules.specs.Fits.{Fits, constraintPart}
 use Rattle.clauses.specs.Fitting.{known-fits}
 
 -- the items of some constraints, from the variable v on
-abbrev pub itemsOf : (resources groups : List ℕ) → Head → List Constraint → ℕ → List Item
-itemsOf te tg h cs v = constraintItems (h .times) (cellsOf h) (usersIn te (h .events)) (groupIn tg) cs v
+abbrev pub itemsOf : (users groups : List ℕ) → Head → List Constraint → ℕ → List Item
+itemsOf us tg h cs v = constraintItems (h .times) (cellsOf h) (usersAt us) (groupIn tg) cs v
 
-module _ (te tg : List ℕ) (h : Head) (v : ℕ) where
+module _ (us tg : List ℕ) (h : Head) (v : ℕ) where
   -- those of the first constraint, and the others
   next-items : {ds cs : List Constraint} {c : Constraint} {v′ : ℕ} → ds ≡ c ∷ cs
-      → v′ ≡ v + gates (constraintPart te tg h (c .kind) (c .weight) v)
-      → itemsOf te tg h ds v ≡ constraintPart te tg h (c .kind) (c .weight) v ++ itemsOf te tg h cs v′
+      → v′ ≡ v + gates (constraintPart us tg h (c .kind) (c .weight) v)
+      → itemsOf us tg h ds v ≡ constraintPart us tg h (c .kind) (c .weight) v ++ itemsOf us tg h cs v′
   unfolding constraintItems
   next-items e f = rw (e, f)
 
-  no-items : {ds : List Constraint} → ds ≡ [] → itemsOf te tg h ds v ≡ []
+  no-items : {ds : List Constraint} → ds ≡ [] → itemsOf us tg h ds v ≡ []
   unfolding constraintItems
   no-items e = rw e
 
--- what the walk is lent: a file that was accepted with its tables, and room for its constraints' variables from v on
-pub record Walkable (s te tg list : List ℕ) (h : Head) (v : ℕ) : Type 0 where
+-- what the walk is lent: a file that was accepted with its tables, the table of users, and room for its constraints' variables from v on
+pub record Walkable (s us tg list : List ℕ) (h : Head) (v : ℕ) : Type 0 where
   pub durations : List ℕ
-  pub accepted : Accepted s durations te tg h
-  pub resources-long : length te ≡ 129024
+  pub resources : List ℕ
+  pub accepted : Accepted s durations resources tg h
+  pub filled : Filled us (usersIn resources (h .events))
   pub groups-long : length tg ≡ 258048
   pub list-long : length list ≡ 2048
-  pub room : Room v (itemsOf te tg h (constraintsIn h s) v)
+  pub room : Room v (itemsOf us tg h (constraintsIn h s) v)
 
 -- a list of the same length in the store changes nothing
-pub walkable-kept : {s te tg list after : List ℕ} {h : Head} {v : ℕ} → Walkable s te tg list h v → length after ≡ length list → Walkable s te tg after h v
+pub walkable-kept : {s us tg list after : List ℕ} {h : Head} {v : ℕ} → Walkable s us tg list h v → length after ≡ length list → Walkable s us tg after h v
 walkable-kept w e =
     record {
       durations = w .durations;
+      resources = w .resources;
       accepted = w .accepted;
-      resources-long = w .resources-long;
+      filled = w .filled;
       groups-long = w .groups-long;
       list-long = e ∙ w .list-long;
       room = w .room;
     }
 
 -- after i of the constraints: the others stand from an offset on, and have the variables from v on
-pub record Part (f : Line → World → World) (s te tg : List ℕ) (h : Head) (first i at v : ℕ) (w₀ w : World) : Type 0 where
+pub record Part (f : Line → World → World) (s us tg : List ℕ) (h : Head) (first i at v : ℕ) (w₀ w : World) : Type 0 where
   pub walk : Walk (countsIn h) s (h .constraints) i at (constraintsIn h s)
   pub some : 1 ≤ v
-  pub left : Left f v (itemsOf te tg h (drop i (constraintsIn h s)) v) first (itemsOf te tg h (constraintsIn h s) first) w₀ w
+  pub left : Left f v (itemsOf us tg h (drop i (constraintsIn h s)) v) first (itemsOf us tg h (constraintsIn h s) first) w₀ w
 
-module _ {f : Line → World → World} {s te tg list : List ℕ} {h : Head} {first : ℕ} (k : Walkable s te tg list h first) where
+module _ {f : Line → World → World} {s us tg list : List ℕ} {h : Head} {first : ℕ} (k : Walkable s us tg list h first) where
   -- at the start
-  pub part-start : {w : World} → Part f s te tg h first 0 (h .start) first w w
+  pub part-start : {w : World} → Part f s us tg h first 0 (h .start) first w w
   part-start = record { walk = k .accepted .walk; some = k .room .some; left = left-start refl }
 
-  module _ {i at v : ℕ} {w₀ w : World} (p : Part f s te tg h first i at v w₀ w) where
+  module _ {i at v : ℕ} {w₀ w : World} (p : Part f s us tg h first i at v w₀ w) where
     -- constraint number i is next, where the call answered x with the store l
     pub part-read : (l : List ℕ) (x : Next) {c : decl.Constraint} {next : ℕ} → i < h .constraints
         → saidNext l x ≡ decodedAt (countsIn h) s at → x ≡ Next.Read c next → NextOf (k .accepted) i next (constraintOf l c)
@@ -80,23 +83,23 @@ module _ {f : Line → World → World} {s te tg list : List ℕ} {h : Head} {fi
 
     module _ {next : ℕ} {c : Constraint} (n : NextOf (k .accepted) i next c) where
       -- its writer can be called
-      pub part-fits : Fits te tg list h (c .kind)
-      part-fits = known-fits (k .accepted) (k .resources-long) (k .groups-long) (k .list-long) (n .valid)
+      pub part-fits : Fits us tg list h (c .kind)
+      part-fits = known-fits (k .accepted) (k .filled) (k .groups-long) (k .list-long) (n .valid)
 
-      pub part-room : Room v (constraintPart te tg h (c .kind) (c .weight) v)
+      pub part-room : Room v (constraintPart us tg h (c .kind) (c .weight) v)
       part-room =
-          room-first _ _ (room-same (next-items te tg h v (n .whole) refl) (left-room (p .some) (p .left) (k .room)))
+          room-first _ _ (room-same (next-items us tg h v (n .whole) refl) (left-room (p .some) (p .left) (k .room)))
 
       -- and was
-      pub part-next : {v′ : ℕ} {w′ : World} → Wrote f v (constraintPart te tg h (c .kind) (c .weight) v) w w′ v′
-          → Part f s te tg h first (i + 1) next v′ w₀ w′
+      pub part-next : {v′ : ℕ} {w′ : World} → Wrote f v (constraintPart us tg h (c .kind) (c .weight) v) w w′ v′
+          → Part f s us tg h first (i + 1) next v′ w₀ w′
       part-next q =
           record {
             walk = n .walk;
             some = omega (arith, q .next, p .some);
-            left = left-turn (next-items te tg h v (n .whole) (q .next)) (p .left) q;
+            left = left-turn (next-items us tg h v (n .whole) (q .next)) (p .left) q;
           }
 
     -- at the end
-    pub part-end : h .constraints ≤ i → Ran f (lines first (itemsOf te tg h (constraintsIn h s) first)) w₀ w
-    part-end b = left-end (no-items te tg h v (walk-end (p .walk) b)) (p .left) .ran
+    pub part-end : h .constraints ≤ i → Ran f (lines first (itemsOf us tg h (constraintsIn h s) first)) w₀ w
+    part-end b = left-end (no-items us tg h v (walk-end (p .walk) b)) (p .left) .ran

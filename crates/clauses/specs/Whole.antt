@@ -1,5 +1,5 @@
 -- The whole formula: its blocks and its constraints, each with room for its variables, are its lines.
-use mathlib.Core.Path.{_≡_, ap, _∙_}
+use mathlib.Core.Path.{_≡_, ap, _∙_, fun-ext}
 use mathlib.Core.List.{List, _++_}
 use Prim.Native.Nat.{ℕ, _+_, _*_}
 use native.Mathlib.Omega.{arith}
@@ -10,11 +10,11 @@ use Rattle.tables.specs.Laws.{length-events}
 use Rattle.constraint.specs.declared.kinds.Head.{Head}
 use Rattle.constraint.specs.Walk.{constraintsIn}
 use Rattle.instance.specs.Answers.{instanceOf}
-use Rattle.instance.specs.Laws.{event-rows}
 use Rattle.sink.specs.Run.{Ran, then}
 use Rattle.sink.specs.Lines.{Line, lines, lines-append}
 use Rattle.sink.specs.World.{World}
 use Rattle.literals.specs.Users.{usersIn}
+use Rattle.literals.specs.Filled.{Filled, usersAt, filled-users, filled-rows}
 use Rattle.literals.specs.Tables.{groupIn}
 use Rattle.kinds.specs.Ground.{cellsOf}
 use Rattle.items.specs.Written.{Room, Wrote, room-first, room-rest}
@@ -24,51 +24,55 @@ use Rattle.clauses.specs.Blocks.{beforeItems, Begun}
 use Rattle.clauses.specs.Known.{known-durations, known-formula}
 use Rattle.clauses.specs.Walked.{itemsOf, Walkable}
 
-module _ {s d te tg list : List ℕ} {h : Head} (w : Writable s d te tg list h) where
+module _ {s d te tg list us : List ℕ} {h : Head} (w : Writable s d te tg list h) (u : Filled us (usersIn te (h .events))) where
   -- the variables of the blocks start here, and those of the constraints after them
   abbrev start : ℕ
   start = 2 * cellsOf h + 1
 
   abbrev constraintsFrom : ℕ → List Item
-  constraintsFrom v = itemsOf te tg h (constraintsIn h s) v
+  constraintsFrom v = itemsOf us tg h (constraintsIn h s) v
 
-  whole-items : formula (instanceOf s d te tg h) ≡ beforeItems d te h ++ constraintsFrom (start + gates (beforeItems d te h))
+  whole-users : usersAt us ≡ usersIn te (h .events)
+  whole-users = fun-ext (filled-users te (h .events) u)
+
+  whole-items : formula (instanceOf s d te tg h) ≡ beforeItems d us h ++ constraintsFrom (start + gates (beforeItems d us h))
   whole-items =
-      known-formula (w .accepted) (w .stores .tables .durations-long)
-      ∙ formula-parts (h .times) (cellsOf h) (usersIn te (h .events)) (h .events) (h .resources) (take (h .events) d) (groupIn tg) (constraintsIn h s)
+      (rw (← whole-users) at (known-formula (w .accepted) (w .stores .tables .durations-long)))
+      ∙ formula-parts (h .times) (cellsOf h) (usersAt us) (h .events) (h .resources) (take (h .events) d) (groupIn tg) (constraintsIn h s)
 
   whole-start : primary (instanceOf s d te tg h) + 1 ≡ start
   whole-start = rw (length-events d te (h .events))
 
-  whole-room : Room start (beforeItems d te h ++ constraintsFrom (start + gates (beforeItems d te h)))
+  whole-room : Room start (beforeItems d us h ++ constraintsFrom (start + gates (beforeItems d us h)))
   unfolding variables
   whole-room = record { some = omega arith; small = omega (arith, w .few, ap gates whole-items, whole-start) }
 
   -- what the writer of each part asks for
-  pub whole-begun : Begun d te h
+  pub whole-begun : Begun d us h
   whole-begun =
       record {
         durations = known-durations (w .accepted) (w .stores .tables .durations-long);
         resources = w .accepted .sizes .resources-high;
-        rows = event-rows (w .accepted) (w .stores .tables .resources-long);
-        room = room-first (beforeItems d te h) (constraintsFrom (start + gates (beforeItems d te h))) whole-room;
+        rows = filled-rows te (h .events) u (w .accepted .sizes .events-high);
+        room = room-first (beforeItems d us h) (constraintsFrom (start + gates (beforeItems d us h))) whole-room;
       }
 
-  module _ {f : Line → World → World} {v : ℕ} {w₀ w₁ : World} (p : Wrote f start (beforeItems d te h) w₀ w₁ v) where
-    pub whole-walkable : Walkable s te tg list h v
+  module _ {f : Line → World → World} {v : ℕ} {w₀ w₁ : World} (p : Wrote f start (beforeItems d us h) w₀ w₁ v) where
+    pub whole-walkable : Walkable s us tg list h v
     whole-walkable =
         record {
           durations = d;
+          resources = te;
           accepted = w .accepted;
-          resources-long = w .stores .tables .resources-long;
+          filled = u;
           groups-long = w .stores .tables .groups-long;
           list-long = w .stores .list-long;
-          room = rw (p .next) (room-rest (beforeItems d te h) (constraintsFrom (start + gates (beforeItems d te h))) whole-room);
+          room = rw (p .next) (room-rest (beforeItems d us h) (constraintsFrom (start + gates (beforeItems d us h))) whole-room);
         }
 
     -- both together
     pub whole-ran : {w₂ : World} → Ran f (lines v (constraintsFrom v)) w₁ w₂ → Ran f (formulaLines (instanceOf s d te tg h)) w₀ w₂
     unfolding formulaLines
     whole-ran {w₂} q =
-        let r : Ran f (lines (start + gates (beforeItems d te h)) (constraintsFrom (start + gates (beforeItems d te h)))) w₁ w₂ = rw (p .next) at q in
-        rw (whole-start, whole-items, lines-append start (beforeItems d te h) (constraintsFrom (start + gates (beforeItems d te h)))) (then (p .ran) r)
+        let r : Ran f (lines (start + gates (beforeItems d us h)) (constraintsFrom (start + gates (beforeItems d us h)))) w₁ w₂ = rw (p .next) at q in
+        rw (whole-start, whole-items, lines-append start (beforeItems d us h) (constraintsFrom (start + gates (beforeItems d us h)))) (then (p .ran) r)

@@ -18,10 +18,10 @@ pub fn write_before(
     s: Sink,
     head: Head,
     durations: &[u8],
-    resources: &[u8],
+    users: &[u16],
 ) -> Written
-    requires { ⌜ Begun (now durations) (now resources) head ⌝ }
-    ensures { λ r. ⌜ Wrote (step job (now (model .entry))) (2 * cellsOf head + 1) (beforeItems (now (durations .entry)) (now (resources .entry)) head)
+    requires { ⌜ Begun (now durations) (now users) head ⌝ }
+    ensures { λ r. ⌜ Wrote (step job (now (model .entry))) (2 * cellsOf head + 1) (beforeItems (now (durations .entry)) (now (users .entry)) head)
         (world s (now (text .entry)) (now (words .entry))) (world (r .sink) (now (text .exit)) (now (words .exit))) (r .next) ⌝ }
 {
     let times = head.times;
@@ -30,18 +30,7 @@ pub fn write_before(
     let a = blocks::write_starts(job, model, text, words, s, events, times, cells);
     let v = 2 * cells + 1;
     let count = head.resources;
-    let b = blocks::write_uses(
-        job,
-        model,
-        text,
-        words,
-        a,
-        resources,
-        count,
-        events,
-        times,
-        v,
-    );
+    let b = blocks::write_uses(job, model, text, words, a, users, count, times, v);
     let next = v + count * times;
     blocks::write_durations(job, model, text, words, b, durations, events, times, next)
 }

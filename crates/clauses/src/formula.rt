@@ -10,7 +10,8 @@ ghost use Rattle.sink.specs.Run.{Ran};
 ghost use Rattle.sink.specs.World.{world, step};
 ghost use Rattle.clauses.specs.Writable.{Writable, formulaLines};
 
-// The file's events and groups stand in the tables; list is a store for a constraint's list.
+// The file's events and groups stand in the tables; list is a store for a constraint's list. The users of each resource are
+// found once for all.
 pub fn write_formula(
     job: Job,
     model: &[u8],
@@ -29,7 +30,9 @@ pub fn write_formula(
         (formulaLines (instanceOf (now (file .entry)) (now (durations .entry)) (now (resources .entry)) (now (groups .entry)) head))
         (world s (now (text .entry)) (now (words .entry))) (world r (now (text .exit)) (now (words .exit))) ⌝ }
 {
-    let b = write_before(job, model, text, words, s, head, durations, resources);
+    let mut users = [0u16; 102500];
+    literals::fill_users(resources, head.events, &mut users);
+    let b = write_before(job, model, text, words, s, head, durations, &users);
     let z = b.sink;
     let v = b.next;
     write_constraints(
@@ -40,7 +43,7 @@ pub fn write_formula(
         z,
         file,
         head,
-        resources,
+        &users,
         groups,
         list,
         v,

@@ -21,13 +21,13 @@ pub fn write_constraints(
     s: Sink,
     file: &[u8],
     head: Head,
-    resources: &[u8],
+    users: &[u16],
     groups: &[u8],
     list: &mut [u16],
     first: u32,
 ) -> Sink
-    requires { ⌜ Walkable (now file) (now resources) (now groups) (now list) head first × (s .at ≤ 9223372036854775807) ⌝ }
-    ensures { λ r. ⌜ Ran (step job (now (model .entry))) (lines first (itemsOf (now (resources .entry)) (now (groups .entry)) head (constraintsIn head (now (file .entry))) first))
+    requires { ⌜ Walkable (now file) (now users) (now groups) (now list) head first × (s .at ≤ 9223372036854775807) ⌝ }
+    ensures { λ r. ⌜ Ran (step job (now (model .entry))) (lines first (itemsOf (now (users .entry)) (now (groups .entry)) head (constraintsIn head (now (file .entry))) first))
         (world s (now (text .entry)) (now (words .entry))) (world r (now (text .exit)) (now (words .exit))) ⌝ }
 {
     let mut z = s;
@@ -39,19 +39,7 @@ pub fn write_constraints(
         let Next::Read(c, after) = x else {
             return z;
         };
-        let w = write_constraint(
-            job,
-            model,
-            text,
-            words,
-            z,
-            c,
-            head,
-            resources,
-            groups,
-            list,
-            v,
-        );
+        let w = write_constraint(job, model, text, words, z, c, head, users, groups, list, v);
         z = w.sink;
         v = w.next;
         next = after;

@@ -1,20 +1,17 @@
 -- Turns of the loops: one member more of the list that the words are made of.
-use Prim.Native.Nat.{ℕ, zero, suc, _+_, _-_, _*_, _≤_, _<_}
+use Prim.Native.Nat.{ℕ, zero, suc, _+_, _*_, _≤_, _<_}
 use mathlib.Core.Path.{_≡_, sym, ap, _∙_}
-use mathlib.Core.Bool.{Bool}
 use mathlib.Core.List.{List, [], _∷_, _++_, map, flatMap, map-append, append-assoc, append-nil}
 use native.Mathlib.Omega.{arith}
 use native.Mathlib.Numerals.{add-one}
 use native.Mathlib.Nat.{add-zero}
 use lib.ListN.{length, getD, take, set, length-append}
 use lib.Seq.{take-suc, take-all, getD-take, length-take-le}
-use Rattle.scope.specs.Kinds.{from, member}
+use Rattle.scope.specs.Kinds.{from}
 use Rattle.number.specs.Each.{Each, each-at}
-use Rattle.tables.specs.Rows.{rowAt}
 use Rattle.literals.specs.Variables.{Within}
-use Rattle.literals.specs.Users.{usersIn}
 use Rattle.literals.specs.Outputs.{every, every-both}
-use Rattle.literals.specs.Words.{Holds, Indicator, holds-none, holds-as, holds-more, holds-where}
+use Rattle.literals.specs.Words.{Holds, holds-none, holds-as, holds-more}
 
 map-more : (f : ℕ → ℕ) (l : List ℕ) (k : ℕ) → k < length l → map f (take (k + 1) l) ≡ map f (take k l) ++ (f (getD l k 0) ∷ [])
 map-more f l k h = rw (add-one k, take-suc l k 0 h) (map-append f (take k l) (getD l k 0 ∷ []))
@@ -89,16 +86,6 @@ pub next-time : (f : ℕ → ℕ) (words : List ℕ) (n t x : ℕ)
     → Holds (set words n x) (n + 1) (map f (from 1 (n + 1)))
 next-time f words n t x h e l v =
     holds-as (rw (v, ← e, times-more n) (sym (map-append f (from 1 n) ((n + 1) ∷ [])))) (holds-more h x l)
-
--- the next event, which uses the resource where b is true
-pub next-user : (t words : List ℕ) (e r n : ℕ) {k : ℕ} {b : Bool}
-    → Holds words n (usersIn t e r)
-    → Indicator b k
-    → n < length words
-    → b ≡ member r (rowAt t e)
-    → Holds (set words n (e + 1)) (n + k) (usersIn t (e + 1) r)
-unfolding usersIn
-next-user t words e r n h o l v = holds-as (rw (add-one e, v)) (holds-where h o (e + 1) l)
 
 -- member k of the first n members of a list is within what they all are
 pub within-at : (m : ℕ) (l : List ℕ) (n k : ℕ) → Each (Within m) (take n l) → k < n → n ≤ length l → Within m (getD l k 0)

@@ -1,6 +1,7 @@
 pub mod Words
 pub mod Variables
 pub mod Users
+pub mod Filled
 pub mod Outputs
 pub mod Proper
 pub mod Numbered

@@ -42,24 +42,16 @@ module _ {words : List ℕ} {n : ℕ} {xs : List ℕ} (h : Holds words n xs) whe
         front = rw (add-one n, take-suc-set words n x l, h .front);
       }
 
-  -- a word that is stored, and taken only where b is true
-  pub holds-where : {b : Bool} {k : ℕ} → Indicator b k → (x : ℕ) → n < length words → Holds (set words n x) (n + k) (xs ++ cond b (x ∷ []) [])
-  holds-where {b} {k} o x l = rw (o .is) (by b)
-    where
-      by : (b : Bool) → Holds (set words n x) (n + cond b 1 0) (xs ++ cond b (x ∷ []) [])
-      by true = holds-more x l
-      by false =
-          record {
-            count = rw (add-zero n, append-nil xs) (h .count);
-            front = rw (add-zero n, append-nil xs, take-set-le n words n x (omega arith)) (h .front);
-          }
-
-  -- the same where b is false
+  -- a word that is stored, and taken only where b is false
   pub holds-unless : {b : Bool} {k : ℕ} → Indicator b k → (x : ℕ) → n < length words → Holds (set words n x) (n + (1 - k)) (xs ++ cond b [] (x ∷ []))
   holds-unless {b} {k} o x l = rw (o .is) (by b)
     where
       by : (b : Bool) → Holds (set words n x) (n + (1 - cond b 1 0)) (xs ++ cond b [] (x ∷ []))
-      by true = holds-where {b = false} {k = 0} (record { is = refl }) x l
+      by true =
+          record {
+            count = rw (add-zero n, append-nil xs) (h .count);
+            front = rw (add-zero n, append-nil xs, take-set-le n words n x (omega arith)) (h .front);
+          }
       by false = holds-more x l
 
 -- whether a list startsWith with x

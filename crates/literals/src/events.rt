@@ -1,43 +1,14 @@
-// The events that use a resource, and the literals of events in a list.
+// The literals of events in a list.
 use crate::times::group_times;
 use crate::variable::base;
 use crate::variable::literal;
-use tables::row_has;
 ghost use Prim.Native.Nat.{_-_, _*_, _≤_, _<_};
 ghost use mathlib.Core.List.{map, flatMap};
 ghost use lib.ListN.{length, take};
 ghost use Rattle.number.specs.Each.{Each};
-ghost use Rattle.tables.specs.Rows.{rowAt, RowsIn};
+ghost use Rattle.tables.specs.Rows.{rowAt};
 ghost use Rattle.literals.specs.Variables.{yAt, sAt, Sizes, Within, GroupIn};
-ghost use Rattle.literals.specs.Words.{Holds, Indicator};
-ghost use Rattle.literals.specs.Users.{usersIn};
-
-fn one_if(b: bool) -> usize
-    ensures { λ r. ⌜ Indicator b r ⌝ }
-{
-    if b {
-        return 1;
-    }
-    0
-}
-
-// The events that use resource r, from the table of the events' resources.
-pub fn users_of(resources: &[u8], events: u32, r: u32, list: &mut [u16]) -> usize
-    requires { ⌜ RowsIn (now resources) events × ((events ≤ 1024) × ((events ≤ length (now list)) × (r < 256))) ⌝ }
-    ensures { λ n. ⌜ Holds (now (list .exit)) n (usersIn (now (resources .entry)) events r) ⌝ }
-{
-    let x = r as u8;
-    let most = events as usize;
-    let mut n: usize = 0;
-    let mut e: usize = 0;
-    while e < most {
-        let h = one_if(row_has(resources, e, x));
-        e = e + 1;
-        list[n] = e as u16;
-        n = n + h;
-    }
-    n
-}
+ghost use Rattle.literals.specs.Words.{Holds};
 
 // Y of the first n events of a list, at time t.
 pub fn y_of_events(list: &[u16], n: usize, times: u32, t: u32, out: &mut [u32]) -> usize

@@ -3,16 +3,17 @@
 mod events;
 mod gate;
 mod times;
+mod users;
 mod variable;
 
 pub use events::s_spread;
-pub use events::users_of;
 pub use events::y_of_events;
 pub use gate::outputs;
 pub use times::s_of_event;
 pub use times::x_of_group;
 pub use times::y_of_event;
 pub use times::y_outside;
+pub use users::fill_users;
 pub use variable::s_literal;
 pub use variable::x_literal;
 pub use variable::y_literal;

@@ -16,8 +16,8 @@ use Rattle.rules.specs.Fits.{listsIn}
 abbrev others : List ℕ
 others = 1 ∷ 2 ∷ 3 ∷ 4 ∷ 5 ∷ 6 ∷ 7 ∷ []
 
-module _ (resources groups list : List ℕ) (h : Head) where
-  pub one-list : (k : Kind) → OneOf others (tagOf tags.the-type k) → listsIn resources groups h (kindOf list k) ≡ listIn groups h (kindOf list k) ∷ []
+module _ (users groups list : List ℕ) (h : Head) where
+  pub one-list : (k : Kind) → OneOf others (tagOf tags.the-type k) → listsIn users groups h (kindOf list k) ≡ listIn groups h (kindOf list k) ∷ []
   unfolding countedList numbered
   one-list (Kind.Clash f) o = absurd (miss others 0 tt o)
   one-list (Kind.Unavailable f) o = refl

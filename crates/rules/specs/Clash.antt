@@ -1,18 +1,15 @@
 -- The counted lists of a clash: one for each time, over the events that use its resource.
-use mathlib.Core.Path.{_≡_, refl, ap, _∙_}
-use mathlib.Core.List.{List, [], _∷_, map}
-use Prim.Native.Nat.{ℕ, zero, suc, _+_, _≤_, _<_}
+use mathlib.Core.Path.{_≡_, refl}
+use mathlib.Core.List.{List, map}
+use Prim.Native.Nat.{ℕ, zero, suc, _*_, _≤_, _<_}
 use native.Mathlib.Omega.{arith}
-use lib.ListN.{length, take, length-map}
+use lib.ListN.{length, getD, take, length-map}
 use Rattle.scope.specs.Kinds.{from, upTo, clash}
-use Rattle.number.specs.Each.{Each, each-none, each-more}
-use Rattle.tables.specs.Rows.{RowsIn}
+use Rattle.number.specs.Each.{Each, each-more}
 use Rattle.constraint.specs.declared.kinds.Head.{Head}
 use Rattle.literals.specs.Variables.{yAt, Within}
-use Rattle.literals.specs.Users.{usersIn, users-most, users-within}
-use Rattle.literals.specs.Words.{Holds}
+use Rattle.literals.specs.Filled.{usersAt, UserRows, rowPart, part-room, part-holds, part-within}
 use Rattle.literals.specs.Numbered.{Numbered, plain, numbered}
-use Rattle.kinds.specs.Ground.{Ground}
 use Rattle.rules.specs.Fits.{Fits, Short, listsIn}
 
 -- Y of some events at a time
@@ -29,27 +26,24 @@ pub record UsersIn (list : List ℕ) (n T : ℕ) : Type 0 where
   pub times : T ≤ 125
   pub short : 0 < T → n ≤ 255
 
--- a clash of resource r: the rows of the events' resources, and that its lists are short
-pub record ClashIn (resources : List ℕ) (h : Head) (r : ℕ) : Type 0 where
-  pub rows : RowsIn resources (h .events)
-  pub events : h .events ≤ 1024
+-- a clash of resource r: the table of users, and that its lists are short
+pub record ClashIn (users : List ℕ) (h : Head) (r : ℕ) : Type 0 where
+  pub rows : UserRows users
   pub times : h .times ≤ 125
-  pub resource : r < 256
-  pub short : Each Short (clashLists (h .times) (usersIn resources (h .events) r))
+  pub resource : r ≤ 99
+  pub short : Each Short (clashLists (h .times) (usersAt users r))
 
-pub clash-lists : (resources groups : List ℕ) (h : Head) (r : ℕ)
-    → listsIn resources groups h (clash r) ≡ clashLists (h .times) (usersIn resources (h .events) r)
+pub clash-lists : (users groups : List ℕ) (h : Head) (r : ℕ) → listsIn users groups h (clash r) ≡ clashLists (h .times) (usersAt users r)
 unfolding numbered
-clash-lists resources groups h r = refl
+clash-lists users groups h r = refl
 
-pub clash-fits : {resources groups list : List ℕ} {h : Head} {r : ℕ} → Fits resources groups list h (clash r) → ClashIn resources h r
-clash-fits {resources} {groups} {list} {h} {r} f =
+pub clash-fits : {users groups list : List ℕ} {h : Head} {r : ℕ} → Fits users groups list h (clash r) → ClashIn users h r
+clash-fits {users} {groups} {list} {h} {r} f =
     record {
       rows = f .rows;
-      events = f .ground .events;
       times = f .ground .times;
-      resource = omega (arith, f .ground .resources, f .range .high);
-      short = rw (clash-lists resources groups h r) at (f .short);
+      resource = omega (arith, f .resources, f .range .high);
+      short = rw (clash-lists users groups h r) at (f .short);
     }
 
 -- each list is as long as there are users
@@ -59,15 +53,14 @@ unfolding from
 first-short zero us f e s h = let z : ⊥ = omega arith in absurd z
 first-short (suc T) us f e (each-more p ps) h = omega (arith, e 1, p .most 0)
 
--- the users gathered
-pub users-in-list : {resources list : List ℕ} {h : Head} {r n : ℕ} → ClashIn resources h r → length list ≡ 1024
-    → Holds list n (usersIn resources (h .events) r)
-    → UsersIn list n (h .times)
-users-in-list {resources} {list} {h} {r} {n} c l g =
-    let us = usersIn resources (h .events) r in
+-- the users as they are lent
+pub users-in-part : {users : List ℕ} {h : Head} {r : ℕ} → ClashIn users h r → UsersIn (rowPart users r) (getD users (r * 1025) 0) (h .times)
+users-in-part {users} {h} {r} c =
+    let us = usersAt users r in
+    let g = part-holds (c .rows) r (c .resource) in
     record {
-      room = omega (arith, g .count, users-most resources (h .events) r, c .events);
-      within = rw (g .front) (users-within resources 1024 (h .events) r (c .events));
+      room = part-room (c .rows) r (c .resource);
+      within = part-within (c .rows) r (c .resource);
       times = c .times;
       short = λ p.
           omega (arith, g .count, first-short (h .times) us (ysAt (h .times) us) (λ t. length-map us (λ e. yAt (h .times) e t)) (c .short) p);

@@ -9,8 +9,8 @@ use Rattle.literals.specs.Numbered.{Numbered, numberedItems, allNumbered}
 use Rattle.kinds.specs.Counted.{listIn, Fit}
 use Rattle.rules.specs.Fits.{Fits, listsIn}
 
-pub list-fits : {resources groups list : List ℕ} {h : Head} {k : Kind} → listsIn resources groups h k ≡ listIn groups h k ∷ []
-    → Fits resources groups list h k
+pub list-fits : {users groups list : List ℕ} {h : Head} {k : Kind} → listsIn users groups h k ≡ listIn groups h k ∷ []
+    → Fits users groups list h k
     → Fit groups list h k
 list-fits e f =
     let s = each-head (rw e at (f .short)) in

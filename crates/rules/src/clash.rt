@@ -4,11 +4,10 @@ use counts::Bounds;
 use items::Written;
 use sink::Job;
 use sink::Sink;
-ghost use mathlib.Core.Path.{_≡_};
-ghost use Prim.Native.Nat.{_+_, _≤_, _<_};
-ghost use lib.ListN.{length, take};
+ghost use Prim.Native.Nat.{_+_};
+ghost use lib.ListN.{take};
 ghost use Rattle.sink.specs.World.{world, step};
-ghost use Rattle.literals.specs.Users.{usersIn};
+ghost use Rattle.literals.specs.Filled.{usersAt};
 ghost use Rattle.literals.specs.Numbered.{allNumbered};
 ghost use Rattle.items.specs.Written.{Room, Wrote};
 ghost use Rattle.rules.specs.Clash.{clashLists, UsersIn, ClashIn};
@@ -47,7 +46,7 @@ fn write_times(
     Written { sink, next }
 }
 
-// The users are gathered once for all times.
+// The users are those of a row of the table.
 pub fn write_clash(
     job: Job,
     model: &[u8],
@@ -56,15 +55,27 @@ pub fn write_clash(
     s: Sink,
     weight: u32,
     head: Head,
-    resources: &[u8],
+    users: &[u16],
     r: u32,
     v: u32,
 ) -> Written
-    requires { ⌜ ClashIn (now resources) head r × Room v (allNumbered weight (clashLists (head .times) (usersIn (now resources) (head .events) r)) v) ⌝ }
-    ensures { λ w. ⌜ Wrote (step job (now (model .entry))) v (allNumbered weight (clashLists (head .times) (usersIn (now (resources .entry)) (head .events) r)) v)
+    requires { ⌜ ClashIn (now users) head r × Room v (allNumbered weight (clashLists (head .times) (usersAt (now users) r)) v) ⌝ }
+    ensures { λ w. ⌜ Wrote (step job (now (model .entry))) v (allNumbered weight (clashLists (head .times) (usersAt (now (users .entry)) r)) v)
         (world s (now (text .entry)) (now (words .entry))) (world (w .sink) (now (text .exit)) (now (words .exit))) (w .next) ⌝ }
 {
-    let mut users = [0u16; 1024];
-    let n = literals::users_of(resources, head.events, r, &mut users);
-    write_times(job, model, text, words, s, &users, n, head.times, weight, v)
+    let at = r as usize * 1025;
+    let n = users[at] as usize;
+    let first = at + 1;
+    write_times(
+        job,
+        model,
+        text,
+        words,
+        s,
+        &users[first..],
+        n,
+        head.times,
+        weight,
+        v,
+    )
 }

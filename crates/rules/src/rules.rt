@@ -21,14 +21,14 @@ pub fn write_rules(
     s: Sink,
     c: Constraint,
     head: Head,
-    resources: &[u8],
+    users: &[u16],
     groups: &[u8],
     list: &[u16],
     v: u32,
 ) -> Written
-    requires { ⌜ Fits (now resources) (now groups) (now list) head (kindOf (now list) (c .kind))
-        × Room v (constraintPart (now resources) (now groups) head (kindOf (now list) (c .kind)) (c .weight) v) ⌝ }
-    ensures { λ r. ⌜ Wrote (step job (now (model .entry))) v (constraintPart (now (resources .entry)) (now (groups .entry)) head (kindOf (now (list .entry)) (c .kind)) (c .weight) v)
+    requires { ⌜ Fits (now users) (now groups) (now list) head (kindOf (now list) (c .kind))
+        × Room v (constraintPart (now users) (now groups) head (kindOf (now list) (c .kind)) (c .weight) v) ⌝ }
+    ensures { λ r. ⌜ Wrote (step job (now (model .entry))) v (constraintPart (now (users .entry)) (now (groups .entry)) head (kindOf (now (list .entry)) (c .kind)) (c .weight) v)
         (world s (now (text .entry)) (now (words .entry))) (world (r .sink) (now (text .exit)) (now (words .exit))) (r .next) ⌝ }
 {
     let kind = c.kind;
@@ -43,7 +43,7 @@ pub fn write_rules(
         s,
         c.weight,
         head,
-        resources,
+        users,
         f.resource,
         v,
     )

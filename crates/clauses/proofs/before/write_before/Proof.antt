@@ -2,7 +2,7 @@
 use mathlib.Core.Path.{refl}
 use native.Mathlib.Omega.{arith}
 use lib.ListN.{take}
-use Rattle.literals.specs.Users.{usersIn}
+use Rattle.literals.specs.Filled.{usersAt}
 use Rattle.kinds.specs.Ground.{cellsOf}
 use Rattle.clauses.specs.Before.{blocks-wrote}
 use Rattle.clauses.specs.Blocks.{begun-sizes, begun-count, begun-uses, begun-durations}
@@ -44,7 +44,7 @@ returns : tie.Need-returns
 returns c =
     let a = c .before .before .before .before .before .before .before .before .before .before .before .before .before .before .before .before .before .before .before .before .before .before .before .before .before .before .args in
     let h = a .head in
-    blocks-wrote (h .times) (cellsOf h) (usersIn (a .resources .now) (h .events)) (h .events) (h .resources) (take (h .events) (a .durations .now)) refl
+    blocks-wrote (h .times) (cellsOf h) (usersAt (a .users .now)) (h .events) (h .resources) (take (h .events) (a .durations .now)) refl
     refl
     (c .before .before .before .before .before .before .before .before .before .before .before .before .before .before .before .before .before .before .write-starts .ensures)
     (c .before .before .before .before .before .before .before .before .before .before .before .write-uses .ensures)

@@ -13,13 +13,13 @@ use Rattle.clauses.proofs.walk.write_constraints.Statement.{statement}
 use Rattle.clauses.proofs.walk.write_constraints.Tie as tie
 
 abbrev Inv-loop : tie.InvT-loop
-Inv-loop job model text₀ words₀ file head resources groups list₀ first z₀ v₀ next₀ i₀ text words list z v next i =
+Inv-loop job model text₀ words₀ file head users groups list₀ first z₀ v₀ next₀ i₀ text words list z v next i =
     (i ≤ head .constraints) × (length text ≡ length text₀) × (length words ≡ length words₀) × (z .at ≤ 9223372036854775807)
-    × Walkable file resources groups list head first
-    × Part (step job model) file resources groups head first i next v (world z₀ text₀ words₀) (world z text words)
+    × Walkable file users groups list head first
+    × Part (step job model) file users groups head first i next v (world z₀ text₀ words₀) (world z text words)
 
 abbrev μ-loop : tie.MeasureT-loop
-μ-loop job model text₀ words₀ file head resources groups list₀ first z₀ v₀ next₀ i₀ text words list z v next i = head .constraints - i
+μ-loop job model text₀ words₀ file head users groups list₀ first z₀ v₀ next₀ i₀ text words list z v next i = head .constraints - i
 
 loop-holds : tie.Need-loop-holds Inv-loop μ-loop
 loop-holds c =

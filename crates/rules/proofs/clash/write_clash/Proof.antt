@@ -1,25 +1,43 @@
 -- `rules::clash::write_clash` meets its contract.
-use mathlib.Core.Path.{_≡_, refl}
 use native.Mathlib.Omega.{arith}
-use Rattle.rules.specs.Clash.{users-in-list}
+use Rattle.literals.specs.Filled.{part-holds}
+use Rattle.rules.specs.Clash.{users-in-part}
 use borrow.Author.Needs.{needs}
 use Rattle.rules.proofs.clash.write_clash.Statement.{statement}
 use Rattle.rules.proofs.clash.write_clash.Tie as tie
 
-slice-aggregate-users-of : tie.Need-slice-aggregate-users-of
-slice-aggregate-users-of c = search needs
+mul-at : tie.Need-mul-at
+mul-at c = search needs
 
-users-of-requires : tie.Need-users-of-requires
-users-of-requires c κs = let p = c .before .before .before .before .before .pre .0 in (p .rows, (p .events, (p .events, p .resource)))
+mul-n : tie.Need-mul-n
+mul-n c = search needs
 
-slice-aggregate-write-times : tie.Need-slice-aggregate-write-times
-slice-aggregate-write-times c = search needs
+shared-slice-read-n : tie.Need-shared-slice-read-n
+shared-slice-read-n c = search needs
+
+cast-n : tie.Need-cast-n
+cast-n c =
+    let a = c .before .before .before .before .before in omega (arith, a .pre .0 .rows .count (a .args .r))
+
+add-first : tie.Need-add-first
+add-first c = search needs
+
+mul-write-times : tie.Need-mul-write-times
+mul-write-times c = search needs
+
+sub-write-times : tie.Need-sub-write-times
+sub-write-times c = search needs
+
+part-write-times-start : tie.Need-part-write-times-start
+part-write-times-start c = search needs
+
+part-write-times-end : tie.Need-part-write-times-end
+part-write-times-end c = search needs
 
 write-times-requires : tie.Need-write-times-requires
 write-times-requires c κs =
-    let p = c .before .before .before .before .before .before .before .before .before .before .pre in
-    let h = c .before .before .before .before .users-of .ensures in
-    (users-in-list (p .0) (c .before .before .before .users2 .given) h, rw (h .front) (p .1))
+    let a = c .before .before .before .before .before .before .before .before in
+    (users-in-part (a .pre .0), rw (part-holds (a .pre .0 .rows) (a .args .r) (a .pre .0 .resource) .front) (a .pre .1))
 
 same-length : tie.Need-same-length
 same-length c = search needs
@@ -28,15 +46,23 @@ same-length-2 : tie.Need-same-length-2
 same-length-2 c = search needs
 
 returns : tie.Need-returns
-returns c = rw (c .before .before .before .before .before .before .before .before .before .users-of .ensures .front) at (c .before .before .before .before .write-times .ensures)
+returns c =
+    let a = c .before .before .before .before .before .before .before .before .before .before .before .before .before in
+    rw (part-holds (a .pre .0 .rows) (a .args .r) (a .pre .0 .resource) .front) at (c .before .before .before .before .write-times .ensures)
 
 pub write-clash-spec : {M : Type 1} → statement M
 write-clash-spec =
     tie.close
     (tie.spec
-    slice-aggregate-users-of
-    users-of-requires
-    slice-aggregate-write-times
+    mul-at
+    mul-n
+    shared-slice-read-n
+    cast-n
+    add-first
+    mul-write-times
+    sub-write-times
+    part-write-times-start
+    part-write-times-end
     write-times-requires
     same-length
     same-length-2
