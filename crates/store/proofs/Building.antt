@@ -13,7 +13,7 @@ use Rattle.scope.specs.Formula.{words}
 use Rattle.scope.specs.Steps.{put}
 use Rattle.store.specs.declared.directory.Row.{Row}
 use Rattle.store.specs.Clauses.{slice-past}
-use Rattle.store.specs.Marked.{mark, Small, Plain, flat, rowsFor, RowsAre, BuiltFor}
+use Rattle.store.specs.Marked.{mark, Small, Plain, length-marks, flat, rowsFor, RowsAre, BuiltFor}
 
 -- a word without its mark
 unfoldable pub plain : ℕ → ℕ
@@ -179,17 +179,6 @@ unfolding flatMap
 plain-marks [] p = refl
 plain-marks ([] ∷ cs) p = absurd p
 plain-marks ((l ∷ ls) ∷ cs) p = rw (map-append, plain-clause l ls (p .0), plain-marks cs (p .1))
-
-length-mark : (c : List ℕ) → length (mark c) ≡ length c
-unfolding mark
-length-mark [] = refl
-length-mark (l ∷ []) = refl
-length-mark (l ∷ k ∷ ks) = ap suc (length-mark (k ∷ ks))
-
-length-marks : (f : List (List ℕ)) → length (flatMap mark f) ≡ words f
-unfolding flatMap words
-length-marks [] = refl
-length-marks (c ∷ cs) = length-append (mark c) (flatMap mark cs) ∙ rw (length-mark, length-marks cs)
 
 length-rows : (id first : ℕ) (f : List (List ℕ)) → length (rowsFor id first f) ≡ length f
 unfolding rowsFor

@@ -1,26 +1,24 @@
 -- Clauses in the words, the last word of each marked, and the rows that are made of them.
-use mathlib.Core.Path.{_≡_}
+use mathlib.Core.Path.{_≡_, refl, ap, _∙_}
 use mathlib.Core.List.{List, [], _∷_, _++_, flatMap}
-use Prim.Native.Nat.{ℕ, suc, _+_, _≤_, _<_}
-use lib.ListN.{length}
+use Prim.Native.Nat.{ℕ, suc, _+_, _≤_}
+use lib.ListN.{length, length-append}
 use Rattle.scope.specs.Formula.{words}
+unfoldable pub use Rattle.sink.specs.Block.{mark}
+pub use Rattle.sink.specs.Block.{Small, Plain}
 use Rattle.store.specs.declared.directory.Row.{Row}
 
--- the words of a clause, the last one marked
-unfoldable pub mark : List ℕ → List ℕ
-mark [] = []
-mark (l ∷ []) = (l + 2147483648) ∷ []
-mark (l ∷ k ∷ ks) = l ∷ mark (k ∷ ks)
+length-mark : (c : List ℕ) → length (mark c) ≡ length c
+unfolding mark
+length-mark [] = refl
+length-mark (l ∷ []) = refl
+length-mark (l ∷ k ∷ ks) = ap suc (length-mark (k ∷ ks))
 
--- clauses that can be marked: none is empty, and all literals are below 2^31
-abbrev pub Small : List ℕ → Type 0
-Small [] = Unit
-Small (l ∷ ls) = (l < 2147483648) × Small ls
-
-abbrev pub Plain : List (List ℕ) → Type 0
-Plain [] = Unit
-Plain ([] ∷ cs) = ⊥
-Plain ((l ∷ ls) ∷ cs) = Small (l ∷ ls) × Plain cs
+-- a word for each literal
+pub length-marks : (f : List (List ℕ)) → length (flatMap mark f) ≡ words f
+unfolding flatMap words
+length-marks [] = refl
+length-marks (c ∷ cs) = length-append (mark c) (flatMap mark cs) ∙ rw (length-mark, length-marks cs)
 
 -- the words of clauses
 abbrev pub flat : List (List ℕ) → List ℕ

@@ -1,0 +1,71 @@
+-- What a check answers, from what is ready and what the driver leaves.
+use mathlib.Core.Path.{_≡_, refl, sym, ap, _∙_}
+use mathlib.Core.List.{List}
+use Prim.Native.Nat.{ℕ}
+use native.Mathlib.Omega.{arith}
+use lib.ListN.{length, replicate, length-replicate}
+use Rattle.scope.specs.Operations.{checkOf}
+use Rattle.scope.specs.PlainRun.{plainRun}
+use Rattle.scope.specs.Answers.{given, checkMeans}
+use Rattle.scope.specs.declared.Refusal.{Refusal}
+use Rattle.scope.specs.declared.CheckAnswer.{CheckAnswer}
+use Rattle.store.specs.declared.directory.Row.{Row}
+use Rattle.store.specs.Marks.{marks-cleared}
+use Rattle.store.specs.Marked.{Built}
+use Rattle.bound.specs.Run.{Driven}
+use Rattle.bound.specs.Meaning.{limits, check-means}
+use Rattle.checker.specs.declared.prepare.Ready.{Ready}
+use Rattle.checker.specs.Prepared.{lent, FormulaIn, RefusedAs, preparedAs, Prepared}
+
+-- the directory was built of the words, and the proof s driven to its end
+pub record Followed (s ws : List ℕ) (cap : ℕ) (ms : List ℕ) (used last : ℕ) (r : CheckAnswer) : Type 0 where
+  pub rows : ℕ → Row
+  pub words : List ℕ
+  pub count : ℕ
+  pub long : length words ≡ length ws
+  pub built : Built ws words cap rows used count
+  pub driven : Driven s last cap count used rows words ms r
+
+abbrev pub followedAs : List ℕ → List ℕ → ℕ → List ℕ → Ready → CheckAnswer → Type 0
+followedAs s ws cap ms (Ready.Formula used last) r = Followed s ws cap ms used last r
+followedAs s ws cap ms (Ready.Refused f) r = r ≡ CheckAnswer.Refused f
+
+pub record Follows (s ws : List ℕ) (cap : ℕ) (ms : List ℕ) (x : Ready) (r : CheckAnswer) : Type 0 where
+  pub followed : followedAs s ws cap ms x r
+
+pub follows-formula : {s ws ws′ : List ℕ} {cap cap′ : ℕ} {R : ℕ → Row} {ms : List ℕ} {x : Ready} {used last n : ℕ} {r : CheckAnswer}
+    → x ≡ Ready.Formula used last → length ws′ ≡ length ws → cap′ ≡ cap → Built ws ws′ cap R used n
+    → Driven s last cap′ n used R ws′ ms r → Follows s ws cap ms x r
+follows-formula {ws′ = ws′} {R = R} {n = n} e long same b d =
+    rw e (record {
+      followed = record { rows = R; words = ws′; count = n; long = long; built = b; driven = rw same at d };
+    })
+
+pub follows-refused : {s ws : List ℕ} {cap : ℕ} {ms : List ℕ} {x : Ready} {f : Refusal} → x ≡ Ready.Refused f
+    → Follows s ws cap ms x (CheckAnswer.Refused f)
+follows-refused e = rw e (record { followed = refl })
+
+-- zeros, where a store is as long as it was
+pub zeros-kept : {xs : List ℕ} {m n : ℕ} → xs ≡ replicate m 0 → m ≡ n → xs ≡ replicate n 0
+zeros-kept e long = e ∙ ap (λ (n : ℕ). replicate n 0) long
+
+module _ (file : List ℕ) (B : ℕ) (s ws : List ℕ) (cap : ℕ) (ms : List ℕ) (w b : ℕ) (r : CheckAnswer)
+    (cleared : ms ≡ replicate b 0) (same : length ws ≡ w) where
+  formula-checked : (used last : ℕ) → FormulaIn file B (lent w cap b) ws used last → Followed s ws cap ms used last r
+      → checkMeans r ≡ checkOf file B s (lent w cap b)
+  formula-checked used last p q =
+      let long : length (q .words) ≡ w = q .long ∙ same in
+      let bytes : length ms ≡ b = ap length cleared ∙ length-replicate b 0 in
+      let e = check-means s last cap (q .count) (q .rows) ws (q .words) ms r (p .clauses) (p .rest) (p .plain) (p .good)
+      (p .marked) (p .rows-fit) (omega (arith, p .bytes-fit)) (rw cleared (marks-cleared b)) (rw (p .size) at (q .built))
+      (rw (p .size) at (q .driven)) in
+      rw long at e ∙ sym (p .answer s)
+
+  pub checked : (x : Ready) → Prepared file B (lent w cap b) ws x → Follows s ws cap ms x r
+      → checkMeans r ≡ checkOf file B s (lent w cap b)
+  checked x p q = go x (p .ready) (q .followed)
+    where
+      go : (x : Ready) → preparedAs file B (lent w cap b) ws x → followedAs s ws cap ms x r
+          → checkMeans r ≡ checkOf file B s (lent w cap b)
+      go (Ready.Formula used last) p q = formula-checked used last p q
+      go (Ready.Refused f) p q = rw q (sym (p .answer s))

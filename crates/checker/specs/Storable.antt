@@ -1,0 +1,49 @@
+-- The formula with its tail can stand in the checker's stores: no clause is empty, and every literal is one of its variables.
+use mathlib.Core.Path.{_≡_}
+use mathlib.Core.List.{List, [], _∷_}
+use Prim.Native.Nat.{ℕ, _+_, _≤_}
+use native.Mathlib.Omega.{arith}
+use Rattle.laws.specs.Lists as lists
+use Rattle.laws.specs.Lists.{All-weaken}
+use Rattle.scope.specs.Instance.{Instance}
+use Rattle.scope.specs.Formula.{boundedVariables, boundedHard}
+use Rattle.theory.specs.Accepted.{ValidInstance}
+use Rattle.theory.specs.Order.{Proper}
+use Rattle.theory.specs.Literals.{bounded-literals}
+use Rattle.store.specs.Holding.{All, Good}
+use Rattle.store.specs.Built.{Each}
+use Rattle.store.specs.Marked.{Small, Plain}
+use Rattle.checker.specs.NonEmpty.{NonEmpty, bounded-nonempty}
+
+-- of variables before m, which is at most 2 ^ 30
+module _ (m : ℕ) (h : m ≤ 1073741824) where
+  small : (c : List ℕ) → lists.All (Proper m) c → Small c
+  small [] a = tt
+  small (l ∷ ls) a = (omega (arith, a .0 .before), small ls (a .1))
+
+  plain : (f : List (List ℕ)) → lists.All NonEmpty f → lists.All (lists.All (Proper m)) f → Plain f
+  plain [] n a = tt
+  plain ([] ∷ f) n a = absurd (n .0)
+  plain ((l ∷ ls) ∷ f) n a = (small (l ∷ ls) (a .0), plain f (n .1) (a .1))
+
+-- of variables up to the last
+module _ (last : ℕ) where
+  good : (l : ℕ) → Proper (last + 1) l → Good last l
+  good l p = record { two = p .literal; most = omega (arith, p .before) }
+
+  all-good : (c : List ℕ) → lists.All (Proper (last + 1)) c → All (Good last) c
+  all-good [] a = tt
+  all-good (l ∷ ls) a = (good l (a .0), all-good ls (a .1))
+
+  each-good : (f : List (List ℕ)) → lists.All (lists.All (Proper (last + 1))) f → Each (Good last) f
+  each-good [] a = tt
+  each-good (c ∷ f) a = (all-good c (a .0), each-good f (a .1))
+
+-- the formula of an accepted instance with the tail for a bound
+module _ (i : Instance) (v : ValidInstance i) (B : ℕ) where
+  pub bounded-plain : boundedVariables i B ≤ 8000000 → Plain (boundedHard i B)
+  bounded-plain h =
+      plain (boundedVariables i B + 1) (omega arith) (boundedHard i B) (bounded-nonempty i B) (bounded-literals i v B)
+
+  pub bounded-good : Each (Good (boundedVariables i B)) (boundedHard i B)
+  bounded-good = each-good (boundedVariables i B) (boundedHard i B) (bounded-literals i v B)

@@ -1,0 +1,59 @@
+// The check of a bound proof, with lent stores.
+use crate::prepare::Ready;
+use crate::prepare::prepare;
+use bound::drive::drive;
+use scope::CheckAnswer;
+use store::clauses::clear_words;
+use store::directory::build_directory;
+use store::directory::clear_rows;
+use store::marks::clear_bytes;
+ghost use mathlib.Core.Path.{_≡_};
+ghost use lib.ListN.{length, replicate};
+ghost use Rattle.scope.specs.Answers.{checkMeans};
+ghost use Rattle.scope.specs.Operations.{checkOf};
+ghost use Rattle.store.specs.Directory.{capacity};
+ghost use Rattle.checker.specs.Prepared.{lent};
+ghost use Rattle.checker.specs.Checked.{Follows};
+
+// The directory is built of the formula that is ready, and the proof is judged.
+fn follow(
+    ready: Ready,
+    proof: &[u8],
+    words: &mut [u32],
+    rows: &mut [usize],
+    marks: &mut [u8],
+) -> CheckAnswer
+    ensures { λ r. ⌜ Follows (now (proof .entry)) (now (words .entry)) (capacity (now (rows .entry))) (now (marks .entry)) ready r ⌝ }
+{
+    match ready {
+        Ready::Formula(used, last) => {
+            let n = build_directory(words, rows, used);
+            drive(proof, words, rows, marks, last, n, used)
+        }
+        Ready::Refused(x) => CheckAnswer::Refused(x),
+    }
+}
+
+// "No timetable" with the number of steps, or refusals 1 to 9 and 14 to 18. What the stores hold does not matter; afterwards
+// they are zero.
+pub fn check(
+    file: &[u8],
+    bound: u64,
+    proof: &[u8],
+    words: &mut [u32],
+    rows: &mut [usize],
+    marks: &mut [u8],
+) -> CheckAnswer
+    ensures { λ r. ⌜ checkMeans r ≡ checkOf (now (file .entry)) bound (now (proof .entry))
+        (lent (length (now (words .entry))) (capacity (now (rows .entry))) (length (now (marks .entry)))) ⌝ }
+    ensures { λ _. ⌜ now (words .exit) ≡ replicate (length (now (words .entry))) 0 ⌝ }
+    ensures { λ _. ⌜ now (rows .exit) ≡ replicate (length (now (rows .entry))) 0 ⌝ }
+    ensures { λ _. ⌜ now (marks .exit) ≡ replicate (length (now (marks .entry))) 0 ⌝ }
+{
+    let ready = prepare(file, bound, words, rows.len() / 4, marks);
+    let r = follow(ready, proof, words, rows, marks);
+    clear_words(words);
+    clear_rows(rows);
+    clear_bytes(marks);
+    r
+}

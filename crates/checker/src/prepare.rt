@@ -1,0 +1,84 @@
+// What comes before a proof's first step: refusals 1 to 9, and the formula with its tail in the lent words.
+use crate::write::write_bounded;
+use scope::FormulaSize;
+use scope::Refusal;
+use sizes::Bounded;
+use sizes::measure_bound;
+use store::marks::clear_bytes;
+ghost use mathlib.Core.Path.{_≡_};
+ghost use lib.ListN.{length, replicate};
+ghost use Rattle.checker.specs.Prepared.{lent, sizeFits, Prepared};
+
+// "a lent store is too short"
+const STORE_TOO_SHORT: u8 = 9;
+
+// A formula of so many words, with its last variable; or a refusal.
+pub enum Ready {
+    Formula(usize, usize),
+    Refused(Refusal),
+}
+
+// Whether the stores are long enough.
+fn fits(z: FormulaSize, words: usize, rows: usize, bytes: usize) -> bool
+    ensures { λ r. ⌜ r ≡ sizeFits z (lent words rows bytes) ⌝ }
+{
+    if (words as u64) < z.words {
+        return false;
+    }
+    if (rows as u64) < z.clauses {
+        return false;
+    }
+    z.variables <= bytes as u64
+}
+
+// The formula is written if the stores are long enough for it.
+fn fill(file: &[u8], bound: u64, words: &mut [u32], rows: usize, bytes: usize) -> Ready
+    ensures { λ r. ⌜ Prepared (now (file .entry)) bound (lent (length (now (words .entry))) rows bytes) (now (words .exit)) r ⌝ }
+{
+    let mut durations = tables::durations();
+    let mut resources = tables::resource_rows();
+    let mut groups = tables::group_rows();
+    let mut list = tables::list();
+    let m = measure_bound(
+        file,
+        bound,
+        &mut durations,
+        &mut resources,
+        &mut groups,
+        &mut list,
+    );
+    match m {
+        Bounded::Sized(head, z, all) => {
+            if fits(all, words.len(), rows, bytes) {
+                write_bounded(
+                    words,
+                    bound,
+                    z,
+                    file,
+                    head,
+                    &durations,
+                    &resources,
+                    &groups,
+                    &mut list,
+                );
+                let used = all.words as usize;
+                let last = all.variables as usize;
+                return Ready::Formula(used, last);
+            }
+            Ready::Refused(Refusal {
+                number: STORE_TOO_SHORT,
+                value: 0,
+            })
+        }
+        Bounded::Refused(x) => Ready::Refused(x),
+    }
+}
+
+// The formula in the words, with every mark open, where a directory of so many rows is lent.
+pub fn prepare(file: &[u8], bound: u64, words: &mut [u32], rows: usize, marks: &mut [u8]) -> Ready
+    ensures { λ r. ⌜ Prepared (now (file .entry)) bound (lent (length (now (words .entry))) rows (length (now (marks .entry)))) (now (words .exit)) r ⌝ }
+    ensures { λ _. ⌜ now (marks .exit) ≡ replicate (length (now (marks .entry))) 0 ⌝ }
+{
+    clear_bytes(marks);
+    fill(file, bound, words, rows, marks.len())
+}

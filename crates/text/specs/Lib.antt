@@ -1,0 +1,5 @@
+pub mod Header
+pub mod Lines
+pub mod Length
+pub mod Ready
+pub mod Written
