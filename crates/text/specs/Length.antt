@@ -14,7 +14,7 @@ use Rattle.sizing.specs.declared.Size.{Size}
 use Rattle.sizes.specs.Whole.{Numbers}
 
 -- a number has at most 20 digits
-digits-few : (k n : ℕ) → length (digits k n) ≤ suc k
+pub digits-few : (k n : ℕ) → length (digits k n) ≤ suc k
 unfolding digits
 digits-few zero n = omega arith
 digits-few (suc k) n = rw (length-append (cond (ltb n 10) [] (digits k (n / 10))) ((48 + n % 10) ∷ [])) (go (ltb n 10) (digits-few k (n / 10)))

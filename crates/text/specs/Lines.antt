@@ -12,6 +12,7 @@ use Rattle.sink.specs.declared.Job.{Job}
 use Rattle.sink.specs.declared.Mode.{Mode}
 use Rattle.sink.specs.declared.Mode.the-variants.{Measure, Text, SoftText}
 use Rattle.clauses.specs.Writable.{formulaLines}
+use Rattle.clauses.specs.Position.{run-placed}
 
 -- a run that has a text alone
 abbrev pub jobOf : Mode → ℕ → Job
@@ -37,6 +38,10 @@ module _ {top : ℕ} {i : Instance} {o o′ : Out} where
   unfolding formulaLines softOf
   soft-ran l =
       record { eq = l .eq ∙ ap outOf (soft-text-lines (jobOf SoftText top) (0 ∷ []) (primary i + 1) (formula i) (ofText o) refl) }
+
+  -- in each mode the position stays at most 2 ^ 63 - 1
+  pub lines-placed : {m : Mode} → LinesRan m top i o o′ → o .at ≤ 9223372036854775807 → o′ .at ≤ 9223372036854775807
+  lines-placed {m} l h = rw (l .eq) (run-placed (jobOf m top) (0 ∷ []) (formulaLines i) (ofText o) h)
 
   -- the position is moved on by the length of all lines
   pub lines-measured : LinesRan Measure top i o o′ → o .at ≤ 9223372036854775807

@@ -19,13 +19,13 @@ same-length-2 c = search needs
 
 returns : tie.Need-returns
 returns c =
-    text-written _ (c .before .before .before .before .before .before .before .before .before .before .text-length .ensures) (c .before .before .before .before .before .before .before .if1 .taken) (omega arith) (c .before .before .before .before .put-text .ensures)
+    text-written _ (c .before .before .before .before .before .before .before .before .before .before .text-length .ensures) (omega arith) (omega arith) (c .before .before .before .before .put-text .ensures)
 
 same-length-3 : tie.Need-same-length-3
 same-length-3 c = search needs
 
 returns-2 : tie.Need-returns-2
-returns-2 c = text-too-long _ (c .before .before .before .text-length .ensures) (c .if1 .left)
+returns-2 c = text-too-long _ (c .before .before .before .text-length .ensures) (omega arith)
 
 pub fit-text-spec : {M : Type 1} → statement M
 fit-text-spec =

@@ -1,7 +1,7 @@
 -- `write::put_text` meets its contract: header, hard lines and soft lines, one after another.
 use native.Mathlib.Omega.{arith}
 use Rattle.clauses.specs.Writable.{writable-kept}
-use Rattle.text.specs.Lines.{hard-ran}
+use Rattle.text.specs.Lines.{lines-placed}
 use Rattle.text.specs.Ready.{ran-at, writable, whole-text}
 use borrow.Author.Needs.{needs}
 use Rattle.text.proofs.write.put_text.Statement.{statement}
@@ -25,7 +25,7 @@ run-lines-requires-2 c κs =
     let l = c .before .before .before .before .before .before in
     let w = l .before .before .before .before .before in (
       writable-kept (writable (w .before .before .before .before .before .before .before .before .before .before .pre)) (search needs),
-      ran-at (ran-at (omega arith) (w .write-header .ensures)) (hard-ran (l .run-lines .ensures)),
+      lines-placed (l .run-lines .ensures) (ran-at (omega arith) (w .write-header .ensures)),
     )
 
 same-length : tie.Need-same-length
