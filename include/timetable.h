@@ -20,9 +20,16 @@
  *    6   bytes are left over                                   offset of the first
  *    7   the bound is above 4,095                              the bound
  *    8   the formula has more than 8,000,000 variables         0
- *   10   a timetable has the wrong length                      length wanted
- *   11   a timetable has a byte above 1                        offset of the first
+ *    9   an output or a store is too short for the formula     0
+ *   10   a timetable or model has the wrong length             length wanted
+ *   11   a timetable or model has a byte above 1               offset of the first
  *   12   not a timetable                                       first event that breaks it, from 1
+ *   13   a model makes a hard clause false                     lowest id of such a clause
+ *   14   a proof's step is misformed                           step, from 1
+ *   15   a hint or deletion names a clause that is not live    step
+ *   16   a hint, or the ending of the hints, breaks the rule   step
+ *   17   a clause that is not empty does not fit the stores    step
+ *   18   a proof has no empty clause, or bytes after it        steps read
  *
  * What every caller owes. A slice is a pointer and the number of its elements;
  * the pointer is good for that many elements. A pointer to an output is good
@@ -85,6 +92,56 @@ uint32_t timetable_same_sheet(const uint8_t *file, size_t file_length,
                               const uint8_t *first, size_t first_length,
                               const uint8_t *second, size_t second_length,
                               uint64_t *value);
+
+/*
+ * How long the clauses are as text for solvers, in the older "p wcnf" form.
+ * Refusals: 1 to 6 for the file, then 8.
+ * Accepted: *bytes is the text's length; *value is left alone.
+ */
+uint32_t timetable_text_size(const uint8_t *file, size_t file_length,
+                             uint64_t *bytes, uint64_t *value);
+
+/*
+ * Writes the clauses as text for solvers to the front of out.
+ * Refusals: 1 to 6 for the file, then 8, then 9 if out is shorter than the
+ * text.
+ * Accepted: *value is the text's length; the bytes of out after it are left
+ * alone.
+ */
+uint32_t timetable_text(const uint8_t *file, size_t file_length, uint8_t *out,
+                        size_t out_length, uint64_t *value);
+
+/*
+ * Reads the timetable and its cost out of a model: a byte, 0 or 1, for each
+ * variable of the clauses without the tail.
+ * Refusals: 1 to 6 for the file, then 8, then 10, 11 and 13 for the model.
+ * Accepted: *objective is the weight of the soft clauses that the model
+ * falsifies, which is the timetable's cost, and *value is how many bytes of
+ * the model, from its first, are the timetable.
+ */
+uint32_t timetable_decode(const uint8_t *file, size_t file_length,
+                          const uint8_t *model, size_t model_length,
+                          uint64_t *objective, uint64_t *value);
+
+/*
+ * Checks a proof that no timetable keeps the hard constraints at a cost of
+ * bound or less.
+ * The stores: a word for each literal, a row for each clause and a mark for
+ * each variable. A row is four numbers of rows, so rows_length is four times
+ * the number of rows. timetable_sizes says how many of each the formula needs;
+ * each clause that the proof adds needs a row, and a word for each of its
+ * literals. What the stores hold before the call does not matter; after it,
+ * whatever it answers, every word, number and mark is zero.
+ * Refusals: 1 to 6 for the file, then 7, then 8, then 9 if a store is too short
+ * for the formula, then 14 to 18 for the proof, step by step.
+ * Accepted, which is the answer "no timetable": *value is the number of steps.
+ */
+uint32_t timetable_check(const uint8_t *file, size_t file_length,
+                         uint64_t bound, const uint8_t *proof,
+                         size_t proof_length, uint32_t *words,
+                         size_t words_length, size_t *rows,
+                         size_t rows_length, uint8_t *marks,
+                         size_t marks_length, uint64_t *value);
 
 #ifdef __cplusplus
 }

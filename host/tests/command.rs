@@ -6,9 +6,9 @@ use std::fs;
 use std::io::Write;
 use std::path::{Path, PathBuf};
 use std::process::{Command, Stdio};
-use support::{hex, oversized, FILE_A};
+use support::{hex, oversized, FILE_A, PROOF_A};
 use timetable::command::refusals;
-use timetable::reference::Refusal;
+use timetable::reference::{text_program, Refusal};
 
 /// What a run printed, said and ended with.
 #[derive(Debug, PartialEq, Eq)]
@@ -218,6 +218,157 @@ fn same_compares_the_taken_bytes() {
 }
 
 #[test]
+fn text_prints_the_clauses() {
+    let a = file("a-to-write", &hex(FILE_A));
+    let found = run(&["text", &a]);
+    assert_eq!(found.printed.as_bytes(), text_program(&hex(FILE_A)));
+    assert_eq!((found.said.as_str(), found.status), ("", 0));
+    // A text of more than 65,536 bytes.
+    let found = run(&["text", &school("small.instance")]);
+    assert_eq!(found.printed.len(), 1_538_300);
+    assert!(found.printed.starts_with("p wcnf 20327 73557 "));
+    let found = run(&["text", &file("oversized-text", &oversized())]);
+    assert_eq!((found.printed.as_str(), found.status), ("refused 8 0\n", 1));
+}
+
+#[test]
+fn decode_prints_the_cost_and_writes_the_timetable() {
+    let toy = [school("toy.instance"), school("toy.model")];
+    let found = run(&["decode", &toy[0], &toy[1]]);
+    assert_eq!(found.printed, "objective 4\nbytes 108\n");
+    assert_eq!((found.said.as_str(), found.status), ("", 0));
+    let written = folder().join("decoded");
+    let with_file = run(&["decode", &toy[0], "--out", "decoded", &toy[1]]);
+    assert_eq!(with_file, found);
+    let table = fs::read(schools().join("toy.timetable")).expect("a timetable");
+    assert_eq!(fs::read(&written).expect("the decoded timetable"), table);
+}
+
+#[test]
+fn a_refused_model_writes_no_timetable() {
+    let a = file("a-to-decode", &hex(FILE_A));
+    for (name, model, printed, said) in [
+        (
+            "falsifying",
+            &[1, 1, 1, 0][..],
+            "refused 13 6\n",
+            "refusal 13 6: a hard clause is false; 6 is the lowest such id\n",
+        ),
+        (
+            "short-model",
+            &[1, 1],
+            "refused 10 4\n",
+            "refusal 10 4: the length is wrong; 4 bytes are wanted\n",
+        ),
+        (
+            "no-bits",
+            &[1, 1, 3, 1],
+            "refused 11 2\n",
+            "refusal 11 2: a byte is above 1; the first is at offset 2\n  \
+             bytes from offset 0: 01 01 [03] 01\n",
+        ),
+    ] {
+        let model = file(name, model);
+        let found = run(&["decode", &a, &model, "--out", "not-written"]);
+        assert_eq!((found.printed.as_str(), found.status), (printed, 1));
+        assert_eq!(found.said, format!("timetable decode: {name}: {said}"));
+        assert!(!folder().join("not-written").exists());
+    }
+}
+
+#[test]
+fn a_timetable_that_cannot_be_written_is_told() {
+    let toy = [school("toy.instance"), school("toy.model")];
+    let found = run(&["decode", &toy[0], &toy[1], "--out", "no-folder/decoded"]);
+    assert_eq!((found.printed.as_str(), found.status), ("", 2));
+    assert!(found
+        .said
+        .starts_with("timetable decode: no-folder/decoded: "));
+}
+
+#[test]
+fn check_says_no_timetable_for_a_refutation() {
+    for (name, bound, printed) in [
+        ("toy", "3", "no timetable\nsteps 136\n"),
+        ("small", "10", "no timetable\nsteps 539\n"),
+    ] {
+        let [instance, proof] = ["instance", "proof"].map(|kind| school(&format!("{name}.{kind}")));
+        let found = run(&["check", &instance, bound, &proof]);
+        assert_eq!(found.printed, printed);
+        assert_eq!((found.said.as_str(), found.status), ("", 0));
+    }
+}
+
+#[test]
+fn check_says_which_step_is_refused_and_where_it_starts() {
+    let a = file("a-to-check", &hex(FILE_A));
+    let steps = "61 11 06 00 05 00 64 05 05 00";
+    let refuted = format!("{PROOF_A} 00");
+    for (name, bound, proof, printed, said) in [
+        (
+            "proof-deleting-twice",
+            "3",
+            steps,
+            "refused 15 2\n",
+            "refusal 15 2: a hint or deletion names a clause that is not live; step 2, which \
+             starts at offset 6\n  bytes from offset 0: 61 11 06 00 05 00 [64] 05 05 00\n",
+        ),
+        (
+            "proof-longer",
+            "3",
+            &refuted,
+            "refused 18 1\n",
+            "refusal 18 1: the proof has no empty clause, or bytes after it; 1 steps were read, \
+             up to offset 9\n  bytes from offset 1: .. 11 00 05 04 06 0e 10 00 [00]\n",
+        ),
+        (
+            "proof-at-the-cost",
+            "4",
+            PROOF_A,
+            "refused 14 1\n",
+            "refusal 14 1: a step is misformed; step 1, which starts at offset 0\n  \
+             bytes from offset 0: [61] 11 00 05 04 06 0e 10 00\n",
+        ),
+        (
+            "proof-empty",
+            "3",
+            "",
+            "refused 18 0\n",
+            "refusal 18 0: the proof has no empty clause, or bytes after it; 0 steps were read, \
+             up to offset 0\n  bytes from offset 0: [end]\n",
+        ),
+    ] {
+        let proof = file(name, &hex(proof));
+        let found = run(&["check", &a, bound, &proof]);
+        assert_eq!((found.printed.as_str(), found.status), (printed, 1));
+        assert_eq!(found.said, format!("timetable check: {name}: {said}"));
+    }
+    let found = run(&["check", &a, "4096", "-"]);
+    assert_eq!(found.printed, "refused 7 4096\n");
+    assert!(found.said.starts_with("timetable check: bound 4096: "));
+}
+
+/// The script that README.md names.
+#[test]
+fn the_five_days_end_with_a_price_that_no_timetable_undercuts() {
+    let script = Path::new(env!("CARGO_MANIFEST_DIR")).join("five-days");
+    let output = Command::new(script)
+        .env("TIMETABLE", env!("CARGO_BIN_EXE_timetable"))
+        .output()
+        .expect("the script runs");
+    let printed = String::from_utf8(output.stdout).expect("text");
+    assert!(output.status.success(), "{printed}");
+    for line in [
+        "    objective 11\n",
+        "    no timetable\n    steps 539\n",
+        "    refused 14 539\n",
+        "costs 11, and every other that keeps the hard constraints costs 11 or more.\n",
+    ] {
+        assert!(printed.contains(line), "{printed}");
+    }
+}
+
+#[test]
 fn every_refusal_is_told_in_words_with_its_numbers() {
     let mut told = Vec::new();
     for number in 1..=18 {
@@ -251,7 +402,7 @@ fn help_names_every_subcommand_and_each_has_its_own() {
     assert_eq!((overview.said.as_str(), overview.status), ("", 0));
     assert_eq!(overview, run(&["-h"]));
     assert_eq!(overview, run(&["help"]));
-    for name in ["read", "sizes", "score", "same"] {
+    for name in ["read", "sizes", "score", "same", "text", "decode", "check"] {
         assert!(overview.printed.contains(&format!("\n  {name} ")));
         let help = run(&[name, "--help"]);
         assert_eq!((help.said.as_str(), help.status), ("", 0));
@@ -294,6 +445,18 @@ fn wrong_usage_is_told_and_prints_nothing() {
         ),
         (vec!["read", &missing], "timetable read: "),
         (vec!["same", &toy, "-", "-"], twice),
+        (
+            vec!["decode", &toy, &toy, "--out"],
+            "timetable decode: the option '--out' wants a file\n",
+        ),
+        (
+            vec!["decode", &toy, &toy, "--out", "-"],
+            "timetable decode: the option '--out' wants a file\n",
+        ),
+        (
+            vec!["text", &toy, "--out", "text"],
+            "timetable text: there is no option '--out'\n",
+        ),
         (
             vec!["sizes", &toy, "-1"],
             "timetable sizes: there is no option '-1'\n",

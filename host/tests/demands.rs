@@ -3,14 +3,12 @@
 
 mod support;
 
-use support::both::{score, sizes};
+use support::both::{check, decode, score, sizes};
 use timetable::generate::{
     damaged_bytes, damaged_numbers, encode, instance, model, model_with_tail, proof, Random, Shape,
 };
 use timetable::prover::{clause_list, encode_steps, forgeries, solve, Step, Verdict};
-use timetable::reference::{
-    check, decode, Infeasibility, Instance, Kind, Literal, Objective, Refusal,
-};
+use timetable::reference::{Infeasibility, Instance, Kind, Literal, Objective, Refusal, Sizes};
 
 /// Shapes with at most 12 variables Y and S.
 fn shapes() -> [Shape; 5] {
@@ -223,7 +221,7 @@ impl Drawn {
 
 #[test]
 fn feasible_timetables_and_models_match_one_to_one() {
-    const SEEDS: u64 = 1_000;
+    const SEEDS: u64 = 400;
     let mut drawn_kinds = Drawn::default();
     let (mut timetables, mut broken, mut costly) = (0, 0, 0);
     for seed in 0..SEEDS {
@@ -304,10 +302,7 @@ fn refute_each_bound(seeds: std::ops::Range<u64>, shapes: &[Shape]) {
             let sizes = sizes(&file, Some(bound)).unwrap();
             let clauses = clause_list(&instance, Some(bound));
             let variables = sizes.variables as usize;
-            let run = |proof: &[u8]| {
-                let (words, rows) = (sizes.words + 1_000_000, sizes.clauses + 1_000_000);
-                check(&file, bound, proof, words, rows, sizes.variables)
-            };
+            let run = |proof: &[u8]| check_amply(&file, bound, proof, sizes);
             match solve(variables, &clauses) {
                 Verdict::Refutation(steps) => {
                     refuted += 1;
@@ -359,6 +354,14 @@ fn refute_each_bound(seeds: std::ops::Range<u64>, shapes: &[Shape]) {
          {satisfied} satisfied"
     );
     assert!(refuted > 100 && satisfied > 100);
+}
+
+/// The answer in stores with room for a clause or a literal at each byte of the
+/// proof beside the formula.
+fn check_amply(file: &[u8], bound: u64, proof: &[u8], sizes: Sizes) -> Result<u64, Refusal> {
+    let more = proof.len() as u64;
+    let (words, rows) = (sizes.words + more, sizes.clauses + more);
+    check(file, bound, proof, words, rows, sizes.variables)
 }
 
 /// One word or row less than the refutation needs is 17 at its last clause
@@ -437,8 +440,7 @@ fn damaged_refutations_are_refused_at_the_least_cost() {
                     false => damaged_bytes(&mut random, &changed),
                 };
             }
-            let (words, rows) = (sizes.words + 1_000_000, sizes.clauses + 1_000_000);
-            let answer = check(&file, cost, &changed, words, rows, sizes.variables);
+            let answer = check_amply(&file, cost, &changed, sizes);
             assert!(answer.is_err(), "seed {seed}, bound {cost}");
             proofs += 1;
         }

@@ -2,12 +2,11 @@
 
 mod support;
 
-use support::both::{read, score, sizes};
+use support::both::{check, decode, read, score, sizes, text_program};
 use support::{first_times, hex, numbers, refused, FILE_A, PROOF_A};
 use timetable::generate::model;
 use timetable::reference::{
-    check, decode, deviation, read_number, text_program, Infeasibility, Instance, Objective, Range,
-    Score,
+    deviation, read_number, Infeasibility, Instance, Objective, Range, Score,
 };
 
 fn scored<E>(infeasibility: u64, objective: u64) -> Result<Score, E> {

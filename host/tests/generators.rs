@@ -4,14 +4,12 @@
 mod support;
 
 use std::collections::BTreeMap;
-use support::both::{read, same_sheet, score, sizes};
+use support::both::{check, decode, read, same_sheet, score, sizes, text, text_program, text_size};
 use timetable::generate::{
     damaged_instance, damaged_numbers, damaged_table, encode, instance, lent, model, number_starts,
     proof, timetable, Random, Shape,
 };
-use timetable::reference::{
-    check, decode, text, text_program, text_size, Infeasibility, Instance, Refusal,
-};
+use timetable::reference::{Infeasibility, Instance, Refusal};
 
 /// How often each refusal was given; 0 stands for acceptance.
 #[derive(Default, Debug)]

@@ -1,18 +1,15 @@
 //! Places where the specification can be read two ways. Each test is named by
 //! what it decides; the codes in brackets are the list's own.
 //!
-//! What the lent stores hold before and after a call [W1, W2] is no part of
-//! the reference, which takes their lengths alone.
+//! What the lent stores hold before and after a call [W1, W2] is compared with
+//! every check: `support::both` lends stores that are not zero.
 
 mod support;
 
-use support::both::{read, same_sheet, score, sizes};
+use support::both::{check, decode, read, same_sheet, score, sizes, text, text_program, text_size};
 use support::{clauses, first_times, hex, numbers, oversized, refused, FILE_A, PROOF_A};
 use timetable::prover::{clause_list, encode_steps, solve, Verdict};
-use timetable::reference::{
-    check, decode, text, text_program, text_size, Infeasibility, Instance, Objective, Refusal,
-    Score, Summary,
-};
+use timetable::reference::{Infeasibility, Instance, Objective, Refusal, Score, Summary};
 
 fn read_of(file: &str) -> Result<Summary, Refusal> {
     read(&hex(file))

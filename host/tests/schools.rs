@@ -2,10 +2,8 @@
 
 mod support;
 
-use support::both::{read, same_sheet, score, sizes};
-use timetable::reference::{
-    check, decode, text, text_size, Infeasibility, Objective, Refusal, Score, Sizes, Summary,
-};
+use support::both::{check, decode, read, same_sheet, score, sizes, text, text_size};
+use timetable::reference::{Infeasibility, Objective, Refusal, Score, Sizes, Summary};
 
 struct School {
     file: &'static [u8],

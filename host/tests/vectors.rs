@@ -2,9 +2,9 @@
 
 mod support;
 
-use support::both::{read, same_sheet, score, sizes};
+use support::both::{check, decode, read, same_sheet, score, sizes, text, text_program, text_size};
 use support::cases::{self, Case};
-use timetable::reference::{check, decode, text, text_program, text_size, Refusal};
+use timetable::reference::Refusal;
 
 #[test]
 fn every_case_has_the_expected_answer() {

@@ -2,6 +2,7 @@
 #include "timetable.h"
 
 #include <stdio.h>
+#include <string.h>
 
 /* One time, one event, an empty group, kind 3 at weight 4. */
 static const uint8_t file[] = {1, 1, 0, 1, 0, 1, 0, 1, 3, 4, 1, 1};
@@ -9,6 +10,17 @@ static const uint8_t file[] = {1, 1, 0, 1, 0, 1, 0, 1, 3, 4, 1, 1};
 /* The event at the time, and the event nowhere. */
 static const uint8_t table[] = {1, 1};
 static const uint8_t no_table[] = {0, 0};
+
+/* The model of the event at the time, and one that falsifies clause 6. */
+static const uint8_t model[] = {1, 1, 1, 1};
+static const uint8_t no_model[] = {1, 1, 1, 0};
+
+/* A refutation at bound 3. */
+static const uint8_t proof[] = {0x61, 0x11, 0, 5, 4, 6, 0x0e, 0x10, 0};
+
+static const char text[] =
+    "p wcnf 4 8 5\n5 1 -2 0\n5 -1 2 0\n5 -1 3 0\n5 1 -3 0\n5 3 0\n"
+    "5 -1 4 0\n5 1 -4 0\n4 -4 0\n";
 
 /* What stands in an output that is left alone. */
 static const uint64_t kept = 77;
@@ -114,6 +126,94 @@ static void same_sheet(void)
     expect("value, same sheet, cut", value, 2);
 }
 
+static void text_sized(void)
+{
+    uint64_t bytes = kept, value = kept;
+    uint32_t number = timetable_text_size(file, sizeof file, &bytes, &value);
+    expect("text size", number, 0);
+    expect("bytes", bytes, sizeof text - 1);
+    expect("value, text size", value, kept);
+    bytes = kept;
+    number = timetable_text_size(file, 0, &bytes, &value);
+    expect("text size, no file", number, 1);
+    expect("value, text size, no file", value, 0);
+    expect("bytes, no file", bytes, kept);
+}
+
+static void written(void)
+{
+    uint8_t out[sizeof text + 1];
+    uint64_t value = kept;
+    uint32_t number;
+    memset(out, 7, sizeof out);
+    number = timetable_text(file, sizeof file, out, sizeof text - 2, &value);
+    expect("text, short", number, 9);
+    expect("value, text, short", value, 0);
+    expect("first byte, short", out[0], 7);
+    number = timetable_text(file, sizeof file, out, sizeof out, &value);
+    expect("text", number, 0);
+    expect("value, text", value, sizeof text - 1);
+    expect("text's bytes", memcmp(out, text, sizeof text - 1) == 0, 1);
+    expect("byte after the text", out[sizeof text - 1], 7);
+    expect("last byte", out[sizeof text], 7);
+}
+
+static void decoded(void)
+{
+    uint64_t objective = kept, value = kept;
+    uint32_t number = timetable_decode(file, sizeof file, model, sizeof model,
+                                       &objective, &value);
+    expect("decode", number, 0);
+    expect("objective, decoded", objective, 4);
+    expect("value, decoded", value, sizeof table);
+    objective = kept;
+    number = timetable_decode(file, sizeof file, no_model, sizeof no_model,
+                              &objective, &value);
+    expect("decode, no model", number, 13);
+    expect("value, no model", value, 6);
+    expect("objective, no model", objective, kept);
+}
+
+/* The stores that the formula at bound 3 needs. */
+static uint32_t words[30];
+static size_t rows[4 * 16];
+static uint8_t marks[8];
+
+static uint32_t check_at(uint64_t bound, uint64_t *value)
+{
+    memset(words, 255, sizeof words);
+    memset(rows, 255, sizeof rows);
+    memset(marks, 255, sizeof marks);
+    return timetable_check(file, sizeof file, bound, proof, sizeof proof, words,
+                           sizeof words / sizeof *words, rows,
+                           sizeof rows / sizeof *rows, marks, sizeof marks, value);
+}
+
+static void stores_are_zero(void)
+{
+    size_t i;
+    for (i = 0; i < sizeof words / sizeof *words; i++)
+        expect("word", words[i], 0);
+    for (i = 0; i < sizeof rows / sizeof *rows; i++)
+        expect("number of a row", rows[i], 0);
+    for (i = 0; i < sizeof marks; i++)
+        expect("mark", marks[i], 0);
+}
+
+static void checked(void)
+{
+    uint64_t value = kept;
+    expect("check", check_at(3, &value), 0);
+    expect("value, check", value, 1);
+    stores_are_zero();
+    expect("check at the cost", check_at(4, &value), 9);
+    expect("value, check at the cost", value, 0);
+    stores_are_zero();
+    expect("check below", check_at(2, &value), 15);
+    expect("value, check below", value, 1);
+    stores_are_zero();
+}
+
 int main(void)
 {
     read_accepted();
@@ -123,6 +223,10 @@ int main(void)
     scored();
     score_refused();
     same_sheet();
+    text_sized();
+    written();
+    decoded();
+    checked();
     if (failures == 0)
         puts("ok");
     return failures != 0;

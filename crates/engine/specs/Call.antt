@@ -13,3 +13,8 @@ pub record Call (B : Type 0) : Type 0 where
 abbrev pub called : {A B : Type 0} → Answer A → (A → ℕ × B) → B → Call B
 called (answered a) written before = record { number = 0; value = written a .0; outputs = written a .1 }
 called (refusal k v) written before = record { number = k; value = v; outputs = before }
+
+-- an answer's number in *value, and the same outputs whether it is accepted or refused
+abbrev pub leaving : {B : Type 0} → Answer ℕ → B → Call B
+leaving (answered n) outputs = record { number = 0; value = n; outputs = outputs }
+leaving (refusal k v) outputs = record { number = k; value = v; outputs = outputs }

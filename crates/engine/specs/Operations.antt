@@ -1,12 +1,14 @@
 -- What each call leaves behind, from its inputs and what stood in its outputs before.
 use mathlib.Core.Bool.{Bool, cond}
-use mathlib.Core.List.{List}
+use mathlib.Core.List.{List, _++_}
 use Prim.Native.Nat.{ℕ}
-use Rattle.scope.specs.Operations.{readOf, scoreOf, sameSheetOf, sizesOf}
+use lib.ListN.{length, drop, replicate}
+use Rattle.scope.specs.Operations.{readOf, scoreOf, sameSheetOf, sizesOf, textSizeOf, textOf, decodeOf, Lent, checkOf}
 use Rattle.scope.specs.declared.InstanceSize.{InstanceSize}
 use Rattle.scope.specs.declared.FormulaSize.{FormulaSize}
 use Rattle.scope.specs.declared.Infeasibility.{Infeasibility}
 use Rattle.scope.specs.declared.Objective.{Objective}
+use Rattle.store.specs.Directory.{capacity}
 use Rattle.engine.specs.Call.{Call, called}
 
 -- times, events, resources, groups and constraints
@@ -45,3 +47,35 @@ scoreCall file table value amounts = called (scoreOf file table) (λ a. (value, 
 -- the same sheet: *value is 1 if they are, and 0 if not
 abbrev pub sameSheetCall : List ℕ → List ℕ → List ℕ → Call Unit
 sameSheetCall file first second = called (sameSheetOf file first second) (λ same. (cond same 1 0, tt)) tt
+
+-- the text's size: it is written, *value is kept
+abbrev pub textSizeCall : List ℕ → ℕ → ℕ → Call ℕ
+textSizeCall file value bytes = called (textSizeOf file) (λ n. (value, n)) bytes
+
+-- the text: *value is its length, and it stands at the front of the output, whose other bytes are kept
+abbrev pub textCall : List ℕ → List ℕ → Call (List ℕ)
+textCall file out = called (textOf file (length out)) (λ t. (length t, t ++ drop (length t) out)) out
+
+-- decoding: *value is the length of the part, the cost is written
+abbrev pub decodedOf : List ℕ × Objective → ℕ × ℕ
+decodedOf d = (length (d .0), d .1 .0)
+
+abbrev pub decodeCall : List ℕ → List ℕ → ℕ → Call ℕ
+decodeCall file model objective = called (decodeOf file model) decodedOf objective
+
+-- words, rows and marks
+abbrev pub Stores : Type 0
+Stores = List ℕ × List ℕ × List ℕ
+
+abbrev pub lentBy : Stores → Lent
+lentBy s = record { words = length (s .0); rows = capacity (s .1); bytes = length (s .2) }
+
+abbrev pub zeros : List ℕ → List ℕ
+zeros xs = replicate (length xs) 0
+
+abbrev pub zeroed : Stores → Stores
+zeroed s = (zeros (s .0), zeros (s .1), zeros (s .2))
+
+-- checking a bound proof: *value is the number of steps; the stores are zero, accepted or refused
+abbrev pub checkCall : List ℕ → ℕ → List ℕ → Stores → Call Stores
+checkCall file bound proof s = called (checkOf file bound proof (lentBy s)) (λ steps. (steps, zeroed s)) (zeroed s)

@@ -4,17 +4,25 @@
 // equation: what the call leaves (the number returned, *value and every other output) is what specs/Operations.antt says of
 // the operation's answer by the definitions. An input is lent as `&`, so it keeps every byte. None asks anything of its caller
 // but good pointers. specs/Numbers.antt shows that 0 is returned for an accepted call alone.
+use checker::check;
 use instance::read_instance;
+use model::decode;
+use scope::CheckAnswer;
 use scope::ReadAnswer;
 use scope::Refusal;
 use scope::ScoreAnswer;
 use scope::SheetAnswer;
 use scope::SizesAnswer;
+use scope::TextAnswer;
 use sheet::same_sheet;
 use sheet::score;
 use sizes::sizes;
+use text::text;
+use text::text_size;
 ghost use mathlib.Core.Path.{_≡_};
-ghost use Rattle.engine.specs.Operations.{readCall, sameSheetCall, scoreCall, sizesCall};
+ghost use lib.ListN.{length};
+ghost use Rattle.store.specs.Directory.{capacity};
+ghost use Rattle.engine.specs.Operations.{checkCall, decodeCall, readCall, sameSheetCall, scoreCall, sizesCall, textCall, textSizeCall};
 
 // A refusal: its value goes to *value, its number is returned.
 fn refuse(f: Refusal, value: &mut u64) -> u32
@@ -116,6 +124,82 @@ pub extern "C" fn timetable_same_sheet(
         }
         SheetAnswer::Different => {
             *value = 0;
+            0
+        }
+    }
+}
+
+// The length of the clauses as text, or 1 to 6, 8.
+#[no_mangle]
+pub extern "C" fn timetable_text_size(file: &[u8], bytes: &mut u64, value: &mut u64) -> u32
+    ensures { λ r. ⌜ record { number = r; value = now (value .exit); outputs = now (bytes .exit) } ≡ textSizeCall (now (file .entry)) (now (value .entry)) (now (bytes .entry)) ⌝ }
+{
+    let answer = text_size(file);
+    match answer {
+        TextAnswer::Refused(f) => refuse(f, value),
+        TextAnswer::Bytes(n) => {
+            *bytes = n;
+            0
+        }
+    }
+}
+
+// The clauses as text at the front of out, their length in *value; or 1 to 6, 8, 9.
+#[no_mangle]
+pub extern "C" fn timetable_text(file: &[u8], out: &mut [u8], value: &mut u64) -> u32
+    ensures { λ r. ⌜ record { number = r; value = now (value .exit); outputs = now (out .exit) } ≡ textCall (now (file .entry)) (now (out .entry)) ⌝ }
+{
+    let answer = text(file, out);
+    match answer {
+        TextAnswer::Refused(f) => refuse(f, value),
+        TextAnswer::Bytes(length) => {
+            *value = length;
+            0
+        }
+    }
+}
+
+// How many bytes of a model, from its first, are the timetable, in *value, and its cost; or 1 to 6, 8, 10, 11, 13.
+#[no_mangle]
+pub extern "C" fn timetable_decode(
+    file: &[u8],
+    model: &[u8],
+    objective: &mut u64,
+    value: &mut u64,
+) -> u32
+    ensures { λ r. ⌜ record { number = r; value = now (value .exit); outputs = now (objective .exit) } ≡ decodeCall (now (file .entry)) (now (model .entry)) (now (objective .entry)) ⌝ }
+{
+    let mut number: u8 = 0;
+    let mut given: u64 = 0;
+    let part = decode(file, model, &mut number, &mut given);
+    if number == 0 {
+        *objective = given;
+        *value = part.len() as u64;
+        return 0;
+    }
+    *value = given;
+    number as u32
+}
+
+// "No timetable", with the number of steps in *value; or 1 to 9, 14 to 18. The stores are zero afterwards. A row is four
+// numbers: id, first word, length, live.
+#[no_mangle]
+pub extern "C" fn timetable_check(
+    file: &[u8],
+    bound: u64,
+    proof: &[u8],
+    words: &mut [u32],
+    rows: &mut [usize],
+    marks: &mut [u8],
+    value: &mut u64,
+) -> u32
+    ensures { λ r. ⌜ record { number = r; value = now (value .exit); outputs = (now (words .exit), now (rows .exit), now (marks .exit)) } ≡ checkCall (now (file .entry)) bound (now (proof .entry)) (now (words .entry), now (rows .entry), now (marks .entry)) ⌝ }
+{
+    let answer = check(file, bound, proof, words, rows, marks);
+    match answer {
+        CheckAnswer::Refused(f) => refuse(f, value),
+        CheckAnswer::NoTimetable(steps) => {
+            *value = steps;
             0
         }
     }

@@ -6,12 +6,17 @@
 
 use std::hint::black_box;
 use std::time::{Duration, Instant};
-use timetable::generate::{encode, school, timetable, Random};
-use timetable::{engine, reference};
+use timetable::engine::{self, call, Store};
+use timetable::generate::{encode, model, school, timetable, Random};
+use timetable::prover::{clause_list, encode_steps, Step};
+use timetable::reference::{self, Instance, Refusal};
 
 /// Lessons of the schools.
 const LESSONS: [usize; 5] = [50, 100, 200, 400, 1_000];
-/// The bound of sizes.
+/// The most lessons for operations that walk over the clauses, and for checks.
+const MOST_WRITTEN: usize = 200;
+const MOST_CHECKED: usize = 100;
+/// The bound of sizes and checks.
 const BOUND: u64 = 10;
 /// Rounds of a comparison, and how long one side's turn is.
 const ROUNDS: usize = 7;
@@ -19,6 +24,7 @@ const TURN: Duration = Duration::from_millis(40);
 
 struct School {
     lessons: usize,
+    instance: Instance,
     file: Vec<u8>,
     table: Vec<u8>,
 }
@@ -31,6 +37,7 @@ fn main() {
             lessons,
             file: encode(&instance),
             table: timetable(&mut random, &instance),
+            instance,
         }
     });
     println!("| operation | lessons | bytes of input | engine | reference | engine / reference |");
@@ -53,6 +60,7 @@ fn main() {
         lessons,
         file,
         table,
+        ..
     } in &schools
     {
         row(
@@ -65,6 +73,7 @@ fn main() {
         lessons,
         file,
         table,
+        ..
     } in &schools
     {
         row(
@@ -73,15 +82,113 @@ fn main() {
             || reference::same_sheet(file, table, table).is_ok(),
         );
     }
+    formulas(&schools);
+    checks(&schools);
 }
 
-/// Prints the times of an operation on one input, which both must accept.
+/// The operations that walk over the clauses.
+fn formulas(schools: &[School]) {
+    let written = |school: &&School| school.lessons <= MOST_WRITTEN;
+    for School { lessons, file, .. } in schools.iter().filter(written) {
+        row(
+            ("text_size", *lessons, file.len()),
+            || engine::text_size(file).is_ok(),
+            || reference::text_size(file).is_ok(),
+        );
+    }
+    for School { lessons, file, .. } in schools.iter().filter(written) {
+        let length = engine::text_size(file).expect("an accepted file") as usize;
+        let (mut out, mut same) = (vec![0; length], vec![0; length]);
+        let mut value = 0;
+        row(
+            ("text", *lessons, file.len()),
+            || call::text(file, &mut out, &mut value) == 0,
+            || reference::text(file, &mut same).is_ok(),
+        );
+    }
+    for School {
+        lessons,
+        instance,
+        table,
+        ..
+    } in schools.iter().filter(written)
+    {
+        // Without hard constraints every timetable has a model.
+        let mut soft = instance.clone();
+        for constraint in &mut soft.constraints {
+            constraint.weight = constraint.weight.max(1);
+        }
+        let (file, model) = (encode(&soft), model(&soft, table));
+        row(
+            ("decode", *lessons, file.len() + model.len()),
+            || engine::decode(&file, &model).is_ok(),
+            || reference::decode(&file, &model).is_ok(),
+        );
+    }
+}
+
+/// Refutations of the schools in host/schools, then proofs that add a copy of
+/// each clause of a larger school and end without the empty clause.
+fn checks(schools: &[School]) {
+    let toy = include_bytes!("../../schools/toy.instance");
+    check(6, toy, 3, include_bytes!("../../schools/toy.proof"));
+    let small = include_bytes!("../../schools/small.instance");
+    check(21, small, 10, include_bytes!("../../schools/small.proof"));
+    for School {
+        lessons,
+        instance,
+        file,
+        ..
+    } in schools
+        .iter()
+        .filter(|school| school.lessons <= MOST_CHECKED)
+    {
+        let clauses = clause_list(instance, Some(BOUND));
+        let copies = clauses
+            .iter()
+            .enumerate()
+            .map(|(index, literals)| Step::Add {
+                id: (clauses.len() + index + 1) as u32,
+                literals: literals.clone(),
+                hints: vec![index as u32 + 1],
+            });
+        let proof = encode_steps(&copies.collect::<Vec<_>>());
+        check(*lessons, file, BOUND, &proof);
+    }
+}
+
+/// A check in stores that stay allocated.
+fn check(lessons: usize, file: &[u8], bound: u64, proof: &[u8]) {
+    let size = engine::sizes(file, bound).expect("an accepted file");
+    let mut store = Store::for_proof(size, proof);
+    let [words, rows] = [store.words.len(), store.rows.len()].map(|length| length as u64);
+    let answered = |answer: Result<u64, Refusal>| match answer {
+        Ok(_) => true,
+        Err(refusal) => refusal.number == 18,
+    };
+    row(
+        ("check", lessons, file.len() + proof.len()),
+        || answered(store.check(file, bound, proof)),
+        || {
+            answered(reference::check(
+                file,
+                bound,
+                proof,
+                words,
+                rows,
+                size.variables,
+            ))
+        },
+    );
+}
+
+/// Prints the times of an operation on one input, on which both must answer true.
 fn row(
     (operation, lessons, bytes): (&str, usize, usize),
     mut engine: impl FnMut() -> bool,
     mut reference: impl FnMut() -> bool,
 ) {
-    assert!(engine() && reference(), "{operation} is accepted");
+    assert!(engine() && reference(), "{operation} is answered");
     let mut best = [f64::INFINITY; 2];
     for _ in 0..ROUNDS {
         best[0] = best[0].min(microseconds(&mut engine));

@@ -5,11 +5,13 @@
 
 mod operands;
 pub mod refusals;
+mod steps;
 mod subcommands;
 
 use crate::reference::Refusal;
 use operands::{Operands, Role};
 use std::ffi::OsString;
+use std::fs;
 use std::io::Write;
 use std::ops::RangeInclusive;
 use subcommands::{Refused, SUBCOMMANDS};
@@ -29,8 +31,25 @@ struct Subcommand {
     about: &'static str,
     /// What it prints if it is accepted.
     prints: &'static str,
+    /// What it writes to the file of the option `--out` if it is accepted.
+    writes: Option<&'static str>,
     refusals: &'static [RangeInclusive<u32>],
-    run: fn(&Operands) -> Result<Vec<u8>, Refused>,
+    run: fn(&Operands) -> Result<Answer, Refused>,
+}
+
+/// An accepted call.
+#[derive(Default)]
+struct Answer {
+    printed: Vec<u8>,
+    written: Vec<u8>,
+}
+
+/// The words after a subcommand's name.
+#[derive(Default)]
+struct Words {
+    operands: Vec<OsString>,
+    /// The file of the option `--out`.
+    out: Option<OsString>,
 }
 
 /// Runs the command on the words after its name, and gives the exit status.
@@ -70,19 +89,26 @@ fn answer(words: Vec<OsString>) -> Result<Vec<u8>, Fault> {
     let Some(subcommand) = SUBCOMMANDS.iter().find(|known| known.name == name) else {
         return Err(misused(&format!("there is no subcommand '{name}'")));
     };
-    let Some(given) = subcommand.operand_words(words)? else {
+    let Some(given) = subcommand.words(words)? else {
         return Ok(subcommand.help().into_bytes());
     };
-    let operands = Operands::read(subcommand.operands, given)
+    let operands = Operands::read(subcommand.operands, given.operands)
         .map_err(|message| subcommand.misused(&message))?;
-    (subcommand.run)(&operands).map_err(|refused| {
+    let answer = (subcommand.run)(&operands).map_err(|refused| {
         let message = refused.message(&operands);
         let Refusal { number, value } = refused.refusal;
         Fault::Refused(
             format!("refused {number} {value}\n"),
             format!("timetable {name}: {message}\n"),
         )
-    })
+    })?;
+    if let Some(out) = given.out {
+        fs::write(&out, answer.written).map_err(|error| {
+            let file = out.to_string_lossy();
+            Fault::Usage(format!("timetable {name}: {file}: {error}\n"))
+        })?;
+    }
+    Ok(answer.printed)
 }
 
 fn misused(message: &str) -> Fault {
@@ -94,7 +120,7 @@ fn overview() -> String {
     let mut help = String::from("Usage: timetable SUBCOMMAND OPERAND...\n\n");
     for subcommand in SUBCOMMANDS {
         let call = subcommand.call();
-        help += &format!("  {call:<36}  {}\n", subcommand.about);
+        help += &format!("  {call:<34}  {}\n", subcommand.about);
     }
     help += "\nA file named - is standard input. 'timetable SUBCOMMAND --help' says more of one.\n";
     help += STREAMS;
@@ -109,24 +135,30 @@ Exit status: 0 accepted; 1 refused; 2 wrong usage, or a file that cannot be read
 impl Subcommand {
     fn call(&self) -> String {
         let names = self.operands.iter().map(|role| format!(" {}", role.name()));
-        format!("{}{}", self.name, names.collect::<String>())
+        let option = self.writes.map_or("", |_| " [--out FILE]");
+        format!("{}{}{option}", self.name, names.collect::<String>())
     }
 
-    /// The words that are operands, or none where help is asked for.
-    fn operand_words(
-        &self,
-        words: impl Iterator<Item = OsString>,
-    ) -> Result<Option<Vec<OsString>>, Fault> {
-        let mut given = Vec::new();
+    /// The words sorted, or none where help is asked for.
+    fn words(&self, words: impl Iterator<Item = OsString>) -> Result<Option<Words>, Fault> {
+        let mut given = Words::default();
+        let mut words = words.peekable();
         let mut options_end = false;
-        for word in words {
+        while let Some(word) = words.next() {
             match word.to_str() {
-                Some("--help" | "-h") if !options_end => return Ok(None),
-                Some("--") if !options_end => options_end = true,
-                Some(option) if !options_end && option.len() > 1 && option.starts_with('-') => {
+                _ if options_end => given.operands.push(word),
+                Some("--help" | "-h") => return Ok(None),
+                Some("--") => options_end = true,
+                Some("--out") if self.writes.is_some() => {
+                    given.out = words.next_if(|file| file != "-");
+                    if given.out.is_none() {
+                        return Err(self.misused("the option '--out' wants a file"));
+                    }
+                }
+                Some(option) if option.len() > 1 && option.starts_with('-') => {
                     return Err(self.misused(&format!("there is no option '{option}'")));
                 }
-                _ => given.push(word),
+                _ => given.operands.push(word),
             }
         }
         Ok(Some(given))
@@ -145,6 +177,9 @@ impl Subcommand {
         help += &format!("{}.\n\n", sentence(self.about));
         for role in self.operands {
             help += &format!("  {:<11} {}\n", role.name(), role.about());
+        }
+        if let Some(written) = self.writes {
+            help += &format!("  {:<11} where to write {written}\n", "--out FILE");
         }
         help += &format!("\nIf accepted it prints {}.\n", self.prints);
         help += "If refused it prints 'refused NUMBER VALUE'. The numbers:\n\n";

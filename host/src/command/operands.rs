@@ -14,6 +14,8 @@ pub enum Role {
     /// Of two timetables.
     First,
     Second,
+    Model,
+    Proof,
 }
 
 impl Role {
@@ -24,6 +26,8 @@ impl Role {
             Role::Timetable => "TIMETABLE",
             Role::First => "FIRST",
             Role::Second => "SECOND",
+            Role::Model => "MODEL",
+            Role::Proof => "PROOF",
         }
     }
 
@@ -34,6 +38,8 @@ impl Role {
             Role::Timetable => "a timetable's bytes",
             Role::First => "the first timetable's bytes",
             Role::Second => "the second timetable's bytes",
+            Role::Model => "a model: a byte, 0 or 1, for each variable",
+            Role::Proof => "a bound proof's bytes",
         }
     }
 }

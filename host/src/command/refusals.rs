@@ -1,5 +1,6 @@
 //! Refusals in words.
 
+use super::steps;
 use crate::reference::Refusal;
 
 /// When each refusal is given, from 1, and what its value is: `{}` stands for
@@ -70,6 +71,17 @@ pub fn message(refusal: Refusal, bytes: &[u8]) -> String {
     }
     if gives.contains("offset") {
         message += &format!("\n  {}", excerpt(bytes, value));
+    }
+    // Where the step that was refused starts, or where the steps that were read end.
+    let in_proof = match number {
+        14..=17 => Some(("which starts at", value)),
+        18 => Some(("up to", value + 1)),
+        _ => None,
+    };
+    if let Some((before, step)) = in_proof {
+        if let Some(at) = steps::start_of(bytes, step) {
+            message += &format!(", {before} offset {at}\n  {}", excerpt(bytes, at as u64));
+        }
     }
     message
 }

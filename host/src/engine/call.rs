@@ -88,6 +88,84 @@ pub fn same_sheet(file: &[u8], first: &[u8], second: &[u8], value: &mut u64) -> 
     }
 }
 
+/// 0 with the text's length in `bytes`, or 1 to 6, 8 with `value` written.
+pub fn text_size(file: &[u8], bytes: &mut u64, value: &mut u64) -> u32 {
+    // SAFETY: see the head of this file.
+    unsafe { c::timetable_text_size(file.as_ptr(), file.len(), bytes, value) }
+}
+
+/// 0 with the text at the front of `out` and its length in `value`, or 1 to 6,
+/// 8, 9 with `value` written.
+pub fn text(file: &[u8], out: &mut [u8], value: &mut u64) -> u32 {
+    // SAFETY: see the head of this file.
+    unsafe {
+        c::timetable_text(
+            file.as_ptr(),
+            file.len(),
+            out.as_mut_ptr(),
+            out.len(),
+            value,
+        )
+    }
+}
+
+/// 0 with the cost in `objective` and in `value` how many bytes of the model,
+/// from its first, are the timetable; or 1 to 6, 8, 10, 11, 13 with `value`
+/// written.
+pub fn decode(file: &[u8], model: &[u8], objective: &mut u64, value: &mut u64) -> u32 {
+    // SAFETY: see the head of this file.
+    unsafe {
+        c::timetable_decode(
+            file.as_ptr(),
+            file.len(),
+            model.as_ptr(),
+            model.len(),
+            objective,
+            value,
+        )
+    }
+}
+
+/// A row of the directory of clauses: four numbers in C.
+#[repr(C)]
+#[derive(Clone, Copy, Debug, Default, PartialEq, Eq)]
+pub struct Row {
+    pub id: usize,
+    pub first: usize,
+    pub length: usize,
+    pub live: usize,
+}
+
+/// 0 with the number of steps in `value`, which is the answer "no timetable",
+/// or 1 to 9, 14 to 18 with `value` written. The stores are zero after it.
+pub fn check(
+    file: &[u8],
+    bound: u64,
+    proof: &[u8],
+    words: &mut [u32],
+    rows: &mut [Row],
+    marks: &mut [u8],
+    value: &mut u64,
+) -> u32 {
+    // SAFETY: see the head of this file; a `Row` is laid out as four numbers.
+    unsafe {
+        c::timetable_check(
+            file.as_ptr(),
+            file.len(),
+            bound,
+            proof.as_ptr(),
+            proof.len(),
+            words.as_mut_ptr(),
+            words.len(),
+            rows.as_mut_ptr().cast(),
+            4 * rows.len(),
+            marks.as_mut_ptr(),
+            marks.len(),
+            value,
+        )
+    }
+}
+
 /// The declarations of `include/timetable.h`.
 mod c {
     extern "C" {
@@ -129,6 +207,45 @@ mod c {
             first_length: usize,
             second: *const u8,
             second_length: usize,
+            value: *mut u64,
+        ) -> u32;
+
+        pub fn timetable_text_size(
+            file: *const u8,
+            file_length: usize,
+            bytes: *mut u64,
+            value: *mut u64,
+        ) -> u32;
+
+        pub fn timetable_text(
+            file: *const u8,
+            file_length: usize,
+            out: *mut u8,
+            out_length: usize,
+            value: *mut u64,
+        ) -> u32;
+
+        pub fn timetable_decode(
+            file: *const u8,
+            file_length: usize,
+            model: *const u8,
+            model_length: usize,
+            objective: *mut u64,
+            value: *mut u64,
+        ) -> u32;
+
+        pub fn timetable_check(
+            file: *const u8,
+            file_length: usize,
+            bound: u64,
+            proof: *const u8,
+            proof_length: usize,
+            words: *mut u32,
+            words_length: usize,
+            rows: *mut usize,
+            rows_length: usize,
+            marks: *mut u8,
+            marks_length: usize,
             value: *mut u64,
         ) -> u32;
     }

@@ -5,6 +5,9 @@
 //! the C functions themselves, for callers that lend their own buffers.
 
 pub mod call;
+mod store;
+
+pub use store::Store;
 
 use crate::reference::{FormulaSize, Infeasibility, Objective, Refusal, Score, Summary};
 use call::{Amounts, Counts};
@@ -51,6 +54,41 @@ pub fn same_sheet(file: &[u8], first: &[u8], second: &[u8]) -> Result<bool, Refu
     let number = call::same_sheet(file, first, second, &mut value);
     accepted(number, value)?;
     Ok(value == 1)
+}
+
+/// The length of the text for solvers, or 1 to 6, 8.
+pub fn text_size(file: &[u8]) -> Result<u64, Refusal> {
+    let mut bytes = 0;
+    let mut value = 0;
+    let number = call::text_size(file, &mut bytes, &mut value);
+    accepted(number, value)?;
+    Ok(bytes)
+}
+
+/// The text for solvers, or 1 to 6, 8.
+pub fn text(file: &[u8]) -> Result<Vec<u8>, Refusal> {
+    let mut out = vec![0; text_size(file)? as usize];
+    let mut value = 0;
+    let number = call::text(file, &mut out, &mut value);
+    accepted(number, value)?;
+    Ok(out)
+}
+
+/// The part of `model` that holds the timetable, with its cost; or 1 to 6, 8,
+/// 10, 11, 13.
+pub fn decode<'a>(file: &[u8], model: &'a [u8]) -> Result<(&'a [u8], Objective), Refusal> {
+    let mut objective = 0;
+    let mut value = 0;
+    let number = call::decode(file, model, &mut objective, &mut value);
+    accepted(number, value)?;
+    Ok((&model[..value as usize], Objective(objective)))
+}
+
+/// Checks that no timetable that keeps the hard constraints costs `bound` or
+/// less. Gives the number of steps, or 1 to 8, 14 to 16, 18.
+pub fn check(file: &[u8], bound: u64, proof: &[u8]) -> Result<u64, Refusal> {
+    let mut store = Store::for_proof(sizes(file, bound)?, proof);
+    store.check(file, bound, proof)
 }
 
 /// What a call answered: 0, or a refusal's number with the value it gives.

@@ -1,11 +1,12 @@
 //! Each operation, answered by the engine and by the reference: they must agree,
 //! and the engine must leave every byte of every buffer as it should be. What is
-//! lent stands between other bytes, and outputs hold something before the call.
+//! lent stands between other values, and outputs and stores hold something
+//! before the call.
 //!
 //! The answer is the one that both gave. Without the feature `engine` the
 //! reference answers alone.
 
-use timetable::reference::{self, Refusal, Score, Sizes, Summary};
+use timetable::reference::{self, Objective, Refusal, Score, Sizes, Summary};
 
 pub fn read(file: &[u8]) -> Result<Summary, Refusal> {
     let expected = reference::read(file);
@@ -38,18 +39,71 @@ pub fn same_sheet(file: &[u8], first: &[u8], second: &[u8]) -> Result<bool, Refu
     expected
 }
 
-/// The engine's calls. Each compares the number, the value and the outputs
-/// with the answer expected.
+pub fn text_size(file: &[u8]) -> Result<u64, Refusal> {
+    let expected = reference::text_size(file);
+    #[cfg(feature = "engine")]
+    engine::text_size(file, expected);
+    expected
+}
+
+pub fn text(file: &[u8], out: &mut [u8]) -> Result<usize, Refusal> {
+    #[cfg(feature = "engine")]
+    let before = out.to_vec();
+    let expected = reference::text(file, out);
+    #[cfg(feature = "engine")]
+    engine::text(file, &before, out, expected);
+    expected
+}
+
+/// The text program, which is the text in 65,536 bytes.
+pub fn text_program(input: &[u8]) -> Vec<u8> {
+    let printed = reference::text_program(input);
+    let most = reference::TEXT_PROGRAM_BYTES;
+    if input.len() <= most {
+        let mut out = vec![0; most];
+        match text(input, &mut out) {
+            Ok(length) => assert_eq!(printed, out[..length]),
+            Err(Refusal { number, value }) => {
+                assert_eq!(printed, format!("{number} {value}\n").as_bytes());
+            }
+        }
+    }
+    printed
+}
+
+pub fn decode<'a>(file: &[u8], model: &'a [u8]) -> Result<(&'a [u8], Objective), Refusal> {
+    let expected = reference::decode(file, model);
+    #[cfg(feature = "engine")]
+    engine::decode(file, model, expected);
+    expected
+}
+
+pub fn check(
+    file: &[u8],
+    bound: u64,
+    proof: &[u8],
+    words: u64,
+    rows: u64,
+    bytes: u64,
+) -> Result<u64, Refusal> {
+    let expected = reference::check(file, bound, proof, words, rows, bytes);
+    #[cfg(feature = "engine")]
+    engine::check(file, bound, proof, [words, rows, bytes], expected);
+    expected
+}
+
+/// The engine's calls. Each compares the number, the value, the outputs and the
+/// stores with what is expected.
 #[cfg(feature = "engine")]
 mod engine {
     use std::hint::black_box;
-    use timetable::engine::call::{self, Amounts, Counts};
+    use timetable::engine::call::{self, Amounts, Counts, Row};
     use timetable::generate::Random;
-    use timetable::reference::{FormulaSize, Refusal, Score, Sizes, Summary};
+    use timetable::reference::{FormulaSize, Objective, Refusal, Score, Sizes, Summary};
 
     pub fn read(file: &[u8], expected: Result<Summary, Refusal>) {
         let mut random = dirt(&[file]);
-        let file = Lent::new(&mut random, file);
+        let lent = Lent::new(&mut random, file);
         let mut draw = || random.draw();
         let before = Counts {
             times: draw(),
@@ -59,49 +113,47 @@ mod engine {
             constraints: draw(),
         };
         let mut counts = before;
-        let call = |value: &mut u64| call::read(file.part(), &mut counts, value);
+        let call = |value: &mut u64| call::read(lent.part(), &mut counts, value);
         let value = Value::after(&mut random, call, expected);
-        let counts_after = match expected {
-            Ok(found) => Counts {
-                times: found.times as u64,
-                events: found.events as u64,
-                resources: found.resources as u64,
-                groups: found.groups as u64,
-                constraints: found.constraints as u64,
-            },
-            Err(_) => before,
-        };
+        let counts_after = expected.map_or(before, |found| Counts {
+            times: found.times as u64,
+            events: found.events as u64,
+            resources: found.resources as u64,
+            groups: found.groups as u64,
+            constraints: found.constraints as u64,
+        });
         assert_eq!(black_box(counts), counts_after);
         value.assert_kept();
-        file.assert_unchanged();
+        lent.assert_holds(file);
     }
 
     pub fn sizes(file: &[u8], bound: u64, expected: Result<Sizes, Refusal>) {
         let mut random = dirt(&[file]);
-        let file = Lent::new(&mut random, file);
+        let lent = Lent::new(&mut random, file);
         let before = FormulaSize {
             variables: random.draw(),
             clauses: random.draw(),
             words: random.draw(),
         };
         let mut sizes = before;
-        let call = |value: &mut u64| call::sizes(file.part(), bound, &mut sizes, value);
+        let call = |value: &mut u64| call::sizes(lent.part(), bound, &mut sizes, value);
         let value = Value::after(&mut random, call, expected);
         let sizes_after = expected.map_or(before, |found| found.formula());
         assert_eq!(black_box(sizes), sizes_after);
         value.assert_kept();
-        file.assert_unchanged();
+        lent.assert_holds(file);
     }
 
     pub fn score(file: &[u8], table: &[u8], expected: Result<Score, Refusal>) {
         let mut random = dirt(&[file, table]);
-        let [file, table] = [file, table].map(|part| Lent::new(&mut random, part));
+        let lent = [file, table].map(|part| Lent::new(&mut random, part));
         let before = Amounts {
             infeasibility: random.draw(),
             objective: random.draw(),
         };
         let mut amounts = before;
-        let call = |value: &mut u64| call::score(file.part(), table.part(), &mut amounts, value);
+        let call =
+            |value: &mut u64| call::score(lent[0].part(), lent[1].part(), &mut amounts, value);
         let value = Value::after(&mut random, call, expected);
         let amounts_after = expected.map_or(before, |score| Amounts {
             infeasibility: score.infeasibility.0,
@@ -109,18 +161,95 @@ mod engine {
         });
         assert_eq!(black_box(amounts), amounts_after);
         value.assert_kept();
-        file.assert_unchanged();
-        table.assert_unchanged();
+        lent[0].assert_holds(file);
+        lent[1].assert_holds(table);
     }
 
     pub fn same_sheet(file: &[u8], first: &[u8], second: &[u8], expected: Result<bool, Refusal>) {
         let mut random = dirt(&[file, first, second]);
         let lent = [file, first, second].map(|part| Lent::new(&mut random, part));
-        let [file, first, second] = lent.each_ref().map(Lent::part);
-        let call = |value: &mut u64| call::same_sheet(file, first, second, value);
+        let call = |value: &mut u64| {
+            call::same_sheet(lent[0].part(), lent[1].part(), lent[2].part(), value)
+        };
         let value = Value::after(&mut random, call, expected);
         value.assert_is(expected.map(u64::from));
-        lent.iter().for_each(Lent::assert_unchanged);
+        lent[0].assert_holds(file);
+        lent[1].assert_holds(first);
+        lent[2].assert_holds(second);
+    }
+
+    pub fn text_size(file: &[u8], expected: Result<u64, Refusal>) {
+        let mut random = dirt(&[file]);
+        let lent = Lent::new(&mut random, file);
+        let before = random.draw();
+        let mut bytes = before;
+        let call = |value: &mut u64| call::text_size(lent.part(), &mut bytes, value);
+        let value = Value::after(&mut random, call, expected);
+        assert_eq!(black_box(bytes), expected.unwrap_or(before));
+        value.assert_kept();
+        lent.assert_holds(file);
+    }
+
+    /// The output holds `before`, and then `after`.
+    pub fn text(file: &[u8], before: &[u8], after: &[u8], expected: Result<usize, Refusal>) {
+        let mut random = dirt(&[file]);
+        let lent = Lent::new(&mut random, file);
+        let mut out = Lent::new(&mut random, before);
+        let call = |value: &mut u64| call::text(lent.part(), out.part_mut(), value);
+        let value = Value::after(&mut random, call, expected);
+        value.assert_is(expected.map(|length| length as u64));
+        out.assert_holds(after);
+        lent.assert_holds(file);
+    }
+
+    pub fn decode(file: &[u8], model: &[u8], expected: Result<(&[u8], Objective), Refusal>) {
+        let mut random = dirt(&[file, model]);
+        let lent = [file, model].map(|part| Lent::new(&mut random, part));
+        let before = random.draw();
+        let mut objective = before;
+        let call =
+            |value: &mut u64| call::decode(lent[0].part(), lent[1].part(), &mut objective, value);
+        let value = Value::after(&mut random, call, expected);
+        assert_eq!(
+            black_box(objective),
+            expected.map_or(before, |(_, cost)| cost.0)
+        );
+        value.assert_is(expected.map(|(part, _)| part.len() as u64));
+        lent[0].assert_holds(file);
+        lent[1].assert_holds(model);
+    }
+
+    /// The stores have these lengths.
+    pub fn check(
+        file: &[u8],
+        bound: u64,
+        proof: &[u8],
+        [words, rows, bytes]: [u64; 3],
+        expected: Result<u64, Refusal>,
+    ) {
+        let mut random = dirt(&[file, proof]);
+        let lent = [file, proof].map(|part| Lent::new(&mut random, part));
+        let mut words = Lent::<u32>::dirty(&mut random, words);
+        let mut rows = Lent::<Row>::dirty(&mut random, rows);
+        let mut marks = Lent::<u8>::dirty(&mut random, bytes);
+        let call = |value: &mut u64| {
+            call::check(
+                lent[0].part(),
+                bound,
+                lent[1].part(),
+                words.part_mut(),
+                rows.part_mut(),
+                marks.part_mut(),
+                value,
+            )
+        };
+        let value = Value::after(&mut random, call, expected);
+        value.assert_is(expected);
+        words.assert_zero();
+        rows.assert_zero();
+        marks.assert_zero();
+        lent[0].assert_holds(file);
+        lent[1].assert_holds(proof);
     }
 
     /// `*value` before and after a call.
@@ -173,40 +302,109 @@ mod engine {
         Random::new(inputs.concat().iter().fold(0xcbf2_9ce4_8422_2325, mix))
     }
 
-    /// A buffer that is lent, with other bytes around it that no call may change.
-    struct Lent {
-        bytes: Vec<u8>,
-        before: Vec<u8>,
+    /// What a buffer holds.
+    trait Element: Copy + Default + PartialEq {
+        fn draw(random: &mut Random) -> Self;
     }
 
-    /// How many bytes stand before a lent part, and as many after it.
-    const MARGIN: usize = 16;
+    impl Element for u8 {
+        fn draw(random: &mut Random) -> u8 {
+            random.draw() as u8
+        }
+    }
 
-    impl Lent {
-        /// `part` between bytes drawn at random.
-        fn new(random: &mut Random, part: &[u8]) -> Lent {
-            let mut margin = || {
-                (0..MARGIN)
-                    .map(|_| random.draw() as u8)
-                    .collect::<Vec<u8>>()
-            };
-            let bytes = [&margin(), part, &margin()].concat();
-            Lent {
-                before: bytes.clone(),
-                bytes,
+    impl Element for u32 {
+        fn draw(random: &mut Random) -> u32 {
+            random.draw() as u32
+        }
+    }
+
+    impl Element for Row {
+        fn draw(random: &mut Random) -> Row {
+            let mut draw = || random.draw() as usize;
+            Row {
+                id: draw(),
+                first: draw(),
+                length: draw(),
+                live: draw(),
             }
         }
+    }
 
-        fn part(&self) -> &[u8] {
-            &self.bytes[MARGIN..self.bytes.len() - MARGIN]
+    /// A buffer that is lent, with other values around it that no call may change.
+    struct Lent<T> {
+        all: Vec<T>,
+        /// What stands before the lent part, then what stands after it.
+        margins: [Vec<T>; 2],
+    }
+
+    /// How many values stand before a lent part, and as many after it.
+    const MARGIN: usize = 16;
+
+    impl<T: Element> Lent<T> {
+        /// `part` between values drawn at random.
+        fn new(random: &mut Random, part: &[T]) -> Lent<T> {
+            Lent::between(random, part.len(), part)
         }
 
-        /// An input, and what stands around it, is as it was before the call.
-        fn assert_unchanged(&self) {
+        /// `length` values drawn at random, which repeat themselves.
+        fn dirty(random: &mut Random, length: u64) -> Lent<T> {
+            let values = drawn(random, 61);
+            Lent::between(random, length as usize, values.iter().cycle())
+        }
+
+        fn between<'a>(
+            random: &mut Random,
+            length: usize,
+            part: impl IntoIterator<Item = &'a T>,
+        ) -> Lent<T>
+        where
+            T: 'a,
+        {
+            let margins = [(); 2].map(|()| drawn(random, MARGIN));
+            let mut all = Vec::with_capacity(length + 2 * MARGIN);
+            all.extend(&margins[0]);
+            all.extend(part.into_iter().take(length));
+            all.extend(&margins[1]);
+            Lent { all, margins }
+        }
+
+        fn part(&self) -> &[T] {
+            &self.all[MARGIN..self.all.len() - MARGIN]
+        }
+
+        fn part_mut(&mut self) -> &mut [T] {
+            let end = self.all.len() - MARGIN;
+            &mut self.all[MARGIN..end]
+        }
+
+        /// The part is `expected`, and what stands around it is as it was.
+        fn assert_holds(&self, expected: &[T]) {
+            assert!(self.part() == expected, "wrong bytes in a buffer");
+            self.assert_margins_kept();
+        }
+
+        /// Every value of a store is zero, and what stands around it is as it was.
+        fn assert_zero(&self) {
+            let zero = T::default();
             assert!(
-                black_box(&self.bytes) == &self.before,
-                "bytes of an input changed"
+                self.part().iter().all(|value| *value == zero),
+                "a store is not zero"
+            );
+            self.assert_margins_kept();
+        }
+
+        fn assert_margins_kept(&self) {
+            let all = black_box(&self.all);
+            let [before, after] = &self.margins;
+            assert!(
+                all.starts_with(before) && all.ends_with(after),
+                "bytes beside a buffer changed"
             );
         }
+    }
+
+    fn drawn<T: Element>(random: &mut Random, count: usize) -> Vec<T> {
+        (0..count).map(|_| T::draw(random)).collect()
     }
 }

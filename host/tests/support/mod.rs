@@ -58,6 +58,19 @@ pub fn oversized() -> Vec<u8> {
     numbers(&values)
 }
 
+/// A file with a counted list of 256 entries: the starts of four events at 64
+/// times.
+pub fn long_list() -> Vec<u8> {
+    let mut values = vec![125, 4, 0];
+    for _ in 0..4 {
+        values.extend([1, 0]);
+    }
+    values.extend([1, 64]);
+    values.extend(1..=64);
+    values.extend([1, 5, 1, 4, 1, 2, 3, 4, 1, 0, 9]);
+    numbers(&values)
+}
+
 /// A timetable of `events` events that each take the first `duration` of
 /// `times` times with one start.
 pub fn first_times(times: usize, events: usize, duration: usize) -> Vec<u8> {

@@ -1,0 +1,49 @@
+-- What text and check leave, by their contracts, is what their calls are to leave.
+use Prim.Native.Nat.{ℕ}
+use mathlib.Core.Path.{_≡_, refl, ap, _∙_}
+use mathlib.Core.List.{List, _++_}
+use lib.ListN.{length, drop}
+use Rattle.scope.specs.Parsed.{Answer, answered, refusal}
+use Rattle.scope.specs.Operations.{textOf, checkOf}
+use Rattle.scope.specs.Answers.{textMeans, checkMeans}
+use Rattle.scope.specs.declared.Refusal.{Refusal}
+use Rattle.scope.specs.declared.TextAnswer.{TextAnswer}
+use Rattle.scope.specs.declared.CheckAnswer.{CheckAnswer}
+use Rattle.text.specs.Written.{written}
+use Rattle.engine.specs.Call.{Call, called, leaving}
+use Rattle.engine.specs.Operations.{textCall, Stores, lentBy, zeros, zeroed, checkCall}
+
+-- the text: its length or a refusal, and the output
+written-leaves : (a : Answer (List ℕ)) (out : List ℕ)
+    → leaving (written a out .0) (written a out .1) ≡ called a (λ t. (length t, t ++ drop (length t) out)) out
+written-leaves (answered t) out = refl
+written-leaves (refusal k v) out = refl
+
+module _ (file out : List ℕ) (x : TextAnswer) {after : List ℕ} (e : (textMeans x, after) ≡ written (textOf file (length out)) out) where
+  text-leaves : leaving (textMeans x) after ≡ textCall file out
+  text-leaves = ap (λ r. leaving (r .0) (r .1)) e ∙ written-leaves (textOf file (length out)) out
+
+  pub text-written : {n : ℕ} → x ≡ TextAnswer.Bytes n → record { number = 0; value = n; outputs = after } ≡ textCall file out
+  text-written t = rw t at text-leaves
+
+  pub text-refused : {f : Refusal} → x ≡ TextAnswer.Refused f
+      → record { number = f .number; value = f .value; outputs = after } ≡ textCall file out
+  text-refused t = rw t at text-leaves
+
+-- the check: its steps or a refusal, and zeros in the stores
+zeroed-leaves : (a : Answer ℕ) (s : Stores) → leaving a (zeroed s) ≡ called a (λ steps. (steps, zeroed s)) (zeroed s)
+zeroed-leaves (answered n) s = refl
+zeroed-leaves (refusal k v) s = refl
+
+module _ (file : List ℕ) (B : ℕ) (proof : List ℕ) (ws rs ms : List ℕ) (x : CheckAnswer) {words rows marks : List ℕ}
+    (e : checkMeans x ≡ checkOf file B proof (lentBy (ws, rs, ms))) (w : words ≡ zeros ws) (r : rows ≡ zeros rs) (m : marks ≡ zeros ms) where
+  check-leaves : leaving (checkMeans x) (words, rows, marks) ≡ checkCall file B proof (ws, rs, ms)
+  check-leaves = rw (e, w, r, m) (zeroed-leaves (checkOf file B proof (lentBy (ws, rs, ms))) (ws, rs, ms))
+
+  pub check-shown : {n : ℕ} → x ≡ CheckAnswer.NoTimetable n
+      → record { number = 0; value = n; outputs = (words, rows, marks) } ≡ checkCall file B proof (ws, rs, ms)
+  check-shown t = rw t at check-leaves
+
+  pub check-refused : {f : Refusal} → x ≡ CheckAnswer.Refused f
+      → record { number = f .number; value = f .value; outputs = (words, rows, marks) } ≡ checkCall file B proof (ws, rs, ms)
+  check-refused t = rw t at check-leaves
