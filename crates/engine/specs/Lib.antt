@@ -5,3 +5,4 @@ pub mod RunWithin
 pub mod Numbers
 pub mod Decoded
 pub mod Returned
+pub mod Together
