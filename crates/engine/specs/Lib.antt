@@ -5,4 +5,3 @@ pub mod RunWithin
 pub mod Numbers
 pub mod Decoded
 pub mod Returned
-pub mod Together
