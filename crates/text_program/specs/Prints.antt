@@ -11,18 +11,21 @@ use lib.Seq.{take-append-seam, take-all}
 use borrow.Author.Tests.{le-leb, lt-leb, leb-true, leb-false}
 use Rattle.scope.specs.Parsed.{Answer, answered, refusal}
 use Rattle.scope.specs.Operations.{textOf, printed, programPrints}
+use Rattle.io.specs.Counts.{Counts}
 use Rattle.sink.specs.Run.{Out, out, put, Ran, run-fits}
 use Rattle.text.specs.Written.{written}
 use Rattle.text.specs.Length.{digits-few}
 
 -- the first n bytes of the output are the bytes to print
 pub record Prints (bytes : List ℕ) (n : ℕ) (out : List ℕ) : Type 0 where
-  pub within : n ≤ length out
+  pub within : Counts n out
   pub first : take n out ≡ bytes
 
 -- bytes before others
 prints-front : (xs ys : List ℕ) {n : ℕ} {b : List ℕ} → n ≡ length xs → b ≡ xs ++ ys → Prints xs n b
-prints-front xs ys e f = record { within = rw (e, f) (omega (arith, length-append xs ys)); first = rw (e, f) (take-append-seam xs ys) }
+prints-front xs ys {n} {b} e f =
+    let l : n ≤ length b = rw (e, f) (omega (arith, length-append xs ys)) in
+    record { within = (l, rw length-take (omega arith)); first = rw (e, f) (take-append-seam xs ys) }
 
 -- a refusal's line is short
 line-short : (k v : ℕ) → length (printed (refusal k v)) ≤ 42
