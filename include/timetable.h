@@ -35,7 +35,7 @@
  * the pointer is good for that many elements. A pointer to an output is good
  * for one number. No pointer is null (that of an empty slice may be any other
  * pointer), each is aligned for its type, and an output overlaps neither an
- * input nor another output. The functions need 512 KiB of stack.
+ * input nor another output. The functions need 1 MiB of stack.
  */
 #ifndef TIMETABLE_H
 #define TIMETABLE_H

@@ -229,7 +229,7 @@ fn every_byte_of_a_proof_changed_is_checked_alike() {
 /// The stack that include/timetable.h names is enough.
 #[test]
 fn calls_fit_the_stack_that_the_header_names() {
-    let calls = thread::Builder::new().stack_size(512 * 1024).spawn(|| {
+    let calls = thread::Builder::new().stack_size(1024 * 1024).spawn(|| {
         let file = include_bytes!("../schools/small.instance");
         let table = include_bytes!("../schools/small.timetable");
         assert!(engine::read(file).is_ok());
