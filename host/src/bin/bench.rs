@@ -14,8 +14,8 @@ use timetable::reference::{self, Instance, Refusal};
 /// Lessons of the schools.
 const LESSONS: [usize; 5] = [50, 100, 200, 400, 1_000];
 /// The most lessons for operations that walk over the clauses, and for checks.
-const MOST_WRITTEN: usize = 200;
-const MOST_CHECKED: usize = 100;
+const MOST_WRITTEN: usize = 400;
+const MOST_CHECKED: usize = 400;
 /// The bound of sizes and checks.
 const BOUND: u64 = 10;
 /// Rounds of a comparison, and how long one side's turn is.
