@@ -2,12 +2,12 @@
 use mathlib.Core.Path.{_≡_, refl, sym, ap, _∙_}
 use mathlib.Core.Bool.{Bool, true, false}
 use mathlib.Core.List.{List}
-use Prim.Native.Nat.{ℕ, _≤_, _<_}
+use Prim.Native.Nat.{ℕ, _+_, _≤_, _<_}
 use native.Mathlib.Omega.{arith}
 use lib.Dec.{ltb}
-use lib.ListN.{length}
+use lib.ListN.{length, getD}
 use borrow.Author.Tests.{lt-ltb, le-ltb, eq-eqb, ne-eqb, ltb-true, ltb-false}
-use Rattle.scope.specs.Parsed.{got, refused}
+use Rattle.scope.specs.Parsed.{Parsed, got, refused}
 use Rattle.scope.specs.Number.{number}
 use Rattle.scope.specs.Steps as steps
 use Rattle.scope.specs.Steps.{Tokens, stop, bad, upTo0, numbers, Step, add, StepRead, read, misread, readHints, readLiterals, readAdd, readDelete, readStep, allFalse, literalsOk, wellFormed}
@@ -19,6 +19,7 @@ use Rattle.bound.specs.declared.steps.Literals.the-variants as found
 use Rattle.bound.specs.declared.steps.Read.{Read}
 use Rattle.bound.specs.declared.steps.Read.the-variants.{Adds, Deletes, Misformed}
 use Rattle.bound.specs.Reading.{tokensAt, numbersAt, Listed, Passes, ends, cut, LiteralsAt, ReadsLiterals, reads, bad-literals}
+use Rattle.bound.proofs.StepBytes.{byte-inside, byte-number, Other, no-number, another, other-byte}
 use Rattle.bound.specs.Reading.{MisformedAt, Open, ReadsStep, adds, deletes, misformed}
 
 -- the tokens at an offset with no number begin no step, nor the rest of one
@@ -91,7 +92,7 @@ module _ (s : List ℕ) (at highest last : ℕ) (ms : List ℕ) where
   pub add-none : (k o : ℕ) → number s at ≡ refused k o → ReadsStep (readAdd (tokensAt s at)) s at highest last ms ms Misformed
   add-none k o e = misformed (λ w. misread-misformed highest last (empty-add (tokensAt s at) (no-token s at k o e)))
 
-  pub step-none : (k o : ℕ) → number s at ≡ refused k o → ReadsStep (readStep (tokensAt s at)) s at highest last ms ms Misformed
+  step-none : (k o : ℕ) → number s at ≡ refused k o → ReadsStep (readStep (tokensAt s at)) s at highest last ms ms Misformed
   step-none k o e = misformed (λ w. misread-misformed highest last (empty-step (tokensAt s at) (no-token s at k o e)))
 
   -- an id that was read, with the literals at lits
@@ -148,9 +149,9 @@ module _ (s : List ℕ) (at highest last : ℕ) (ms : List ℕ) where
               marks = a .marks ∙ ap (λ m. allFalse m (a .literals)) (w .1);
             })
 
-  -- a first byte that was read
+  -- a first number that was read
   module _ (k next : ℕ) (e : number s at ≡ got k next) where
-    pub step-adds : k ≡ 97 → (ms′ : List ℕ) (r : Read) → ReadsStep (readAdd (tokensAt s next)) s next highest last ms ms′ r
+    step-adds : k ≡ 97 → (ms′ : List ℕ) (r : Read) → ReadsStep (readAdd (tokensAt s next)) s next highest last ms ms′ r
         → ReadsStep (readStep (tokensAt s at)) s at highest last ms ms′ r
     unfolding readStep
     step-adds h ms′ r t =
@@ -159,7 +160,7 @@ module _ (s : List ℕ) (at highest last : ℕ) (ms : List ℕ) where
         rw x (earlier r t (tokens-got s at k next e .forward))
 
     module _ (h : k ≡ 97 → ⊥) where
-      pub step-other : (k ≡ 100 → ⊥) → ReadsStep (readStep (tokensAt s at)) s at highest last ms ms Misformed
+      step-other : (k ≡ 100 → ⊥) → ReadsStep (readStep (tokensAt s at)) s at highest last ms ms Misformed
       unfolding readStep
       step-other g =
           misformed
@@ -172,13 +173,38 @@ module _ (s : List ℕ) (at highest last : ℕ) (ms : List ℕ) where
         unfolding readStep
         ids = ap readStep (tokens-got s at k next e .first) ∙ rw (ne-eqb k 97 h, eq-eqb k 100 g)
 
-        pub step-cut : Passes s next Cut → ReadsStep (readStep (tokensAt s at)) s at highest last ms ms Misformed
+        step-cut : Passes s next Cut → ReadsStep (readStep (tokensAt s at)) s at highest last ms ms Misformed
         step-cut p = misformed (λ w. misread-misformed highest last (ids ∙ ap readDelete (cut-numbers p)))
 
-        pub step-deletes : (end : ℕ) → Passes s next (End end)
+        step-deletes : (end : ℕ) → Passes s next (End end)
             → ReadsStep (readStep (tokensAt s at)) s at highest last ms ms (Deletes next)
         step-deletes end p =
             let b = passed-numbers p in
             let t = tokens-got s at k next e in
             deletes next (t .forward) (t .inside) refl
             (record { ids = b .0; next = end; step = ids ∙ ap readDelete (b .1 .listed); stand = b .1 })
+
+  -- a step by its first byte
+  pub byte-adds : getD s at 0 ≡ 97 → (ms′ : List ℕ) (r : Read)
+      → ReadsStep (readAdd (tokensAt s (at + 1))) s (at + 1) highest last ms ms′ r
+      → ReadsStep (readStep (tokensAt s at)) s at highest last ms ms′ r
+  byte-adds e = step-adds 97 (at + 1) (byte-number s at 97 (byte-inside s at 97 e (omega arith)) e (omega arith)) refl
+
+  pub byte-other : (getD s at 0 ≡ 97 → ⊥) → (getD s at 0 ≡ 100 → ⊥)
+      → ReadsStep (readStep (tokensAt s at)) s at highest last ms ms Misformed
+  byte-other f g = go (number s at) refl (other-byte s at f g)
+    where
+      go : (x : Parsed ℕ) → number s at ≡ x → Other x → ReadsStep (readStep (tokensAt s at)) s at highest last ms ms Misformed
+      go x e (no-number k v) = step-none k v e
+      go x e (another n next h k) = step-other n next e h k
+
+  module _ (e : getD s at 0 ≡ 100) where
+    ids-number : number s at ≡ got 100 (at + 1)
+    ids-number = byte-number s at 100 (byte-inside s at 100 e (omega arith)) e (omega arith)
+
+    pub byte-cut : Passes s (at + 1) Cut → ReadsStep (readStep (tokensAt s at)) s at highest last ms ms Misformed
+    byte-cut = step-cut 100 (at + 1) ids-number (λ z. omega arith) refl
+
+    pub byte-deletes : (end : ℕ) → Passes s (at + 1) (End end)
+        → ReadsStep (readStep (tokensAt s at)) s at highest last ms ms (Deletes (at + 1))
+    byte-deletes = step-deletes 100 (at + 1) ids-number (λ z. omega arith) refl

@@ -3,11 +3,11 @@ use crate::machine::Machine;
 use crate::machine::Phase;
 use crate::machine::step_on;
 use crate::machine::stop;
+use crate::reader::number_in;
 use crate::steps::Clause;
 use crate::steps::Read;
 use crate::steps::read_step;
 use number::Number;
-use number::number_at;
 use store::directory::Row;
 ghost use mathlib.Core.Path.{_≡_};
 ghost use Prim.Native.Nat.{_+_, min};
@@ -129,7 +129,7 @@ fn copy_literals(proof: &[u8], at: usize, words: &mut [u32], first: usize)
     let mut i = at;
     let mut k = first;
     loop {
-        let t = number_at(proof, i);
+        let t = number_in(proof, i);
         let Number::Value(l, next) = t else {
             return;
         };
@@ -170,7 +170,7 @@ pub fn keep(c: Check, proof: &[u8], words: &mut [u32]) -> Check
 fn first_id(phase: Phase, over: Phase, proof: &[u8], at: usize) -> Machine
     ensures { λ r. ⌜ r ≡ firstId phase over at (numberAt (now (proof .entry)) at) ⌝ }
 {
-    let t = number_at(proof, at);
+    let t = number_in(proof, at);
     let Number::Value(id, next) = t else {
         return stop(Phase::Refused(14), at);
     };

@@ -10,7 +10,6 @@ use crate::check::row_of;
 use crate::machine::DELETE;
 use crate::machine::JUDGE;
 use crate::machine::KEEP;
-use crate::machine::LOOK;
 use crate::machine::Machine;
 use crate::machine::Phase;
 use crate::machine::READ;
@@ -19,12 +18,22 @@ use crate::machine::stop;
 use crate::machine::turn_of;
 use scope::CheckAnswer;
 use scope::Refusal;
+use store::directory::Row;
 use store::directory::append;
 use store::directory::find;
 use store::directory::mark_dead;
 ghost use mathlib.Core.Path.{_≡_};
 ghost use Rattle.store.specs.Directory.{rowsOf, capacity};
+ghost use Rattle.bound.specs.declared.machine.Phase.the-variants.{Next};
+ghost use Rattle.bound.specs.Machine.{stopped};
 ghost use Rattle.bound.specs.Run.{answerOf, Driven};
+
+// The machine before the first step.
+fn ready() -> Machine
+    ensures { λ r. ⌜ r ≡ stopped Next 0 ⌝ }
+{
+    stop(Phase::Next, 0)
+}
 
 // The answer of a check that has ended; one that has not is never asked.
 fn answer(c: Check, m: Machine) -> CheckAnswer
@@ -60,7 +69,7 @@ fn answer(c: Check, m: Machine) -> CheckAnswer
 pub fn drive(
     proof: &[u8],
     words: &mut [u32],
-    rows: &mut [usize],
+    rows: &mut [Row],
     marks: &mut [u8],
     last: usize,
     n: usize,
@@ -69,28 +78,24 @@ pub fn drive(
     ensures { λ r. ⌜ Driven (now (proof .entry)) last (capacity (now (rows .entry))) n used (rowsOf (now (rows .entry))) (now (words .entry)) (now (marks .entry)) r ⌝ }
 {
     let mut c = begin(n, used);
-    let mut m = stop(Phase::Next, 0);
+    let mut m = ready();
     loop {
         let turn = turn_of(m);
-        let at = m.at;
-        let tally = c.tally;
-        let count = tally.rows;
         if turn <= DELETE {
-            let p = find(rows, count, m.want);
-            let row = p.hit;
+            let p = find(rows, c.tally.rows, m.want);
+            m = advance(m, p.hit, proof, words, marks);
             if turn == DELETE {
                 mark_dead(rows, p.at);
             }
-            m = advance(m, row, proof, words, marks);
         } else if turn == KEEP {
-            append(rows, count, row_of(c));
+            append(rows, c.tally.rows, row_of(c));
             c = keep(c, proof, words);
             m = enter(c, proof);
         } else if turn == JUDGE {
-            c = judge(c, at, proof.len(), words.len(), rows.len() / 4);
+            c = judge(c, m.at, proof.len(), words.len(), rows.len());
             m = enter(c, proof);
         } else if turn == READ {
-            c = next_step(c, at, proof, last, marks);
+            c = next_step(c, m.at, proof, last, marks);
             m = enter(c, proof);
         } else {
             return answer(c, m);

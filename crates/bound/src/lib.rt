@@ -3,4 +3,5 @@
 pub mod check;
 pub mod drive;
 pub mod machine;
+pub mod reader;
 pub mod steps;

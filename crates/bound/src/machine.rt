@@ -1,8 +1,8 @@
 // The machine that judges a proof, id by id. It never sees the directory: it names the id that it wants, and is handed the
 // row that was found. The next number of the proof is read at one place.
+use crate::reader::number_in;
 use crate::steps::wide;
 use number::Number;
-use number::number_at;
 use store::clauses::Standing;
 use store::clauses::standing_of;
 use store::clauses::wipe_clause;
@@ -123,7 +123,7 @@ pub fn advance(m: Machine, row: Row, proof: &[u8], words: &[u32], marks: &mut [u
     if row.live == 0 {
         return stop(Phase::Refused(15), at);
     }
-    let t = number_at(proof, at);
+    let t = number_in(proof, at);
     let Number::Value(id, next) = t else {
         return stop(Phase::Refused(14), at);
     };

@@ -1,6 +1,7 @@
 // The steps of a proof are read whole: their form, and where their parts stand.
+use crate::reader::number_in;
+use crate::reader::step_byte_in;
 use number::Number;
-use number::number_at;
 use store::marks::mark_of;
 use store::marks::put_mark;
 ghost use mathlib.Core.Path.{_≡_};
@@ -49,7 +50,7 @@ pub fn pass_numbers(proof: &[u8], at: usize) -> Numbers
 {
     let mut i = at;
     loop {
-        let t = number_at(proof, i);
+        let t = number_in(proof, i);
         let Number::Value(n, next) = t else {
             return Numbers::Cut;
         };
@@ -87,7 +88,7 @@ pub fn read_literals(proof: &[u8], at: usize, last: usize, marks: &mut [u8]) -> 
     let mut i = at;
     let mut size = 0;
     loop {
-        let t = number_at(proof, i);
+        let t = number_in(proof, i);
         let Number::Value(l, next) = t else {
             return Literals::Misformed;
         };
@@ -106,7 +107,7 @@ pub fn read_literals(proof: &[u8], at: usize, last: usize, marks: &mut [u8]) -> 
 fn read_add(proof: &[u8], at: usize, highest: usize, last: usize, marks: &mut [u8]) -> Read
     ensures { λ r. ⌜ ReadsStep (readAdd (tokensAt (now (proof .entry)) at)) (now (proof .entry)) at highest last (now (marks .entry)) (now (marks .exit)) r ⌝ }
 {
-    let t = number_at(proof, at);
+    let t = number_in(proof, at);
     let Number::Value(n, literals) = t else {
         return Read::Misformed;
     };
@@ -135,16 +136,14 @@ fn read_add(proof: &[u8], at: usize, highest: usize, last: usize, marks: &mut [u
 pub fn read_step(proof: &[u8], at: usize, highest: usize, last: usize, marks: &mut [u8]) -> Read
     ensures { λ r. ⌜ ReadsStep (readStep (tokensAt (now (proof .entry)) at)) (now (proof .entry)) at highest last (now (marks .entry)) (now (marks .exit)) r ⌝ }
 {
-    let t = number_at(proof, at);
-    let Number::Value(k, next) = t else {
-        return Read::Misformed;
-    };
-    if k == 97 {
-        return read_add(proof, next, highest, last, marks);
+    let kind = step_byte_in(proof, at);
+    if kind == 97 {
+        return read_add(proof, at + 1, highest, last, marks);
     }
-    if k != 100 {
+    if kind != 100 {
         return Read::Misformed;
     }
+    let next = at + 1;
     let ids = pass_numbers(proof, next);
     let Numbers::End(_) = ids else {
         return Read::Misformed;

@@ -2,7 +2,8 @@
 use libc::STDOUT_FILENO;
 use scope::CheckAnswer;
 use scope::Refusal;
-ghost use Prim.Native.Nat.{_*_, _≤_};
+use store::directory::Row;
+ghost use Prim.Native.Nat.{_≤_};
 ghost use lib.ListN.{length};
 
 fn put(text: &[u8]) {
@@ -38,15 +39,6 @@ fn zero_words(words: &[u32], n: usize) -> bool {
     true
 }
 
-fn zero_rows(rows: &[usize], n: usize) -> bool {
-    for i in 0..rows.len() {
-        if (i / 4 < n) != (rows[i] == 0) {
-            return false;
-        }
-    }
-    true
-}
-
 fn zero_bytes(bytes: &[u8], n: usize) -> bool {
     for i in 0..bytes.len() {
         if (i < n) != (bytes[i] == 0) {
@@ -56,36 +48,49 @@ fn zero_bytes(bytes: &[u8], n: usize) -> bool {
     true
 }
 
-fn put_zero(words: bool, rows: bool, bytes: bool) {
-    if words && rows && bytes {
+fn put_zero(words: bool, bytes: bool) {
+    if words && bytes {
         put(b", stores zero\n");
     } else {
         put(b", stores not zero\n");
     }
 }
 
-// The first words, rows and bytes of some stores are lent.
+// The first of 1024 rows that are not zero are lent.
+fn check_rows(
+    file: &[u8],
+    bound: u64,
+    proof: &[u8],
+    w: &mut [u32],
+    rows: usize,
+    b: &mut [u8],
+) -> CheckAnswer
+    requires { ⌜ rows ≤ 1024 ⌝ }
+{
+    let row = Row {
+        id: 255,
+        first: 255,
+        len: 255,
+        live: 255,
+    };
+    let mut d = [row; 1024];
+    checker::check(file, bound, proof, w, &mut d[..rows], b)
+}
+
+// The first words and bytes of some stores are lent, and so many rows.
 fn check_part(
     file: &[u8],
     bound: u64,
     proof: &[u8],
     w: &mut [u32],
     words: usize,
-    d: &mut [usize],
     rows: usize,
     b: &mut [u8],
     bytes: usize,
 ) -> CheckAnswer
-    requires { ⌜ (words ≤ length (now w)) × (4 * rows ≤ length (now d)) × (bytes ≤ length (now b)) ⌝ }
+    requires { ⌜ (words ≤ length (now w)) × (rows ≤ 1024) × (bytes ≤ length (now b)) ⌝ }
 {
-    checker::check(
-        file,
-        bound,
-        proof,
-        &mut w[..words],
-        &mut d[..4 * rows],
-        &mut b[..bytes],
-    )
+    check_rows(file, bound, proof, &mut w[..words], rows, &mut b[..bytes])
 }
 
 // The answer for a proof, where so many words, rows and bytes are lent.
@@ -101,23 +106,8 @@ pub fn check_line(
     requires { ⌜ (words ≤ 2048) × (rows ≤ 1024) × (bytes ≤ 256) ⌝ }
 {
     let mut w = [4294967295; 2048];
-    let mut d = [18446744073709551615; 4096];
     let mut b = [255; 256];
     put(name);
-    put_answer(check_part(
-        file,
-        bound,
-        proof,
-        &mut w,
-        words,
-        &mut d,
-        rows,
-        &mut b,
-        bytes,
-    ));
-    put_zero(
-        zero_words(&w, words),
-        zero_rows(&d, rows),
-        zero_bytes(&b, bytes),
-    );
+    put_answer(check_part(file, bound, proof, &mut w, words, rows, &mut b, bytes));
+    put_zero(zero_words(&w, words), zero_bytes(&b, bytes));
 }

@@ -46,8 +46,8 @@ pub follows-refused : {s ws : List ℕ} {cap : ℕ} {ms : List ℕ} {x : Ready} 
 follows-refused e = rw e (record { followed = refl })
 
 -- zeros, where a store is as long as it was
-pub zeros-kept : {xs : List ℕ} {m n : ℕ} → xs ≡ replicate m 0 → m ≡ n → xs ≡ replicate n 0
-zeros-kept e long = e ∙ ap (λ (n : ℕ). replicate n 0) long
+pub zeros-kept : {X : Type 0} (x : X) {xs : List X} {m n : ℕ} → xs ≡ replicate m x → m ≡ n → xs ≡ replicate n x
+zeros-kept x e long = e ∙ ap (λ (n : ℕ). replicate n x) long
 
 module _ (file : List ℕ) (B : ℕ) (s ws : List ℕ) (cap : ℕ) (ms : List ℕ) (w b : ℕ) (r : CheckAnswer)
     (cleared : ms ≡ replicate b 0) (same : length ws ≡ w) where

@@ -4,6 +4,7 @@ use crate::prepare::prepare;
 use bound::drive::drive;
 use scope::CheckAnswer;
 use store::clauses::clear_words;
+use store::directory::Row;
 use store::directory::build_directory;
 use store::directory::clear_rows;
 use store::marks::clear_bytes;
@@ -11,6 +12,7 @@ ghost use mathlib.Core.Path.{_≡_};
 ghost use lib.ListN.{length, replicate};
 ghost use Rattle.scope.specs.Answers.{checkMeans};
 ghost use Rattle.scope.specs.Operations.{checkOf};
+ghost use Rattle.store.specs.Rows.{noRow};
 ghost use Rattle.store.specs.Directory.{capacity};
 ghost use Rattle.checker.specs.Prepared.{lent};
 ghost use Rattle.checker.specs.Checked.{Follows};
@@ -20,7 +22,7 @@ fn follow(
     ready: Ready,
     proof: &[u8],
     words: &mut [u32],
-    rows: &mut [usize],
+    rows: &mut [Row],
     marks: &mut [u8],
 ) -> CheckAnswer
     ensures { λ r. ⌜ Follows (now (proof .entry)) (now (words .entry)) (capacity (now (rows .entry))) (now (marks .entry)) ready r ⌝ }
@@ -41,16 +43,16 @@ pub fn check(
     bound: u64,
     proof: &[u8],
     words: &mut [u32],
-    rows: &mut [usize],
+    rows: &mut [Row],
     marks: &mut [u8],
 ) -> CheckAnswer
     ensures { λ r. ⌜ checkMeans r ≡ checkOf (now (file .entry)) bound (now (proof .entry))
         (lent (length (now (words .entry))) (capacity (now (rows .entry))) (length (now (marks .entry)))) ⌝ }
     ensures { λ _. ⌜ now (words .exit) ≡ replicate (length (now (words .entry))) 0 ⌝ }
-    ensures { λ _. ⌜ now (rows .exit) ≡ replicate (length (now (rows .entry))) 0 ⌝ }
+    ensures { λ _. ⌜ now (rows .exit) ≡ replicate (length (now (rows .entry))) noRow ⌝ }
     ensures { λ _. ⌜ now (marks .exit) ≡ replicate (length (now (marks .entry))) 0 ⌝ }
 {
-    let ready = prepare(file, bound, words, rows.len() / 4, marks);
+    let ready = prepare(file, bound, words, rows.len(), marks);
     let r = follow(ready, proof, words, rows, marks);
     clear_words(words);
     clear_rows(rows);

@@ -1,222 +1,243 @@
--- The directory is built of marked words, with no code: what holds between the words, and what the rows come to.
+-- The directory is built of marked words, with no code: what holds between the clauses, and what the rows come to.
 use mathlib.Core.Path.{_≡_, refl, sym, ap, _∙_}
-use mathlib.Core.Bool.{cond}
-use mathlib.Core.List.{List, [], _∷_, _++_, map, flatMap, map-append}
-use Prim.Native.Nat.{ℕ, suc, _+_, _-_, _≤_, _<_}
+use mathlib.Core.List.{List, [], _∷_, _++_, flatMap, append-assoc, append-nil}
+use mathlib.Core.Bool.{Bool, true, false}
+use Prim.Native.Nat.{ℕ, zero, suc, _+_, _-_, _≤_, _<_}
 use native.Mathlib.Omega.{arith}
 use native.Mathlib.Numerals.{add-one}
-use lib.Dec.{leb}
-use lib.ListN.{length, getD, set, take, drop, length-append, length-map, length-drop}
-use lib.Seq.{slice, slice-cons, length-take-le, take-suc, drop-cons, append-snoc, set-at, getD-at, take-at, drop-at}
-use borrow.Author.Tests.{le-leb, lt-leb, eq-eqb, ne-eqb}
+use lib.Dec.{ltb}
+use lib.ListN.{length, getD, set, length-append, List·getD-append}
+use lib.Seq.{append-snoc, set-at, getD-at, getD-append-add}
+use borrow.Author.Tests.{eq-eqb, ne-eqb, ltb-true, ltb-false}
 use Rattle.scope.specs.Formula.{words}
 use Rattle.scope.specs.Steps.{put}
 use Rattle.store.specs.declared.directory.Row.{Row}
-use Rattle.store.specs.Clauses.{slice-past}
-use Rattle.store.specs.Marked.{mark, Small, Plain, length-marks, flat, rowsFor, RowsAre, BuiltFor}
+use Rattle.store.specs.Rows.{Appends}
+use Rattle.store.specs.Marked.{mark, Small, Plain, length-marks, flat, rowsFor, RowsAre, rowBetween, Unmarks, BuiltFor, Built}
 
--- a word without its mark
-unfoldable pub plain : ℕ → ℕ
-plain w = cond (leb 2147483648 w) (w - 2147483648) w
+-- Between the words of one clause: none from first up to i is marked
+pub record Passing (ws₀ ws : List ℕ) (first i : ℕ) : Type 0 where
+  pub same : ws ≡ ws₀
+  pub from : first ≤ i
+  pub plain : (j : ℕ) → first ≤ j → j < i → getD ws₀ j 0 < 2147483648
 
--- the words with the first i of them unmarked
-abbrev pub plainTo : List ℕ → ℕ → List ℕ
-plainTo ws i = map plain (take i ws) ++ drop i ws
+pub pass-start : (ws : List ℕ) (first : ℕ) → Passing ws ws first first
+pass-start ws first = record { same = refl; from = omega arith; plain = λ j f l. absurd (omega arith) }
 
--- the rows of marked words: the next row has the id, and its clause began at first; i words are passed
-unfoldable pub rowsIn : ℕ → ℕ → ℕ → List ℕ → List Row
-rowsIn id first i [] = []
-rowsIn id first i (w ∷ ws) =
-    cond (leb 2147483648 w) (record { id = id; first = first; len = suc i - first; live = 1 } ∷ rowsIn (suc id) (suc i) (suc i)
-    ws)
-    (rowsIn id first (suc i) ws)
+module _ (ws₀ ws : List ℕ) (first i : ℕ) (p : Passing ws₀ ws first i) where
+  pub pass-next : getD ws i 0 < 2147483648 → Passing ws₀ ws first (i + 1)
+  pass-next u = record { same = p .same; from = omega (arith, p .from); plain = λ j f l. go j f l (ltb j i) refl }
+    where
+      go : (j : ℕ) → first ≤ j → j < i + 1 → (t : Bool) → ltb j i ≡ t → getD ws₀ j 0 < 2147483648
+      go j f l true t = p .plain j f (ltb-true j i t)
+      go j f l false t = let q : j ≡ i = omega (arith, ltb-false j i t) in rw (q, ← p .same) u
 
-unfoldable front : List ℕ → ℕ → List ℕ
-front ws i = map plain (take i ws)
+  pub pass-marked : (end : ℕ) → i < end → 2147483648 ≤ getD ws i 0
+      → Unmarks ws₀ (set ws i (getD ws i 0 - 2147483648)) first end (i + 1)
+  pass-marked end h m =
+      record {
+        onward = λ l. (omega (arith, p .from), omega arith);
+        unmarked =
+            λ k f l u plain.
+            let e : 2147483648 ≤ getD ws₀ i 0 = rw (p .same) at m in
+            let below : k < i → ⊥ = λ z. omega (arith, p .plain k f z) in
+            let above : i < k → ⊥ = λ z. omega (arith, plain i (p .from) z) in
+            let q : k ≡ i = omega arith in
+            (rw (q, p .same), rw q);
+      }
 
-rows-none : (id first i : ℕ) → rowsIn id first i [] ≡ []
-unfolding rowsIn
-rows-none id first i = refl
+  pub pass-end : (end : ℕ) → end ≤ i → Unmarks ws₀ ws first end end
+  pass-end end h =
+      record {
+        onward = λ l. (l, omega arith);
+        unmarked = λ k f l u plain. absurd (omega (arith, p .plain k f (omega arith)));
+      }
 
--- one word more
-module _ (ws₀ ws : List ℕ) (i : ℕ) (h : i < length ws₀) (e : ws ≡ plainTo ws₀ i) where
-  front-length : length (front ws₀ i) ≡ i
-  unfolding front
-  front-length = length-map (take i ws₀) plain ∙ length-take-le i ws₀ (omega arith)
+-- a marked clause is its words but the last one, and the last one with its mark
+pub record Ended (c : List ℕ) : Type 0 where
+  pub front : List ℕ
+  pub last : ℕ
+  pub is : c ≡ front ++ last ∷ []
+  pub marked : mark c ≡ front ++ (last + 2147483648) ∷ []
+  pub small : (j : ℕ) → j < length front → getD front j 0 < 2147483648
 
-  now-words : ws ≡ front ws₀ i ++ getD ws₀ i 0 ∷ drop (suc i) ws₀
-  unfolding front
-  now-words = e ∙ rw (drop-cons ws₀ i 0 h)
+ended : (l : ℕ) (ls : List ℕ) → Small (l ∷ ls) → Ended (l ∷ ls)
+unfolding mark
+ended l [] s = record { front = []; last = l; is = refl; marked = refl; small = λ j h. absurd (omega arith) }
+ended l (k ∷ ks) s =
+    let e = ended k ks (s .1) in
+    record {
+      front = l ∷ e .front;
+      last = e .last;
+      is = ap (λ c. l ∷ c) (e .is);
+      marked = ap (λ c. l ∷ c) (e .marked);
+      small = go (e .front) (e .small);
+    }
+  where
+    go : (f : List ℕ) → ((j : ℕ) → j < length f → getD f j 0 < 2147483648) → (j : ℕ) → j < length (l ∷ f)
+        → getD (l ∷ f) j 0 < 2147483648
+    go f h zero p = s .0
+    go f h (suc j) p = h j (omega arith)
 
-  next-words : plainTo ws₀ (i + 1) ≡ front ws₀ i ++ plain (getD ws₀ i 0) ∷ drop (suc i) ws₀
-  unfolding front
-  next-words =
-      rw (add-one, take-suc ws₀ i 0 h, map-append)
-      (append-snoc (map plain (take i ws₀)) (plain (getD ws₀ i 0)) (drop (suc i) ws₀))
-
-  pub word-is : getD ws i 0 ≡ getD ws₀ i 0
-  word-is = rw now-words (getD-at (front ws₀ i) (getD ws₀ i 0) (drop (suc i) ws₀) 0 i front-length)
-
-  pub words-marked : 2147483648 ≤ getD ws i 0 → set ws i (getD ws i 0 - 2147483648) ≡ plainTo ws₀ (i + 1)
-  unfolding plain
-  words-marked k =
-      let m : 2147483648 ≤ getD ws₀ i 0 = rw word-is at k in
-      rw (word-is, next-words, now-words, le-leb 2147483648 (getD ws₀ i 0) m)
-      (set-at (front ws₀ i) (getD ws₀ i 0) (drop (suc i) ws₀) (getD ws₀ i 0 - 2147483648) i front-length)
-
-  pub words-unmarked : getD ws i 0 < 2147483648 → ws ≡ plainTo ws₀ (i + 1)
-  unfolding plain
-  words-unmarked k =
-      let m : getD ws₀ i 0 < 2147483648 = rw word-is at k in
-      now-words ∙ sym (next-words ∙ rw (lt-leb 2147483648 (getD ws₀ i 0) m))
-
--- the rows of one word more
-module _ (id first i : ℕ) (ws : List ℕ) (end : ℕ) (h : i < end) (k : end ≤ length ws) where
-  pub rows-marked : 2147483648 ≤ getD ws i 0
-      → rowsIn id first i (slice i end ws)
-      ≡ record { id = id; first = first; len = i + 1 - first; live = 1 } ∷ rowsIn (id + 1) (i + 1) (i + 1) (slice (i + 1) end ws)
-  unfolding rowsIn
-  rows-marked m = rw (slice-cons i end ws 0 h k, le-leb 2147483648 (getD ws i 0) m, add-one i, add-one id)
-
-  pub rows-unmarked : getD ws i 0 < 2147483648
-      → rowsIn id first i (slice i end ws) ≡ rowsIn id first (i + 1) (slice (i + 1) end ws)
-  unfolding rowsIn
-  rows-unmarked m = rw (slice-cons i end ws 0 h k, lt-leb 2147483648 (getD ws i 0) m, add-one)
+-- Between the clauses: those in todo are still marked, after the words pre
+pub record Parted (f : List (List ℕ)) (rest ws : List ℕ) (R : ℕ → Row) (n first : ℕ) (todo : List (List ℕ)) : Type 0 where
+  pub pre : List ℕ
+  pub plain : Plain todo
+  pub now : ws ≡ pre ++ (flatMap mark todo ++ rest)
+  pub whole : pre ++ flat todo ≡ flat f
+  pub begun : length pre ≡ first
+  pub count : n + length todo ≡ length f
+  pub used : first + words todo ≡ words f
+  pub hold : (R′ : ℕ → Row) → ((k : ℕ) → k < n → R′ k ≡ R k) → RowsAre R′ n (rowsFor (n + 1) first todo) → RowsAre R′ 0 (rowsFor 1 0 f)
 
 rows-cons : (R : ℕ → Row) (k : ℕ) (r : Row) (rs : List Row) → R k ≡ r → RowsAre R (k + 1) rs → RowsAre R k (r ∷ rs)
 unfolding RowsAre
 rows-cons R k r rs e t = (e, rw add-one at t)
 
-rows-nil : (R : ℕ → Row) (k : ℕ) → RowsAre R k []
-unfolding RowsAre
-rows-nil R k = tt
+rows-step : (R : ℕ → Row) (n first next : ℕ) (c : List ℕ) (cs : List (List ℕ)) → next ≡ first + length c → R n ≡ rowBetween n first next
+    → RowsAre R (n + 1) (rowsFor (n + 1 + 1) next cs)
+    → RowsAre R n (rowsFor (n + 1) first (c ∷ cs))
+unfolding rowsFor
+rows-step R n first next c cs g e t =
+    let k : next - first ≡ length c = omega arith in
+    let z : n + 1 + 1 ≡ suc (n + 1) = omega arith in
+    rows-cons R n _ _ (e ∙ ap (λ k. record { id = n + 1; first = first; len = k; live = 1 }) k) (rw (z, g) at t)
 
--- Between the words: n rows are there, the clause at hand began at first, i of end words are passed
-pub record Building (ws₀ ws : List ℕ) (cap : ℕ) (R : ℕ → Row) (end n first i : ℕ) : Type 0 where
-  pub few : n ≤ i
-  pub begun : first ≤ i
-  pub passed : i ≤ end
-  pub words : ws ≡ plainTo ws₀ i
-  pub count : n + length (rowsIn (n + 1) first i (slice i end ws₀)) ≡ length (rowsIn 1 0 0 (slice 0 end ws₀))
-  pub hold : length (rowsIn 1 0 0 (slice 0 end ws₀)) ≤ cap → (R′ : ℕ → Row) → ((k : ℕ) → k < n → R′ k ≡ R k)
-      → RowsAre R′ n (rowsIn (n + 1) first i (slice i end ws₀)) → RowsAre R′ 0 (rowsIn 1 0 0 (slice 0 end ws₀))
+regroup : (p f : List ℕ) (x : ℕ) (m r : List ℕ) → p ++ (((f ++ x ∷ []) ++ m) ++ r) ≡ (p ++ f) ++ x ∷ (m ++ r)
+regroup p f x m r = rw (append-assoc (f ++ x ∷ []) m r, append-snoc f x (m ++ r)) (sym (append-assoc p f (x ∷ (m ++ r))))
 
-pub build-start : (ws₀ : List ℕ) (cap : ℕ) (R : ℕ → Row) (end : ℕ) → Building ws₀ ws₀ cap R end 0 0 0
-build-start ws₀ cap R end =
+regroup-two : (p f : List ℕ) (x : ℕ) (r : List ℕ) → (p ++ (f ++ x ∷ [])) ++ r ≡ (p ++ f) ++ x ∷ r
+regroup-two p f x r = rw (append-assoc p (f ++ x ∷ []) r, append-snoc f x r) (sym (append-assoc p f (x ∷ r)))
+
+-- one clause more
+module _ (f : List (List ℕ)) (rest ws ws′ : List ℕ) (cap : ℕ) (R R′ : ℕ → Row) (n first end next : ℕ) (fits : length f ≤ cap) (to : end ≡ words f) (h : first < end)
+    (u : Unmarks ws ws′ first end next) (a : Appends cap R R′ n (rowBetween n first next)) where
+  module _ (pre c : List ℕ) (cs : List (List ℕ)) (e : Ended c) (now : ws ≡ pre ++ (flatMap mark (c ∷ cs) ++ rest)) (begun : length pre ≡ first) (used : first + words (c ∷ cs) ≡ words f) where
+    abbrev before : List ℕ
+    before = pre ++ e .front
+
+    abbrev behind : List ℕ
+    behind = flatMap mark cs ++ rest
+
+    long : length before ≡ first + length (e .front)
+    long = length-append pre (e .front) ∙ rw begun
+
+    size : length c ≡ length (e .front) + 1
+    size = ap length (e .is) ∙ length-append (e .front) (e .last ∷ [])
+
+    at-last : ws ≡ before ++ (e .last + 2147483648) ∷ behind
+    unfolding flatMap
+    at-last = now ∙ rw (e .marked) (regroup pre (e .front) (e .last + 2147483648) (flatMap mark cs) rest)
+
+    the-last : getD ws (length before) 0 ≡ e .last + 2147483648
+    the-last = rw at-last (getD-at before (e .last + 2147483648) behind 0 (length before) refl)
+
+    others : (j : ℕ) → first ≤ j → j < length before → getD ws j 0 < 2147483648
+    others j l k =
+        let g : j ≡ length pre + (j - first) = omega (arith, begun) in
+        let q : getD before j 0 ≡ getD (e .front) (j - first) 0 = ap (λ i. getD before i 0) g ∙ getD-append-add pre (e .front) (j - first) 0 in
+        rw (at-last, List·getD-append before ((e .last + 2147483648) ∷ behind) 0 j k, q) (e .small (j - first) (omega (arith, long)))
+
+    within : length before < end
+    unfolding words
+    within = omega (arith, long, size, used, to)
+
+    clause-ends : (ws′ ≡ set ws (length before) (getD ws (length before) 0 - 2147483648)) × (next ≡ length before + 1)
+    clause-ends = u .unmarked (length before) (omega (arith, long)) within (omega (arith, the-last)) others
+
+    next-is : next ≡ first + length c
+    next-is = clause-ends .1 ∙ omega (arith, long, size)
+
+    now-next : ws′ ≡ (pre ++ c) ++ behind
+    now-next =
+        let g : e .last + 2147483648 - 2147483648 ≡ e .last = omega arith in
+        clause-ends .0 ∙ rw (the-last, g, at-last, set-at before (e .last + 2147483648) behind (e .last) (length before) refl, e .is)
+        (sym (regroup-two pre (e .front) (e .last) behind))
+
+  next-parted : (todo : List (List ℕ)) → Parted f rest ws R n first todo → (cs : List (List ℕ)) × Parted f rest ws′ R′ (n + 1) next cs
+  unfolding flatMap words rowsFor
+  next-parted [] p = absurd (omega (arith, to, p .used))
+  next-parted ([] ∷ cs) p = absurd (p .plain)
+  next-parted ((l ∷ ls) ∷ cs) p =
+      let c : List ℕ = l ∷ ls in
+      let e = ended l ls (p .plain .0) in
+      let g = next-is (p .pre) c cs e (p .now) (p .begun) (p .used) in
+      let stored : R′ ≡ put R n (rowBetween n first next) = a .appends (omega (arith, p .count)) in (
+        cs,
+        record {
+          pre = p .pre ++ c;
+          plain = p .plain .1;
+          now = now-next (p .pre) c cs e (p .now) (p .begun) (p .used);
+          whole = append-assoc (p .pre) c (flat cs) ∙ p .whole;
+          begun = length-append (p .pre) c ∙ omega (arith, p .begun, g);
+          count = omega (arith, p .count);
+          used = omega (arith, g, p .used);
+          hold =
+              λ R″ same t.
+              p .hold R″ (λ k l. same k (omega arith) ∙ ap (λ q. q k) stored ∙ rw (ne-eqb k n (λ z. omega arith)))
+              (rows-step R″ n first next c cs g (same n (omega arith) ∙ ap (λ q. q n) stored ∙ rw (eq-eqb n n refl)) t);
+        },
+      )
+
+-- all clauses are passed
+last-parted : (f : List (List ℕ)) (rest ws : List ℕ) (R : ℕ → Row) (n first : ℕ) → words f ≤ first → (todo : List (List ℕ))
+    → Parted f rest ws R n first todo
+    → BuiltFor f rest ws R n
+unfolding flatMap words rowsFor RowsAre
+last-parted f rest ws R n first h [] p =
     record {
-      few = omega arith;
-      begun = omega arith;
-      passed = omega arith;
-      words = refl;
-      count = omega arith;
-      hold = λ h R′ s t. t;
+      unmarked = p .now ∙ ap (λ xs. xs ++ rest) (sym (append-nil (p .pre)) ∙ p .whole);
+      rows = p .hold R (λ k l. refl) tt;
+      count = omega (arith, p .count);
+    }
+last-parted f rest ws R n first h ([] ∷ cs) p = absurd (p .plain)
+last-parted f rest ws R n first h ((l ∷ ls) ∷ cs) p = absurd (omega (arith, p .used))
+
+-- Between the clauses, for whatever formula stands in the words
+pub record Building (ws₀ ws : List ℕ) (cap : ℕ) (R : ℕ → Row) (total n first : ℕ) : Type 0 where
+  pub parted : (f : List (List ℕ)) (rest : List ℕ) → Plain f → ws₀ ≡ flatMap mark f ++ rest → total ≡ words f → length f ≤ cap
+      → (todo : List (List ℕ)) × Parted f rest ws R n first todo
+
+pub build-start : (ws₀ : List ℕ) (cap : ℕ) (R : ℕ → Row) (total : ℕ) → Building ws₀ ws₀ cap R total 0 0
+build-start ws₀ cap R total =
+    record {
+      parted =
+          λ f rest p e t fits. (
+            f,
+            record {
+              pre = [];
+              plain = p;
+              now = e;
+              whole = refl;
+              begun = refl;
+              count = omega arith;
+              used = omega arith;
+              hold = λ R′ same rows. rows;
+            },
+          );
     }
 
-module _ (ws₀ ws : List ℕ) (cap : ℕ) (R : ℕ
-    → Row) (end n first i : ℕ) (b : Building ws₀ ws cap R end n first i) (h : i < end) (k : end ≤ length ws₀) where
-  pub build-unmarked : getD ws i 0 < 2147483648 → Building ws₀ ws cap R end n first (i + 1)
-  build-unmarked m =
-      let m₀ : getD ws₀ i 0 < 2147483648 = rw (word-is ws₀ ws i (omega arith) (b .words)) at m in
-      let e = rows-unmarked (n + 1) first i ws₀ end h k m₀ in
+module _ (ws₀ ws : List ℕ) (cap : ℕ) (R : ℕ → Row) (total end n first : ℕ) (b : Building ws₀ ws cap R total n first) (to : total ≤ length ws₀ → end ≡ total) where
+  -- the words of the formula stand before the end
+  reaches : (f : List (List ℕ)) (rest : List ℕ) → ws₀ ≡ flatMap mark f ++ rest → total ≡ words f → end ≡ words f
+  reaches f rest e t = to (rw (e, length-append, length-marks, t) (omega arith)) ∙ t
+
+  pub build-next : (ws′ : List ℕ) (R′ : ℕ → Row) (next : ℕ) → first < end → Unmarks ws ws′ first end next
+      → Appends cap R R′ n (rowBetween n first next)
+      → Building ws₀ ws′ cap R′ total (n + 1) next
+  build-next ws′ R′ next h u a =
       record {
-        few = omega (arith, b .few);
-        begun = omega (arith, b .begun);
-        passed = omega arith;
-        words = words-unmarked ws₀ ws i (omega arith) (b .words) m;
-        count = rw (← e) (b .count);
-        hold = rw (← e) (b .hold);
+        parted =
+            λ f rest p e t fits.
+            let now = b .parted f rest p e t fits in
+            next-parted f rest ws ws′ cap R R′ n first end next fits (reaches f rest e t) h u a (now .0) (now .1);
       }
 
-  pub build-marked : (R′ : ℕ → Row) (row : Row) → 2147483648 ≤ getD ws i 0
-      → row ≡ record { id = n + 1; first = first; len = i + 1 - first; live = 1 } → (n < cap → R′ ≡ put R n row)
-      → Building ws₀ (set ws i (getD ws i 0 - 2147483648)) cap R′ end (n + 1) (i + 1) (i + 1)
-  build-marked R′ row m r a =
-      let m₀ : 2147483648 ≤ getD ws₀ i 0 = rw (word-is ws₀ ws i (omega arith) (b .words)) at m in
-      let e = rows-marked (n + 1) first i ws₀ end h k m₀ in
+  pub build-end : end ≤ first → Built ws₀ ws cap R total n
+  build-end h =
       record {
-        few = omega (arith, b .few);
-        begun = omega arith;
-        passed = omega arith;
-        words = words-marked ws₀ ws i (omega arith) (b .words) m;
-        count = omega (arith, b .count ∙ refl, ap length e);
-        hold =
-            λ c R″ same t.
-            let l : n < cap = omega (arith, b .count, ap length e) in
-            b .hold c R″ (λ j g. same j (omega arith) ∙ ap (λ f. f j) (a l) ∙ rw (ne-eqb j n (λ z. omega arith)))
-            (rw e (rows-cons R″ n _ _ (same n (omega arith) ∙ ap (λ f. f n) (a l) ∙ rw (eq-eqb n n refl, r)) t));
+        built =
+            λ f rest p e t fits.
+            let now = b .parted f rest p e t fits in
+            last-parted f rest ws R n first (omega (arith, reaches f rest e t)) (now .0) (now .1);
       }
-
--- what the rows of marked clauses are
-module _ (id first : ℕ) (ws : List ℕ) where
-  rows-clause : (i l : ℕ) (ls : List ℕ) → first ≤ i → Small (l ∷ ls)
-      → rowsIn id first i (mark (l ∷ ls) ++ ws)
-      ≡ record { id = id; first = first; len = i + length (l ∷ ls) - first; live = 1 } ∷ rowsIn (suc id) (i + length (l ∷ ls))
-      (i + length (l ∷ ls)) ws
-  unfolding rowsIn mark
-  rows-clause i l [] h s =
-      let e : suc i ≡ i + 1 = omega arith in rw (le-leb 2147483648 (l + 2147483648) (omega arith), e)
-  rows-clause i l (k ∷ ks) h s =
-      let e : suc i + suc (length ks) ≡ i + suc (suc (length ks)) = omega arith in
-      rw (lt-leb 2147483648 l (s .0)) (rows-clause (suc i) k ks (omega arith) (s .1) ∙ rw e)
-
-plain-clause : (l : ℕ) (ls : List ℕ) → Small (l ∷ ls) → map plain (mark (l ∷ ls)) ≡ l ∷ ls
-unfolding plain mark
-plain-clause l [] s = let e : l + 2147483648 - 2147483648 ≡ l = omega arith in
-    rw (le-leb 2147483648 (l + 2147483648) (omega arith), e)
-plain-clause l (k ∷ ks) s = rw (lt-leb 2147483648 l (s .0), plain-clause k ks (s .1))
-
-rows-marks : (id first : ℕ) (f : List (List ℕ)) → Plain f → rowsIn id first first (flatMap mark f) ≡ rowsFor id first f
-unfolding rowsIn rowsFor flatMap
-rows-marks id first [] p = refl
-rows-marks id first ([] ∷ cs) p = absurd p
-rows-marks id first ((l ∷ ls) ∷ cs) p =
-    let e : first + suc (length ls) - first ≡ suc (length ls) = omega arith in
-    rows-clause id first (flatMap mark cs) first l ls (omega arith) (p .0)
-    ∙ rw (e, rows-marks (suc id) (first + suc (length ls)) cs (p .1))
-
-plain-marks : (f : List (List ℕ)) → Plain f → map plain (flatMap mark f) ≡ flat f
-unfolding flatMap
-plain-marks [] p = refl
-plain-marks ([] ∷ cs) p = absurd p
-plain-marks ((l ∷ ls) ∷ cs) p = rw (map-append, plain-clause l ls (p .0), plain-marks cs (p .1))
-
-length-rows : (id first : ℕ) (f : List (List ℕ)) → length (rowsFor id first f) ≡ length f
-unfolding rowsFor
-length-rows id first [] = refl
-length-rows id first (c ∷ cs) = ap suc (length-rows (suc id) (first + length c) cs)
-
--- all words are passed
-module _ (f : List (List ℕ)) (rest ws₀ ws : List ℕ) (cap : ℕ) (R : ℕ
-    → Row) (total end n first i : ℕ) (b : Building ws₀ ws cap R end n first i) (h : end ≤ i) where
-  pub build-end : Plain f → ws₀ ≡ flatMap mark f ++ rest → total ≡ words f → (total ≤ length ws₀ → end ≡ total) → length f ≤ cap
-      → BuiltFor f rest ws R n
-  build-end p e t to fits =
-      let long : length (flatMap mark f) ≡ words f = length-marks f in
-      let room : total ≤ length ws₀ = rw (e, length-append, length-marks) (omega arith) in
-      let z : i ≡ words f = omega (arith, to room, b .passed) in
-      let y : end ≡ words f = omega (arith, to room) in
-      let none : slice i end ws₀ ≡ [] = slice-past ws₀ i end h in
-      let first-words : (k : ℕ) → k ≡ words f → take k ws₀ ≡ flatMap mark f =
-      λ k q. rw (e, q) (take-at (flatMap mark f) rest (words f) long) in
-      let back : drop i ws₀ ≡ rest = rw (e, z) (drop-at (flatMap mark f) rest (words f) long) in
-      let all : rowsIn 1 0 0 (slice 0 end ws₀) ≡ rowsFor 1 0 f = rw (first-words end y) (rows-marks 1 0 f p) in
-      let full : length (rowsIn 1 0 0 (slice 0 end ws₀)) ≡ length f = ap length all ∙ length-rows 1 0 f in
-      let last : RowsAre R n (rowsIn (n + 1) first i (slice i end ws₀)) = rw none (hold-done n first i) in
-      record {
-        unmarked = b .words ∙ rw (back, first-words i z, plain-marks f p);
-        rows = rw (← all) (b .hold (omega arith) R (λ k l. refl) last);
-        count = omega (arith, b .count, full, ap length (ap (rowsIn (n + 1) first i) none ∙ rows-done n first i));
-      }
-    where
-      rows-done : (n first i : ℕ) → rowsIn (n + 1) first i [] ≡ []
-      rows-done n first i = rows-none (n + 1) first i
-
-      hold-done : (n first i : ℕ) → RowsAre R n (rowsIn (n + 1) first i [])
-      hold-done n first i = rw (rows-none (n + 1) first i) (rows-nil R n)
-
-pub build-length : {ws₀ ws : List ℕ} {cap : ℕ} {R : ℕ → Row} {end n first i : ℕ} → Building ws₀ ws cap R end n first i
-    → end ≤ length ws₀
-    → length ws ≡ length ws₀
-build-length {ws₀} {ws} {cap} {R} {end} {n} {first} {i} b h =
-    ap length (b .words)
-    ∙ rw (length-append, length-map, length-take-le i ws₀ (omega (arith, b .passed)), length-drop) (omega (arith, b .passed))

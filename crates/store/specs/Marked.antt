@@ -1,8 +1,8 @@
 -- Clauses in the words, the last word of each marked, and the rows that are made of them.
 use mathlib.Core.Path.{_≡_, refl, ap, _∙_}
 use mathlib.Core.List.{List, [], _∷_, _++_, flatMap}
-use Prim.Native.Nat.{ℕ, suc, _+_, _≤_}
-use lib.ListN.{length, length-append}
+use Prim.Native.Nat.{ℕ, suc, _+_, _-_, _≤_, _<_}
+use lib.ListN.{length, length-append, getD, set}
 use Rattle.scope.specs.Formula.{words}
 unfoldable pub use Rattle.sink.specs.Block.{mark}
 pub use Rattle.sink.specs.Block.{Small, Plain}
@@ -33,6 +33,17 @@ rowsFor id first (c ∷ cs) = record { id = id; first = first; len = length c; l
 unfoldable pub RowsAre : (ℕ → Row) → ℕ → List Row → Type 0
 RowsAre R k [] = Unit
 RowsAre R k (r ∷ rs) = (R k ≡ r) × RowsAre R (suc k) rs
+
+-- the row of the clause that comes after n others, in the words from first to next
+abbrev pub rowBetween : ℕ → ℕ → ℕ → Row
+rowBetween n first next = record { id = n + 1; first = first; len = next - first; live = 1 }
+
+-- the first marked word from first on, before the end, loses its mark
+pub record Unmarks (ws ws′ : List ℕ) (first end next : ℕ) : Type 0 where
+  pub onward : first < end → (first < next) × (next ≤ end)
+  pub unmarked : (k : ℕ) → first ≤ k → k < end → 2147483648 ≤ getD ws k 0
+      → ((j : ℕ) → first ≤ j → j < k → getD ws j 0 < 2147483648)
+      → (ws′ ≡ set ws k (getD ws k 0 - 2147483648)) × (next ≡ k + 1)
 
 -- what the building of the directory leaves, for clauses that stand marked in the words
 pub record BuiltFor (f : List (List ℕ)) (rest ws′ : List ℕ) (R : ℕ → Row) (n : ℕ) : Type 0 where

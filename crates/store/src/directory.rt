@@ -1,12 +1,14 @@
-// The directory: a row for each clause, in ascending order of their ids. A row is four numbers: the clause's id, its first
-// word, its length, and 1 as long as it is live. No other function but the loop that drives a check takes the directory.
+// The directory: a row for each clause, in ascending order of their ids. No other function but the loop that drives a check
+// takes the directory.
 ghost use mathlib.Core.Path.{_≡_};
-ghost use Prim.Native.Nat.{_*_, _+_, _≤_, _<_};
+ghost use Prim.Native.Nat.{_≤_, _<_};
 ghost use lib.ListN.{length, replicate};
-ghost use Rattle.store.specs.Rows.{Started, Narrowed, Finds, Dies, Appends};
+ghost use Rattle.store.specs.Rows.{noRow, Started, Narrowed, Finds, Dies, Appends};
 ghost use Rattle.store.specs.Directory.{rowsOf, capacity};
-ghost use Rattle.store.specs.Marked.{Built};
+ghost use Rattle.store.specs.Marked.{Unmarks, rowBetween, Built};
 
+// A clause's id, its first word, its length, and 1 as long as it is live.
+#[repr(C)]
 pub struct Row {
     pub id: usize,
     pub first: usize,
@@ -20,24 +22,6 @@ pub struct Probe {
     pub hi: usize,
     pub at: usize,
     pub hit: Row,
-}
-
-// The row i, which is there.
-fn row_at(rows: &[usize], i: usize) -> Row
-    requires { ⌜ i < capacity (now rows) ⌝ }
-    ensures { λ r. ⌜ r ≡ rowsOf (now (rows .entry)) i ⌝ }
-{
-    let k = 4 * i;
-    let id = rows[k];
-    let first = rows[k + 1];
-    let len = rows[k + 2];
-    let live = rows[k + 3];
-    Row {
-        id,
-        first,
-        len,
-        live,
-    }
 }
 
 // A search for an id in n rows: the first look is at row id - 1, which has the id where no id was left out.
@@ -117,75 +101,98 @@ fn least(a: usize, b: usize) -> usize
 }
 
 // The row with an id among the first n; where there is none, the row that is found is not live.
-pub fn find(rows: &[usize], n: usize, id: usize) -> Probe
+pub fn find(rows: &[Row], n: usize, id: usize) -> Probe
     ensures { λ r. ⌜ Finds (capacity (now (rows .entry))) (rowsOf (now (rows .entry))) n id r ⌝ }
 {
-    let mut s = start(least(n, rows.len() / 4), id);
+    let mut s = start(least(n, rows.len()), id);
     while s.lo < s.hi {
-        let row = row_at(rows, s.at);
+        let row = rows[s.at];
         s = narrow(s, row, id);
     }
     s
 }
 
 // The row i is no longer live.
-pub fn mark_dead(rows: &mut [usize], i: usize)
+pub fn mark_dead(rows: &mut [Row], i: usize)
     ensures { λ _. ⌜ Dies (capacity (now (rows .entry))) (rowsOf (now (rows .entry))) (rowsOf (now (rows .exit))) i ⌝ }
 {
-    if i < rows.len() / 4 {
-        rows[4 * i + 3] = 0;
+    if rows.len() <= i {
+        return;
     }
+    rows[i].live = 0;
 }
 
 // A row after the first n.
-pub fn append(rows: &mut [usize], n: usize, row: Row)
+pub fn append(rows: &mut [Row], n: usize, row: Row)
     ensures { λ _. ⌜ Appends (capacity (now (rows .entry))) (rowsOf (now (rows .entry))) (rowsOf (now (rows .exit))) n row ⌝ }
 {
-    if n < rows.len() / 4 {
-        let k = 4 * n;
-        rows[k] = row.id;
-        rows[k + 1] = row.first;
-        rows[k + 2] = row.len;
-        rows[k + 3] = row.live;
+    if rows.len() <= n {
+        return;
     }
+    rows[n] = row;
 }
 
-// The rows of the clauses in the first total words, where each clause's last word is marked by 2^31; the words are then as
-// they were before they were marked. The clauses have the ids 1, 2, .. in turn. How many they are.
-pub fn build_directory(words: &mut [u32], rows: &mut [usize], total: usize) -> usize
-    ensures { λ r. ⌜ Built (now (words .entry)) (now (words .exit)) (capacity (now (rows .entry))) (rowsOf (now (rows .exit))) total r ⌝ }
+// The words from first on are passed up to one that is marked by 2^31, whose mark is taken off. Where what follows it stands.
+fn unmark(words: &mut [u32], first: usize, end: usize) -> usize
+    requires { ⌜ end ≤ length (now words) ⌝ }
+    ensures { λ r. ⌜ Unmarks (now (words .entry)) (now (words .exit)) first end r ⌝ }
 {
-    let end = least(total, words.len());
-    let mut n = 0;
-    let mut first = 0;
-    let mut i = 0;
+    let mut i = first;
     while i < end {
         let w = words[i];
         let next = i + 1;
         if 2147483648 <= w {
             words[i] = w - 2147483648;
-            let row = Row {
-                id: n + 1,
-                first,
-                len: next - first,
-                live: 1,
-            };
-            append(rows, n, row);
-            n += 1;
-            first = next;
+            return next;
         }
         i = next;
+    }
+    end
+}
+
+// The row of the clause that comes after n others, in the words from first to next.
+fn row_between(n: usize, first: usize, next: usize) -> Row
+    requires { ⌜ (n ≤ first) × (first < next) ⌝ }
+    ensures { λ r. ⌜ r ≡ rowBetween n first next ⌝ }
+{
+    Row {
+        id: n + 1,
+        first,
+        len: next - first,
+        live: 1,
+    }
+}
+
+// The rows of the clauses in the first total words, where each clause's last word is marked by 2^31; the words are then as
+// they were before they were marked. The clauses have the ids 1, 2, .. in turn. How many they are.
+pub fn build_directory(words: &mut [u32], rows: &mut [Row], total: usize) -> usize
+    ensures { λ r. ⌜ Built (now (words .entry)) (now (words .exit)) (capacity (now (rows .entry))) (rowsOf (now (rows .exit))) total r ⌝ }
+{
+    let end = least(total, words.len());
+    let mut n = 0;
+    let mut first = 0;
+    while first < end {
+        let next = unmark(words, first, end);
+        append(rows, n, row_between(n, first, next));
+        n += 1;
+        first = next;
     }
     n
 }
 
 // Every row is 0.
-pub fn clear_rows(rows: &mut [usize])
-    ensures { λ _. ⌜ now (rows .exit) ≡ replicate (length (now (rows .entry))) 0 ⌝ }
+pub fn clear_rows(rows: &mut [Row])
+    ensures { λ _. ⌜ now (rows .exit) ≡ replicate (length (now (rows .entry))) noRow ⌝ }
 {
+    let none = Row {
+        id: 0,
+        first: 0,
+        len: 0,
+        live: 0,
+    };
     let mut i = 0;
     while i < rows.len() {
-        rows[i] = 0;
+        rows[i] = none;
         i += 1;
     }
 }

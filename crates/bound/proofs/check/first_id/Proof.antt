@@ -3,8 +3,8 @@ use borrow.Author.Needs.{needs}
 use Rattle.bound.proofs.check.first_id.Statement.{statement}
 use Rattle.bound.proofs.check.first_id.Tie as tie
 
-number-at-requires : tie.Need-number-at-requires
-number-at-requires c κs = search needs
+number-in-requires : tie.Need-number-in-requires
+number-in-requires c κs = search needs
 
 enum-known-t : tie.Need-enum-known-t
 enum-known-t c = search needs
@@ -18,7 +18,7 @@ stop-requires c κs = search needs
 returns : tie.Need-returns
 returns c =
     let a = c .before .before .before .before .before .args in
-    rw (no-value-at (a .proof .now) (a .at) (c .before .before .before .number-at .result) (c .before .before .before .number-at .ensures) (c .before .enum-told .given .1)) (c .stop .ensures)
+    rw (no-value-at (a .proof .now) (a .at) (c .before .before .before .number-in .result) (c .before .before .before .number-in .ensures) (c .before .enum-told .given .1)) (c .stop .ensures)
 
 step-on-requires : tie.Need-step-on-requires
 step-on-requires c κs = search needs
@@ -26,13 +26,13 @@ step-on-requires c κs = search needs
 returns-2 : tie.Need-returns-2
 returns-2 c =
     let a = c .before .before .before .before .before .before .args in
-    rw (value-at (a .proof .now) (a .at) (c .before .before .before .before .number-at .result) (c .before .before .before .before .number-at .ensures) (c .before .before .t .given .1)) (c .step-on .ensures)
+    rw (value-at (a .proof .now) (a .at) (c .before .before .before .before .number-in .result) (c .before .before .before .before .number-in .ensures) (c .before .before .t .given .1)) (c .step-on .ensures)
 
 pub first-id-spec : {M : Type 1} → statement M
 first-id-spec =
     tie.close
     (tie.spec
-    number-at-requires
+    number-in-requires
     enum-known-t
     enum-told
     stop-requires

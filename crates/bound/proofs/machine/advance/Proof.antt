@@ -11,7 +11,7 @@ use Rattle.bound.proofs.machine.advance.Tie as tie
 -- the number that was read
 read : (c : tie.After-known-told)
     → number (c .before .before .before .before .before .before .before .before .before .args .proof .now) (c .before .before .before .before .before .before .before .before .before .args .m .at) ≡ got (c .before .t .given .0 .0) (c .before .t .given .0 .1 .0)
-read c = value-at (c .before .before .before .before .before .before .before .before .before .args .proof .now) (c .before .before .before .before .before .before .before .before .before .args .m .at) (c .before .before .before .number-at .result) (c .before .before .before .number-at .ensures) (c .before .t .given .1)
+read c = value-at (c .before .before .before .before .before .before .before .before .before .args .proof .now) (c .before .before .before .before .before .before .before .before .before .args .m .at) (c .before .before .before .number-in .result) (c .before .before .before .number-in .ensures) (c .before .t .given .1)
 
 stop-requires : tie.Need-stop-requires
 stop-requires c κs = search needs
@@ -19,8 +19,8 @@ stop-requires c κs = search needs
 returns : tie.Need-returns
 returns c = gone (c .before .if1 .taken) (c .stop .ensures)
 
-number-at-requires : tie.Need-number-at-requires
-number-at-requires c κs = search needs
+number-in-requires : tie.Need-number-in-requires
+number-in-requires c κs = search needs
 
 enum-known-t : tie.Need-enum-known-t
 enum-known-t c = search needs
@@ -34,7 +34,7 @@ stop-requires-2 c κs = search needs
 returns-2 : tie.Need-returns-2
 returns-2 c =
     let a = c .before .before .before .before .before .before .before .before .before .args in
-    broken _ _ (no-value-at (a .proof .now) (a .m .at) (c .before .before .before .number-at .result) (c .before .before .before .number-at .ensures) (c .before .enum-told .given .1))
+    broken _ _ (no-value-at (a .proof .now) (a .m .at) (c .before .before .before .number-in .result) (c .before .before .before .number-in .ensures) (c .before .enum-told .given .1))
     (c .stop2 .ensures)
 
 enum-told-2 : tie.Need-enum-told-2
@@ -112,7 +112,7 @@ advance-spec =
     (tie.spec
     stop-requires
     returns
-    number-at-requires
+    number-in-requires
     enum-known-t
     enum-told
     stop-requires-2

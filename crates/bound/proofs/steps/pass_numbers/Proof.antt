@@ -22,13 +22,13 @@ abbrev μ-loop : tie.MeasureT-loop
 -- the number that was read
 read : (c : tie.After-known-told Inv-loop μ-loop)
     → number (c .before .before .before .before .before .before .args .proof .now) (c .before .before .before .before .loop .i) ≡ got (c .before .t .given .0 .0) (c .before .t .given .0 .1 .0)
-read c = value-at (c .before .before .before .before .before .before .args .proof .now) (c .before .before .before .before .loop .i) (c .before .before .before .number-at .result) (c .before .before .before .number-at .ensures) (c .before .t .given .1)
+read c = value-at (c .before .before .before .before .before .before .args .proof .now) (c .before .before .before .before .loop .i) (c .before .before .before .number-in .result) (c .before .before .before .number-in .ensures) (c .before .t .given .1)
 
 loop-holds : tie.Need-loop-holds Inv-loop μ-loop
 loop-holds c = λ r h. h
 
-number-at-requires : tie.Need-number-at-requires Inv-loop μ-loop
-number-at-requires c κs = search needs
+number-in-requires : tie.Need-number-in-requires Inv-loop μ-loop
+number-in-requires c κs = search needs
 
 enum-known-t : tie.Need-enum-known-t Inv-loop μ-loop
 enum-known-t c = search needs
@@ -40,7 +40,7 @@ returns : tie.Need-returns Inv-loop μ-loop
 returns c =
     let s = c .before .before .before .before .before .args .proof .now in
     c .before .before .before .loop .inv _
-    (passes-cut s (c .before .before .before .loop .i) _ _ (no-value-at s (c .before .before .before .loop .i) (c .before .before .number-at .result) (c .before .before .number-at .ensures) (c .enum-told .given .1)))
+    (passes-cut s (c .before .before .before .loop .i) _ _ (no-value-at s (c .before .before .before .loop .i) (c .before .before .number-in .result) (c .before .before .number-in .ensures) (c .enum-told .given .1)))
 
 returns-2 : tie.Need-returns-2 Inv-loop μ-loop
 returns-2 c =
@@ -60,7 +60,7 @@ pass-numbers-spec =
     Inv-loop
     μ-loop
     loop-holds
-    number-at-requires
+    number-in-requires
     enum-known-t
     enum-told
     returns

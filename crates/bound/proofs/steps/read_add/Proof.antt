@@ -11,10 +11,10 @@ use Rattle.bound.proofs.steps.read_add.Tie as tie
 read : (c : tie.After-wide) → number (c .before .before .before .before .before .before .before .args .proof .now) (c .before .before .before .before .before .before .before .args .at) ≡ got (c .wide .result) (c .before .before .t .given .0 .1 .0)
 read c =
     rw (c .wide .ensures)
-    (value-at (c .before .before .before .before .before .before .before .args .proof .now) (c .before .before .before .before .before .before .before .args .at) (c .before .before .before .before .number-at .result) (c .before .before .before .before .number-at .ensures) (c .before .before .t .given .1))
+    (value-at (c .before .before .before .before .before .before .before .args .proof .now) (c .before .before .before .before .before .before .before .args .at) (c .before .before .before .before .number-in .result) (c .before .before .before .before .number-in .ensures) (c .before .before .t .given .1))
 
-number-at-requires : tie.Need-number-at-requires
-number-at-requires c κs = search needs
+number-in-requires : tie.Need-number-in-requires
+number-in-requires c κs = search needs
 
 enum-known-t : tie.Need-enum-known-t
 enum-known-t c = search needs
@@ -26,7 +26,7 @@ returns : tie.Need-returns
 returns c =
     let a = c .before .before .before .before .before .args in
     add-none (a .proof .now) (a .at) (a .highest) (a .last) (a .marks .now) _ _
-    (no-value-at (a .proof .now) (a .at) (c .before .before .number-at .result) (c .before .before .number-at .ensures) (c .enum-told .given .1))
+    (no-value-at (a .proof .now) (a .at) (c .before .before .number-in .result) (c .before .before .number-in .ensures) (c .enum-told .given .1))
 
 wide-requires : tie.Need-wide-requires
 wide-requires c κs = search needs
@@ -85,7 +85,7 @@ pub read-add-spec : {M : Type 1} → statement M
 read-add-spec =
     tie.close
     (tie.spec
-    number-at-requires
+    number-in-requires
     enum-known-t
     enum-told
     returns

@@ -8,13 +8,13 @@ use Rattle.store.proofs.clauses.clear_words.Statement.{statement}
 use Rattle.store.proofs.clauses.clear_words.Tie as tie
 
 abbrev Inv-loop : tie.InvT-loop
-Inv-loop words₀ i₀ words i = (i ≤ length words₀) × (words ≡ clearedTo words₀ i)
+Inv-loop words₀ i₀ words i = (i ≤ length words₀) × (words ≡ clearedTo 0 words₀ i)
 
 abbrev μ-loop : tie.MeasureT-loop
 μ-loop words₀ i₀ words i = length words₀ - i
 
 length-kept : (c : tie.At-loop Inv-loop μ-loop) → length (c .loop .words) ≡ length (c .before .args .words .now)
-length-kept c = clear-length (c .before .args .words .now) (c .loop .words) (c .loop .i) (c .loop .inv .0) (c .loop .inv .1)
+length-kept c = clear-length 0 (c .before .args .words .now) (c .loop .words) (c .loop .i) (c .loop .inv .0) (c .loop .inv .1)
 
 loop-holds : tie.Need-loop-holds Inv-loop μ-loop
 loop-holds c = (omega arith, refl)
@@ -34,7 +34,7 @@ loop-less c = omega (arith, length-kept (c .before))
 loop-again : tie.Need-loop-again Inv-loop μ-loop
 loop-again c = (
   omega (arith, length-kept (c .before)),
-  clear-next (c .before .before .args .words .now) (c .before .loop .words) (c .before .loop .i) (omega (arith, length-kept (c .before))) (c .before .loop .inv .1),
+  clear-next 0 (c .before .before .args .words .now) (c .before .loop .words) (c .before .loop .i) (omega (arith, length-kept (c .before))) (c .before .loop .inv .1),
 )
 
 same-length : tie.Need-same-length Inv-loop μ-loop
@@ -42,7 +42,7 @@ same-length c = length-kept (c .before)
 
 returns : tie.Need-returns Inv-loop μ-loop
 returns c =
-    clear-end (c .before .before .args .words .now) (c .before .loop .words) (c .before .loop .i) (c .before .loop .inv .0) (omega (arith, length-kept (c .before)))
+    clear-end 0 (c .before .before .args .words .now) (c .before .loop .words) (c .before .loop .i) (c .before .loop .inv .0) (omega (arith, length-kept (c .before)))
     (c .before .loop .inv .1)
 
 pub clear-words-spec : {M : Type 1} → statement M

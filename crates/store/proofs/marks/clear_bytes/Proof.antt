@@ -8,13 +8,13 @@ use Rattle.store.proofs.marks.clear_bytes.Statement.{statement}
 use Rattle.store.proofs.marks.clear_bytes.Tie as tie
 
 abbrev Inv-loop : tie.InvT-loop
-Inv-loop bytes₀ i₀ bytes i = (i ≤ length bytes₀) × (bytes ≡ clearedTo bytes₀ i)
+Inv-loop bytes₀ i₀ bytes i = (i ≤ length bytes₀) × (bytes ≡ clearedTo 0 bytes₀ i)
 
 abbrev μ-loop : tie.MeasureT-loop
 μ-loop bytes₀ i₀ bytes i = length bytes₀ - i
 
 length-kept : (c : tie.At-loop Inv-loop μ-loop) → length (c .loop .bytes) ≡ length (c .before .args .bytes .now)
-length-kept c = clear-length (c .before .args .bytes .now) (c .loop .bytes) (c .loop .i) (c .loop .inv .0) (c .loop .inv .1)
+length-kept c = clear-length 0 (c .before .args .bytes .now) (c .loop .bytes) (c .loop .i) (c .loop .inv .0) (c .loop .inv .1)
 
 loop-holds : tie.Need-loop-holds Inv-loop μ-loop
 loop-holds c = (omega arith, refl)
@@ -31,7 +31,7 @@ loop-less c = omega (arith, length-kept (c .before))
 loop-again : tie.Need-loop-again Inv-loop μ-loop
 loop-again c = (
   omega (arith, length-kept (c .before)),
-  clear-next (c .before .before .args .bytes .now) (c .before .loop .bytes) (c .before .loop .i) (omega (arith, length-kept (c .before))) (c .before .loop .inv .1),
+  clear-next 0 (c .before .before .args .bytes .now) (c .before .loop .bytes) (c .before .loop .i) (omega (arith, length-kept (c .before))) (c .before .loop .inv .1),
 )
 
 same-length : tie.Need-same-length Inv-loop μ-loop
@@ -39,7 +39,7 @@ same-length c = length-kept (c .before)
 
 returns : tie.Need-returns Inv-loop μ-loop
 returns c =
-    clear-end (c .before .before .args .bytes .now) (c .before .loop .bytes) (c .before .loop .i) (c .before .loop .inv .0) (omega (arith, length-kept (c .before)))
+    clear-end 0 (c .before .before .args .bytes .now) (c .before .loop .bytes) (c .before .loop .i) (c .before .loop .inv .0) (omega (arith, length-kept (c .before)))
     (c .before .loop .inv .1)
 
 pub clear-bytes-spec : {M : Type 1} → statement M
