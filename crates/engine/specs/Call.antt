@@ -18,3 +18,7 @@ called (refusal k v) written before = record { number = k; value = v; outputs = 
 abbrev pub leaving : {B : Type 0} → Answer ℕ → B → Call B
 leaving (answered n) outputs = record { number = 0; value = n; outputs = outputs }
 leaving (refusal k v) outputs = record { number = k; value = v; outputs = outputs }
+
+-- and no other output
+abbrev pub alone : Answer ℕ → Call Unit
+alone a = leaving a tt

@@ -8,7 +8,8 @@ use Rattle.scope.specs.declared.InstanceSize.{InstanceSize}
 use Rattle.scope.specs.declared.FormulaSize.{FormulaSize}
 use Rattle.scope.specs.declared.Infeasibility.{Infeasibility}
 use Rattle.scope.specs.declared.Objective.{Objective}
-use Rattle.store.specs.Directory.{capacity}
+use Rattle.store.specs.declared.directory.Row.{Row}
+use Rattle.store.specs.Rows.{noRow}
 use Rattle.engine.specs.Call.{Call, called}
 
 -- times, events, resources, groups and constraints
@@ -65,16 +66,20 @@ decodeCall file model objective = called (decodeOf file model) decodedOf objecti
 
 -- words, rows and marks
 abbrev pub Stores : Type 0
-Stores = List ℕ × List ℕ × List ℕ
+Stores = List ℕ × List Row × List ℕ
 
 abbrev pub lentBy : Stores → Lent
-lentBy s = record { words = length (s .0); rows = capacity (s .1); bytes = length (s .2) }
+lentBy s = record { words = length (s .0); rows = length (s .1); bytes = length (s .2) }
 
 abbrev pub zeros : List ℕ → List ℕ
 zeros xs = replicate (length xs) 0
 
+-- as many rows, each of four zeros
+abbrev pub zeroRows : List Row → List Row
+zeroRows rs = replicate (length rs) noRow
+
 abbrev pub zeroed : Stores → Stores
-zeroed s = (zeros (s .0), zeros (s .1), zeros (s .2))
+zeroed s = (zeros (s .0), zeroRows (s .1), zeros (s .2))
 
 -- checking a bound proof: *value is the number of steps; the stores are zero, accepted or refused
 abbrev pub checkCall : List ℕ → ℕ → List ℕ → Stores → Call Stores

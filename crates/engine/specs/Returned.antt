@@ -9,9 +9,10 @@ use Rattle.scope.specs.Answers.{textMeans, checkMeans}
 use Rattle.scope.specs.declared.Refusal.{Refusal}
 use Rattle.scope.specs.declared.TextAnswer.{TextAnswer}
 use Rattle.scope.specs.declared.CheckAnswer.{CheckAnswer}
+use Rattle.store.specs.declared.directory.Row.{Row}
 use Rattle.text.specs.Written.{written}
-use Rattle.engine.specs.Call.{Call, called, leaving}
-use Rattle.engine.specs.Operations.{textCall, Stores, lentBy, zeros, zeroed, checkCall}
+use Rattle.engine.specs.Call.{Call, called, leaving, alone}
+use Rattle.engine.specs.Operations.{textCall, Stores, lentBy, zeros, zeroRows, zeroed, checkCall}
 
 -- the text: its length or a refusal, and the output
 written-leaves : (a : Answer (List ℕ)) (out : List ℕ)
@@ -35,15 +36,28 @@ zeroed-leaves : (a : Answer ℕ) (s : Stores) → leaving a (zeroed s) ≡ calle
 zeroed-leaves (answered n) s = refl
 zeroed-leaves (refusal k v) s = refl
 
-module _ (file : List ℕ) (B : ℕ) (proof : List ℕ) (ws rs ms : List ℕ) (x : CheckAnswer) {words rows marks : List ℕ}
-    (e : checkMeans x ≡ checkOf file B proof (lentBy (ws, rs, ms))) (w : words ≡ zeros ws) (r : rows ≡ zeros rs) (m : marks ≡ zeros ms) where
+-- the number and the value of an answer
+module _ {x : CheckAnswer} where
+  pub told-shown : {n : ℕ} → x ≡ CheckAnswer.NoTimetable n → record { number = 0; value = n; outputs = tt } ≡ alone (checkMeans x)
+  told-shown t = rw t refl
+
+  pub told-refused : {f : Refusal} → x ≡ CheckAnswer.Refused f → record { number = f .number; value = f .value; outputs = tt } ≡ alone (checkMeans x)
+  told-refused t = rw t refl
+
+-- and other outputs beside them
+with-outputs : {B : Type 0} (a : Answer ℕ) (outputs : B) {number value : ℕ} → record { number = number; value = value; outputs = tt } ≡ alone a
+    → record { number = number; value = value; outputs = outputs } ≡ leaving a outputs
+with-outputs a outputs e = ap (λ (c : Call Unit). record { number = c .number; value = c .value; outputs = outputs }) e ∙ go a
+  where
+    go : (a : Answer ℕ) → record { number = alone a .number; value = alone a .value; outputs = outputs } ≡ leaving a outputs
+    go (answered n) = refl
+    go (refusal k v) = refl
+
+module _ (file : List ℕ) (B : ℕ) (proof ws : List ℕ) (rs : List Row) (ms : List ℕ) (x : CheckAnswer) {words : List ℕ} {rows : List Row} {marks : List ℕ}
+    (e : checkMeans x ≡ checkOf file B proof (lentBy (ws, rs, ms))) (w : words ≡ zeros ws) (r : rows ≡ zeroRows rs) (m : marks ≡ zeros ms) where
   check-leaves : leaving (checkMeans x) (words, rows, marks) ≡ checkCall file B proof (ws, rs, ms)
   check-leaves = rw (e, w, r, m) (zeroed-leaves (checkOf file B proof (lentBy (ws, rs, ms))) (ws, rs, ms))
 
-  pub check-shown : {n : ℕ} → x ≡ CheckAnswer.NoTimetable n
-      → record { number = 0; value = n; outputs = (words, rows, marks) } ≡ checkCall file B proof (ws, rs, ms)
-  check-shown t = rw t at check-leaves
-
-  pub check-refused : {f : Refusal} → x ≡ CheckAnswer.Refused f
-      → record { number = f .number; value = f .value; outputs = (words, rows, marks) } ≡ checkCall file B proof (ws, rs, ms)
-  check-refused t = rw t at check-leaves
+  pub check-told : {number value : ℕ} → record { number = number; value = value; outputs = tt } ≡ alone (checkMeans x)
+      → record { number = number; value = value; outputs = (words, rows, marks) } ≡ checkCall file B proof (ws, rs, ms)
+  check-told t = with-outputs (checkMeans x) (words, rows, marks) t ∙ check-leaves

@@ -17,11 +17,12 @@ use scope::TextAnswer;
 use sheet::same_sheet;
 use sheet::score;
 use sizes::sizes;
+use store::directory::Row;
 use text::text;
 use text::text_size;
 ghost use mathlib.Core.Path.{_≡_};
-ghost use lib.ListN.{length};
-ghost use Rattle.store.specs.Directory.{capacity};
+ghost use Rattle.scope.specs.Answers.{checkMeans};
+ghost use Rattle.engine.specs.Call.{alone};
 ghost use Rattle.engine.specs.Operations.{checkCall, decodeCall, readCall, sameSheetCall, scoreCall, sizesCall, textCall, textSizeCall};
 
 // A refusal: its value goes to *value, its number is returned.
@@ -181,21 +182,10 @@ pub extern "C" fn timetable_decode(
     number as u32
 }
 
-// "No timetable", with the number of steps in *value; or 1 to 9, 14 to 18. The stores are zero afterwards. A row is four
-// numbers: id, first word, length, live.
-#[no_mangle]
-pub extern "C" fn timetable_check(
-    file: &[u8],
-    bound: u64,
-    proof: &[u8],
-    words: &mut [u32],
-    rows: &mut [usize],
-    marks: &mut [u8],
-    value: &mut u64,
-) -> u32
-    ensures { λ r. ⌜ record { number = r; value = now (value .exit); outputs = (now (words .exit), now (rows .exit), now (marks .exit)) } ≡ checkCall (now (file .entry)) bound (now (proof .entry)) (now (words .entry), now (rows .entry), now (marks .entry)) ⌝ }
+// What a check answers: the number of steps or a refusal's value goes to *value, and its number is returned.
+fn told(answer: CheckAnswer, value: &mut u64) -> u32
+    ensures { λ r. ⌜ record { number = r; value = now (value .exit); outputs = tt } ≡ alone (checkMeans answer) ⌝ }
 {
-    let answer = check(file, bound, proof, words, rows, marks);
     match answer {
         CheckAnswer::Refused(f) => refuse(f, value),
         CheckAnswer::NoTimetable(steps) => {
@@ -203,4 +193,21 @@ pub extern "C" fn timetable_check(
             0
         }
     }
+}
+
+// "No timetable", with the number of steps in *value; or 1 to 9, 14 to 18. The stores are zero afterwards.
+#[no_mangle]
+pub extern "C" fn timetable_check(
+    file: &[u8],
+    bound: u64,
+    proof: &[u8],
+    words: &mut [u32],
+    rows: &mut [Row],
+    marks: &mut [u8],
+    value: &mut u64,
+) -> u32
+    ensures { λ r. ⌜ record { number = r; value = now (value .exit); outputs = (now (words .exit), now (rows .exit), now (marks .exit)) } ≡ checkCall (now (file .entry)) bound (now (proof .entry)) (now (words .entry), now (rows .entry), now (marks .entry)) ⌝ }
+{
+    let answer = check(file, bound, proof, words, rows, marks);
+    told(answer, value)
 }
