@@ -124,14 +124,24 @@ uint32_t timetable_decode(const uint8_t *file, size_t file_length,
                           uint64_t *objective, uint64_t *value);
 
 /*
+ * A row of timetable_check's directory of clauses: the clause's id, where its
+ * first word stands, its length, and 1 as long as it is live.
+ */
+struct timetable_row {
+    size_t id;
+    size_t first;
+    size_t length;
+    size_t live;
+};
+
+/*
  * Checks a proof that no timetable keeps the hard constraints at a cost of
  * bound or less.
  * The stores: a word for each literal, a row for each clause and a mark for
- * each variable. A row is four numbers of rows, so rows_length is four times
- * the number of rows. timetable_sizes says how many of each the formula needs;
+ * each variable. timetable_sizes says how many of each the formula needs;
  * each clause that the proof adds needs a row, and a word for each of its
  * literals. What the stores hold before the call does not matter; after it,
- * whatever it answers, every word, number and mark is zero.
+ * whatever it answers, every word, mark and field of a row is zero.
  * Refusals: 1 to 6 for the file, then 7, then 8, then 9 if a store is too short
  * for the formula, then 14 to 18 for the proof, step by step.
  * Accepted, which is the answer "no timetable": *value is the number of steps.
@@ -139,7 +149,7 @@ uint32_t timetable_decode(const uint8_t *file, size_t file_length,
 uint32_t timetable_check(const uint8_t *file, size_t file_length,
                          uint64_t bound, const uint8_t *proof,
                          size_t proof_length, uint32_t *words,
-                         size_t words_length, size_t *rows,
+                         size_t words_length, struct timetable_row *rows,
                          size_t rows_length, uint8_t *marks,
                          size_t marks_length, uint64_t *value);
 

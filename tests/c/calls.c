@@ -176,7 +176,7 @@ static void decoded(void)
 
 /* The stores that the formula at bound 3 needs. */
 static uint32_t words[30];
-static size_t rows[4 * 16];
+static struct timetable_row rows[16];
 static uint8_t marks[8];
 
 static uint32_t check_at(uint64_t bound, uint64_t *value)
@@ -194,8 +194,12 @@ static void stores_are_zero(void)
     size_t i;
     for (i = 0; i < sizeof words / sizeof *words; i++)
         expect("word", words[i], 0);
-    for (i = 0; i < sizeof rows / sizeof *rows; i++)
-        expect("number of a row", rows[i], 0);
+    for (i = 0; i < sizeof rows / sizeof *rows; i++) {
+        expect("id of a row", rows[i].id, 0);
+        expect("first word of a row", rows[i].first, 0);
+        expect("length of a row", rows[i].length, 0);
+        expect("live of a row", rows[i].live, 0);
+    }
     for (i = 0; i < sizeof marks; i++)
         expect("mark", marks[i], 0);
 }

@@ -126,7 +126,7 @@ pub fn decode(file: &[u8], model: &[u8], objective: &mut u64, value: &mut u64) -
     }
 }
 
-/// A row of the directory of clauses: four numbers in C.
+/// A row of the directory of clauses, C's `struct timetable_row`.
 #[repr(C)]
 #[derive(Clone, Copy, Debug, Default, PartialEq, Eq)]
 pub struct Row {
@@ -147,7 +147,7 @@ pub fn check(
     marks: &mut [u8],
     value: &mut u64,
 ) -> u32 {
-    // SAFETY: see the head of this file; a `Row` is laid out as four numbers.
+    // SAFETY: see the head of this file; a `Row` is laid out as C's struct.
     unsafe {
         c::timetable_check(
             file.as_ptr(),
@@ -157,8 +157,8 @@ pub fn check(
             proof.len(),
             words.as_mut_ptr(),
             words.len(),
-            rows.as_mut_ptr().cast(),
-            4 * rows.len(),
+            rows.as_mut_ptr(),
+            rows.len(),
             marks.as_mut_ptr(),
             marks.len(),
             value,
@@ -168,6 +168,8 @@ pub fn check(
 
 /// The declarations of `include/timetable.h`.
 mod c {
+    use super::Row;
+
     extern "C" {
         pub fn timetable_read(
             file: *const u8,
@@ -242,7 +244,7 @@ mod c {
             proof_length: usize,
             words: *mut u32,
             words_length: usize,
-            rows: *mut usize,
+            rows: *mut Row,
             rows_length: usize,
             marks: *mut u8,
             marks_length: usize,
