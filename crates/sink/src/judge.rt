@@ -9,7 +9,7 @@ use super::Judgement;
 use super::Sink;
 
 // Whether a variable is true in a model; one that the model does not have is false.
-fn variable_true(model: &[u8], v: usize) -> bool
+pub fn variable_true(model: &[u8], v: usize) -> bool
     ensures { λ r. ⌜ r ≡ bit (now (model .entry)) v ⌝ }
 {
     if v == 0 {
