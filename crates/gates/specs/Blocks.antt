@@ -38,7 +38,7 @@ unfolding tidy hasTrue withoutFalse
 tidy-nil = refl
 
 -- a cell over a row of literals
-cell-both : (x a b o : ℕ) → 2 ≤ x → 2 ≤ a → 2 ≤ b → 1 ≤ o
+pub cell-both : (x a b o : ℕ) → 2 ≤ x → 2 ≤ a → 2 ≤ b → 1 ≤ o
     → gateClauses (cell x a b) o
     ≡ (opp a ∷ pos o ∷ []) ∷ (opp x ∷ opp b ∷ pos o ∷ []) ∷ (x ∷ a ∷ neg o ∷ []) ∷ (b ∷ a ∷ neg o ∷ []) ∷ []
 unfolding gateClauses
@@ -51,7 +51,7 @@ cell-both x a b o hx ha hb ho =
     simp (tidy-literal, tidy-nil)
 
 -- a cell over a row of literals, where the weight reaches the column
-cell-least : (x a o : ℕ) → 2 ≤ x → 2 ≤ a → 1 ≤ o
+pub cell-least : (x a o : ℕ) → 2 ≤ x → 2 ≤ a → 1 ≤ o
     → gateClauses (cell x a 1) o ≡ (opp a ∷ pos o ∷ []) ∷ (opp x ∷ pos o ∷ []) ∷ (x ∷ a ∷ neg o ∷ []) ∷ []
 unfolding gateClauses
 cell-least x a o hx ha ho =
@@ -62,7 +62,7 @@ cell-least x a o hx ha ho =
     simp (tidy-literal, tidy-false, tidy-true, tidy-nil)
 
 -- a cell in the first row, where the weight reaches the column
-cell-start : (x o : ℕ) → 2 ≤ x → 1 ≤ o → gateClauses (cell x 0 1) o ≡ (opp x ∷ pos o ∷ []) ∷ (x ∷ neg o ∷ []) ∷ []
+pub cell-start : (x o : ℕ) → 2 ≤ x → 1 ≤ o → gateClauses (cell x 0 1) o ≡ (opp x ∷ pos o ∷ []) ∷ (x ∷ neg o ∷ []) ∷ []
 unfolding gateClauses
 cell-start x o hx ho =
     let nx : 2 ≤ opp x = omega arith in
@@ -71,7 +71,7 @@ cell-start x o hx ho =
     simp (tidy-literal, tidy-false, tidy-true, tidy-nil)
 
 -- a cell in the first row, where it does not
-cell-none : (x o : ℕ) → 2 ≤ x → 1 ≤ o → gateClauses (cell x 0 0) o ≡ (x ∷ neg o ∷ []) ∷ (neg o ∷ []) ∷ []
+pub cell-none : (x o : ℕ) → 2 ≤ x → 1 ≤ o → gateClauses (cell x 0 0) o ≡ (x ∷ neg o ∷ []) ∷ (neg o ∷ []) ∷ []
 unfolding gateClauses
 cell-none x o hx ho =
     let nx : 2 ≤ opp x = omega arith in

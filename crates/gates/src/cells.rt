@@ -11,6 +11,7 @@ ghost use Rattle.sink.specs.World.{world, step, rowOver};
 ghost use Rattle.gates.specs.Literals.{Literal, Literals};
 ghost use Rattle.gates.specs.Blocks.{cellAt, Stored};
 use super::LAST;
+use super::evaluate;
 use sink::Job;
 use sink::Sink;
 
@@ -58,7 +59,8 @@ fn cell_words(block: &mut [u32; 11], x: u32, w: u32, prev: u32, first: u32, j: u
     11
 }
 
-// One cell of a counter.
+// One cell of a counter. In a model its variable is compared with its gate's value; the clauses are written one by one only
+// where some are false.
 pub fn write_cell(
     job: Job,
     model: &[u8],
@@ -75,6 +77,11 @@ pub fn write_cell(
     ensures { λ r. ⌜ Ran (step job (now (model .entry))) (lines (first + j) (gate (cellAt x w prev j) ∷ []))
         (world s (now (text .entry)) (now (words .entry))) (world r (now (text .exit)) (now (words .exit))) ⌝ }
 {
+    if sink::evaluates(job) {
+        if evaluate::cell_right(model, x, w, prev, first, j) {
+            return sink::passed(s, evaluate::cell_clauses(w, prev, j));
+        }
+    }
     let mut block = [0u32; 11];
     let n = cell_words(&mut block, x, w, prev, first, j);
     sink::emit(job, model, text, words, s, &block[..n])

@@ -5,6 +5,7 @@ ghost use Rattle.scope.specs.Cnf.{opp};
 
 pub mod cells;
 pub mod clauses;
+mod evaluate;
 pub mod units;
 
 // What marks the last word of a clause.

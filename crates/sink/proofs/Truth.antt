@@ -1,13 +1,18 @@
--- The truth of a variable and of a literal, by cases.
+-- The truth of a variable, of a literal and of a word, by cases.
 use mathlib.Core.Path.{_≡_, refl, ap, _∙_, sym}
 use mathlib.Core.Bool.{Bool, true, false, not, _||_}
 use mathlib.Core.List.{List}
-use Prim.Native.Nat.{ℕ, zero, suc, _+_, _-_, _/_, _%_, _≤_}
+use Prim.Native.Nat.{ℕ, zero, suc, _+_, _-_, _/_, _%_, _≤_, _<_}
 use native.Mathlib.Numerals.{sub-one}
 use native.Mathlib.Omega.{arith}
 use lib.ListN.{length, getD, List·getD-eq-default}
 use lib.Dec.{eqb}
 use Rattle.scope.specs.Cnf.{Assignment, bit, lit}
+use borrow.Author.Tests.{lt-leb, le-leb}
+use Rattle.sink.specs.Run.{further}
+use Rattle.sink.specs.Block.{byWord}
+use Rattle.sink.specs.World.{badAfter}
+use Rattle.sink.specs.Parts.{judgeParts}
 use Rattle.sink.specs.declared.Judgement.{Judgement}
 
 pub bit-none : (m : List ℕ) (v : ℕ) → v ≡ 0 → bit m v ≡ false
@@ -30,6 +35,11 @@ pub lit-positive : (ν : Assignment) (l : ℕ) → (l % 2 ≡ 1 → ⊥) → lit
 unfolding lit
 lit-positive ν l z = let e : l % 2 ≡ 0 = omega (arith, z) in rw e
 
--- a literal that is true or not changes what is true already, or false so far
-pub stays : (j : Judgement) (t : Bool) → j .holds ≡ true → j ≡ record { at = j .at; bad = j .bad; holds = j .holds || t }
-stays j t e = ap (λ (b : Bool). record { at = j .at; bad = j .bad; holds = b }) (rw e)
+-- a word that is not its clause's last is a literal, and the last one is a literal with the mark on it
+pub word-open : (m : List ℕ) (j : Judgement) (w : ℕ) {b : Bool} → b ≡ (j .holds || lit (bit m) (w % 2147483648)) → w < 2147483648
+    → record { at = j .at; bad = j .bad; holds = b } ≡ byWord (judgeParts m) true w j
+word-open m j w e h = let q : w % 2147483648 ≡ w = omega arith in rw (e, q, lt-leb 2147483648 w h)
+
+pub word-last : (m : List ℕ) (j : Judgement) (w : ℕ) {b : Bool} {a n : ℕ} → b ≡ (j .holds || lit (bit m) (w % 2147483648)) → 2147483648 ≤ w → w < 4294967296
+    → a ≡ further (j .at) 1 → n ≡ badAfter b a (j .bad) → record { at = a; bad = n; holds = false } ≡ byWord (judgeParts m) true w j
+word-last m j w e h k f g = let q : w % 2147483648 ≡ w - 2147483648 = omega arith in rw (g, f, e, q, le-leb 2147483648 w h)

@@ -6,3 +6,4 @@ pub mod Parts
 pub mod Meaning
 pub mod Tails
 pub mod Lend
+pub mod AllTrue

@@ -1,6 +1,6 @@
 // The truth of a block and of a soft unit in a model.
 ghost use mathlib.Core.Path.{_≡_};
-ghost use mathlib.Core.Bool.{true};
+ghost use mathlib.Core.Bool.{true, _||_};
 ghost use Rattle.scope.specs.Cnf.{bit, lit};
 ghost use Rattle.sink.specs.Block.{byWord, byWords};
 ghost use Rattle.sink.specs.World.{chargedSink, badAfter};
@@ -9,7 +9,7 @@ use super::Judgement;
 use super::Sink;
 
 // Whether a variable is true in a model; one that the model does not have is false.
-fn variable_true(model: &[u8], v: usize) -> bool
+pub fn variable_true(model: &[u8], v: usize) -> bool
     ensures { λ r. ⌜ r ≡ bit (now (model .entry)) v ⌝ }
 {
     if v == 0 {
@@ -46,46 +46,52 @@ fn bad_after(holds: bool, id: usize, bad: usize) -> usize
     bad
 }
 
-// A literal of the present clause.
-fn judge_literal(model: &[u8], j: Judgement, l: u32) -> Judgement
-    ensures { λ r. ⌜ r ≡ judgeParts (now (model .entry)) .literal l j ⌝ }
+// Whether the present clause holds, after one more of its literals. The literal is looked at either way, so nothing branches on
+// the model.
+fn holds_after(model: &[u8], holds: bool, l: u32) -> bool
+    ensures { λ r. ⌜ r ≡ (holds || lit (bit (now (model .entry))) l) ⌝ }
 {
     let t = literal_true(model, l);
-    if j.holds {
-        return j;
+    if holds {
+        return true;
     }
-    Judgement {
-        at: j.at,
-        bad: j.bad,
-        holds: t,
-    }
+    t
 }
 
 // A word of a block.
 fn judge_word(model: &[u8], j: Judgement, w: u32) -> Judgement
     ensures { λ r. ⌜ r ≡ byWord (judgeParts (now (model .entry))) true w j ⌝ }
 {
+    let holds = holds_after(model, j.holds, w % 2147483648);
     if w < 2147483648 {
-        return judge_literal(model, j, w);
+        return Judgement {
+            at: j.at,
+            bad: j.bad,
+            holds,
+        };
     }
-    let k = judge_literal(model, j, w - 2147483648);
-    let at = digits::advance(k.at, 1);
+    let at = digits::advance(j.at, 1);
     Judgement {
         at,
-        bad: bad_after(k.holds, at, k.bad),
+        bad: bad_after(holds, at, j.bad),
         holds: false,
     }
 }
 
-// The clauses of a block.
+// The clauses of a block. The loop keeps three numbers, not the struct, whose unused bytes would be copied at each word.
 pub fn judge_block(model: &[u8], j: Judgement, block: &[u32]) -> Judgement
     ensures { λ r. ⌜ r ≡ byWords (judgeParts (now (model .entry))) true (now (block .entry)) j ⌝ }
 {
-    let mut k = j;
+    let mut at = j.at;
+    let mut bad = j.bad;
+    let mut holds = j.holds;
     for i in 0..block.len() {
-        k = judge_word(model, k, block[i]);
+        let k = judge_word(model, Judgement { at, bad, holds }, block[i]);
+        at = k.at;
+        bad = k.bad;
+        holds = k.holds;
     }
-    k
+    Judgement { at, bad, holds }
 }
 
 // A soft unit in a model: its weight is added where it is false.

@@ -2,11 +2,12 @@
 ghost use mathlib.Core.Path.{_≡_};
 ghost use mathlib.Core.List.{map};
 ghost use Prim.Native.Nat.{min};
-ghost use Rattle.sink.specs.Run.{Ran};
+ghost use Rattle.sink.specs.Run.{Ran, further};
 ghost use Rattle.sink.specs.Lines.{clauseLine};
 ghost use Rattle.sink.specs.Block.{split, Whole};
 ghost use Rattle.sink.specs.World.{world, sinkAt, step};
 ghost use Rattle.sink.specs.Lend.{partBase};
+ghost use Rattle.sink.specs.AllTrue.{evaluating};
 
 pub mod bytes;
 pub mod judge;
@@ -83,6 +84,28 @@ pub fn placed(s: Sink, at: usize) -> Sink
         prev: s.prev,
         row: s.row,
     }
+}
+
+// Whether a run judges a model.
+pub fn evaluates(job: Job) -> bool
+    ensures { λ r. ⌜ r ≡ evaluating (job .mode) ⌝ }
+{
+    let mode = job.mode;
+    match mode {
+        Mode::Measure => false,
+        Mode::Text => false,
+        Mode::SoftText => false,
+        Mode::Words => false,
+        Mode::Evaluate => true,
+        Mode::Tail => false,
+    }
+}
+
+// The sink after some clauses more.
+pub fn passed(s: Sink, n: usize) -> Sink
+    ensures { λ r. ⌜ r ≡ sinkAt (further (s .at) n) s ⌝ }
+{
+    placed(s, digits::advance(s.at, n))
 }
 
 // The clauses of a block, by mode.

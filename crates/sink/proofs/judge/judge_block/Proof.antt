@@ -11,12 +11,13 @@ use Rattle.sink.proofs.judge.judge_block.Statement.{statement}
 use Rattle.sink.proofs.judge.judge_block.Tie as tie
 
 abbrev Inv-loop : tie.InvT-loop
-Inv-loop model block k₀ i₀ i-end k i =
+Inv-loop model block at₀ bad₀ holds₀ i₀ i-end at bad holds i =
     (i ≤ i-end) × (i-end ≡ length block)
-    × Left (judgeParts model) true (drop i block) k (byWords (judgeParts model) true block k₀)
+    × Left (judgeParts model) true (drop i block) (record { at = at; bad = bad; holds = holds })
+    (byWords (judgeParts model) true block (record { at = at₀; bad = bad₀; holds = holds₀ }))
 
 abbrev μ-loop : tie.MeasureT-loop
-μ-loop model block k₀ i₀ i-end k i = i-end - i
+μ-loop model block at₀ bad₀ holds₀ i₀ i-end at bad holds i = i-end - i
 
 loop-holds : tie.Need-loop-holds Inv-loop μ-loop
 loop-holds c = (omega arith, refl, start)

@@ -1,0 +1,76 @@
+// Cells in a model: a cell's clauses are all true where its variable has its gate's value.
+ghost use mathlib.Core.Path.{_≡_};
+ghost use mathlib.Core.Bool.{_&&_, _||_, Bool·beq};
+ghost use Prim.Native.Nat.{suc, _+_, _-_, _<_};
+ghost use Rattle.scope.specs.Cnf.{bit, lit, value};
+ghost use Rattle.sink.specs.World.{rowOver};
+ghost use Rattle.gates.specs.Blocks.{cellAt};
+ghost use Rattle.gates.specs.Evaluate.{cellCount};
+
+// The literal in column j of the row above; above the first row it is false.
+fn column_true(model: &[u8], prev: u32, j: u32) -> bool
+    requires { ⌜ prev + j < 1073741824 ⌝ }
+    ensures { λ r. ⌜ r ≡ lit (bit (now (model .entry))) (rowOver prev (suc j)) ⌝ }
+{
+    if prev == 0 {
+        return false;
+    }
+    sink::judge::variable_true(model, (prev + j) as usize)
+}
+
+// The literal w columns before; it is true where the weight reaches the column.
+fn before_true(model: &[u8], w: u32, prev: u32, j: u32) -> bool
+    requires { ⌜ prev + j < 1073741824 ⌝ }
+    ensures { λ r. ⌜ r ≡ lit (bit (now (model .entry))) (rowOver prev (suc j - w)) ⌝ }
+{
+    if j < w {
+        return true;
+    }
+    column_true(model, prev, j - w)
+}
+
+// The value of a cell over x and the literals a and b of the row above.
+fn cell_value(x: bool, a: bool, b: bool) -> bool
+    ensures { λ r. ⌜ r ≡ (a || x && b) ⌝ }
+{
+    if a {
+        return true;
+    }
+    if x {
+        return b;
+    }
+    false
+}
+
+fn equal(a: bool, b: bool) -> bool
+    ensures { λ r. ⌜ r ≡ Bool·beq a b ⌝ }
+{
+    if a {
+        return b;
+    }
+    !b
+}
+
+// Whether the cell in column j of the row at first has its gate's value.
+pub fn cell_right(model: &[u8], x: u32, w: u32, prev: u32, first: u32, j: u32) -> bool
+    requires { ⌜ (first + j < 1073741824) × (prev + j < 1073741824) ⌝ }
+    ensures { λ r. ⌜ r ≡ Bool·beq (bit (now (model .entry)) (first + j)) (value (bit (now (model .entry))) (cellAt x w prev j)) ⌝ }
+{
+    let a = column_true(model, prev, j);
+    let b = before_true(model, w, prev, j);
+    let v = cell_value(sink::judge::literal_true(model, x), a, b);
+    equal(sink::judge::variable_true(model, (first + j) as usize), v)
+}
+
+// How many clauses a cell has.
+pub fn cell_clauses(w: u32, prev: u32, j: u32) -> usize
+    ensures { λ r. ⌜ r ≡ cellCount w prev j ⌝ }
+{
+    if prev == 0 {
+        return 2;
+    }
+    if j < w {
+        return 3;
+    }
+    4
+}
