@@ -1,18 +1,17 @@
 -- The clauses of a start as the writer of a start gives them.
-use mathlib.Core.Path.{_≡_, refl, ap, _∙_, sym}
-use mathlib.Core.List.{List, [], _∷_, _++_, map, flatMap}
+use mathlib.Core.Path.{_≡_, refl}
+use mathlib.Core.List.{List, [], _∷_, map, flatMap}
 use Prim.Native.Nat.{ℕ, zero, suc, _+_, _-_, _*_}
-use native.Mathlib.Numerals.{add-one}
 use native.Mathlib.Omega.{arith}
 use lib.Dec.{eqb}
 use borrow.Author.Tests.{ne-eqb}
-use Rattle.scope.specs.Cnf.{pos, neg, Item, hard, gates}
+use Rattle.scope.specs.Cnf.{gates}
 use Rattle.sink.specs.Run.{Ran}
 use Rattle.sink.specs.Lines.{Line, clauseLine, lines}
 use Rattle.sink.specs.World.{World}
 use Rattle.gates.specs.Units as units
-use Rattle.literals.specs.Variables.{baseOf, literalAt, yAt, sAt}
-use Rattle.literals.specs.Numbered.{earlier, startClauses}
+use Rattle.literals.specs.Variables.{baseOf, literalAt}
+use Rattle.literals.specs.Numbered.{startClauses}
 use Rattle.items.specs.Written.{Wrote}
 
 module _ (T C e : ℕ) where

@@ -1,11 +1,11 @@
 -- X of a resource at a time as the writer of an OR gives it.
-use mathlib.Core.Path.{_≡_, refl, ap, _∙_, sym}
+use mathlib.Core.Path.{_≡_, ap, _∙_}
 use mathlib.Core.List.{List, [], _∷_, _++_, map, flatMap}
-use Prim.Native.Nat.{ℕ, zero, suc, _+_, _-_, _*_, _≤_, _<_}
+use Prim.Native.Nat.{ℕ, _+_, _-_, _≤_, _<_}
 use native.Mathlib.Omega.{arith}
-use lib.ListN.{length, take, length-map}
+use lib.ListN.{take, length-map}
 use Rattle.scope.specs.Kinds.{upTo}
-use Rattle.scope.specs.Cnf.{Gate, or, Item, gate, gates}
+use Rattle.scope.specs.Cnf.{or, Item, gate, gates}
 use Rattle.number.specs.Each.{Each}
 use Rattle.sink.specs.Run.{Ran}
 use Rattle.sink.specs.Lines.{Line, lines, map-append}

@@ -23,7 +23,8 @@ use store::directory::append;
 use store::directory::find;
 use store::directory::mark_dead;
 ghost use mathlib.Core.Path.{_≡_};
-ghost use Rattle.store.specs.Directory.{rowsOf, capacity};
+ghost use lib.ListN.{length};
+ghost use Rattle.store.specs.Directory.{rowsOf};
 ghost use Rattle.bound.specs.declared.machine.Phase.the-variants.{Next};
 ghost use Rattle.bound.specs.Machine.{stopped};
 ghost use Rattle.bound.specs.Run.{answerOf, Driven};
@@ -75,7 +76,7 @@ pub fn drive(
     n: usize,
     used: usize,
 ) -> CheckAnswer
-    ensures { λ r. ⌜ Driven (now (proof .entry)) last (capacity (now (rows .entry))) n used (rowsOf (now (rows .entry))) (now (words .entry)) (now (marks .entry)) r ⌝ }
+    ensures { λ r. ⌜ Driven (now (proof .entry)) last (length (now (rows .entry))) n used (rowsOf (now (rows .entry))) (now (words .entry)) (now (marks .entry)) r ⌝ }
 {
     let mut c = begin(n, used);
     let mut m = ready();

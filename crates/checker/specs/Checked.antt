@@ -5,17 +5,16 @@ use Prim.Native.Nat.{ℕ}
 use native.Mathlib.Omega.{arith}
 use lib.ListN.{length, replicate, length-replicate}
 use Rattle.scope.specs.Operations.{checkOf}
-use Rattle.scope.specs.PlainRun.{plainRun}
-use Rattle.scope.specs.Answers.{given, checkMeans}
+use Rattle.scope.specs.Answers.{checkMeans}
 use Rattle.scope.specs.declared.Refusal.{Refusal}
 use Rattle.scope.specs.declared.CheckAnswer.{CheckAnswer}
 use Rattle.store.specs.declared.directory.Row.{Row}
 use Rattle.store.specs.Marks.{marks-cleared}
 use Rattle.store.specs.Marked.{Built}
 use Rattle.bound.specs.Run.{Driven}
-use Rattle.bound.specs.Meaning.{limits, check-means}
+use Rattle.bound.specs.Meaning.{check-means}
 use Rattle.checker.specs.declared.prepare.Ready.{Ready}
-use Rattle.checker.specs.Prepared.{lent, FormulaIn, RefusedAs, preparedAs, Prepared}
+use Rattle.checker.specs.Prepared.{lent, FormulaIn, preparedAs, Prepared}
 
 -- the directory was built of the words, and the proof s driven to its end
 pub record Followed (s ws : List ℕ) (cap : ℕ) (ms : List ℕ) (used last : ℕ) (r : CheckAnswer) : Type 0 where

@@ -1,9 +1,9 @@
 -- Demand 3 of the operation: what each of its answers says of timetables, for every file, bound, proof and lent stores.
-use mathlib.Core.Path.{_≡_, refl, sym, ap, _∙_}
+use mathlib.Core.Path.{_≡_, sym, ap, _∙_}
 use mathlib.Core.Logic.{_↔_}
 use mathlib.Core.List.{List}
 use Prim.Native.Nat.{ℕ, _-_, _≤_, _<_}
-use Rattle.scope.specs.Parsed.{Answer, answered}
+use Rattle.scope.specs.Parsed.{answered}
 use Rattle.scope.specs.Instance.{Instance}
 use Rattle.scope.specs.Operations.{checkOf, decodeOf, Lent}
 use Rattle.scope.specs.Spelling.{Bytes}
@@ -11,7 +11,6 @@ use Rattle.scope.specs.Refutation.{NoTimetable}
 use Rattle.scope.specs.Demands.{Accepted, KeepsHard}
 use Rattle.scope.specs.Answers.{checkMeans, decodeMeans}
 use Rattle.scope.specs.declared.Objective.{Objective}
-use Rattle.scope.specs.declared.Refusal.{Refusal}
 use Rattle.scope.specs.declared.CheckAnswer.{CheckAnswer}
 use Rattle.scope.specs.declared.DecodeAnswer.{DecodeAnswer}
 use Rattle.laws.specs.Booleans.{impossible}

@@ -1,5 +1,5 @@
 -- What is ready before the first step of a proof: a formula in the words, or a refusal from 1 to 9.
-use mathlib.Core.Path.{_≡_, refl, sym, ap, _∙_}
+use mathlib.Core.Path.{_≡_, ap, _∙_}
 use mathlib.Core.Bool.{Bool, true, false, _&&_}
 use mathlib.Core.List.{List, _++_, flatMap}
 use Prim.Native.Nat.{ℕ, _≤_}
@@ -10,9 +10,9 @@ use borrow.Author.Tests.{leb-true}
 use Rattle.laws.specs.Booleans.{and-true}
 use Rattle.scope.specs.Parsed.{Answer, then, provided}
 use Rattle.scope.specs.Instance.{Instance}
-use Rattle.scope.specs.Formula.{words, boundedVariables, boundedHard}
+use Rattle.scope.specs.Formula.{words, boundedHard}
 use Rattle.scope.specs.PlainRun.{plainRun}
-use Rattle.scope.specs.Operations.{Lent, formulaFits, limitsOf, checkOf, formulaSize}
+use Rattle.scope.specs.Operations.{Lent, formulaFits, limitsOf, checkOf}
 use Rattle.scope.specs.Answers.{given}
 use Rattle.scope.specs.declared.Refusal.{Refusal}
 use Rattle.scope.specs.declared.FormulaSize.{FormulaSize}

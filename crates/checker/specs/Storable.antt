@@ -1,10 +1,8 @@
 -- The formula with its tail can stand in the checker's stores: no clause is empty, and every literal is one of its variables.
-use mathlib.Core.Path.{_≡_}
 use mathlib.Core.List.{List, [], _∷_}
 use Prim.Native.Nat.{ℕ, _+_, _≤_}
 use native.Mathlib.Omega.{arith}
 use Rattle.laws.specs.Lists as lists
-use Rattle.laws.specs.Lists.{All-weaken}
 use Rattle.scope.specs.Instance.{Instance}
 use Rattle.scope.specs.Formula.{boundedVariables, boundedHard}
 use Rattle.theory.specs.Accepted.{ValidInstance}

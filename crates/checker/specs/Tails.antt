@@ -1,13 +1,13 @@
 -- The words of a formula with its tail: those of the hard clauses, of the tail's counter, and of the tail's unit.
-use mathlib.Core.Path.{_≡_, refl, sym, ap, _∙_}
-use mathlib.Core.List.{List, [], _∷_, _++_, map, flatMap, append-nil}
-use Prim.Native.Nat.{ℕ, zero, suc, _+_, _*_, _≤_, _<_}
+use mathlib.Core.Path.{_≡_, refl, ap, _∙_}
+use mathlib.Core.List.{List, [], _∷_, _++_, map, flatMap}
+use Prim.Native.Nat.{ℕ, _+_, _*_, _≤_, _<_}
 use native.Mathlib.Nat.{add-zero}
 use native.Mathlib.Numerals.{add-one}
 use native.Mathlib.Omega.{arith}
 use lib.ListN.{length, length-map}
 use Rattle.scope.specs.Instance.{Instance}
-use Rattle.scope.specs.Cnf.{pos, neg, opp, Gate, Item, gate, hard, hardClauses, gates}
+use Rattle.scope.specs.Cnf.{neg, opp, Gate, gate, hard, hardClauses, gates}
 use Rattle.scope.specs.Formula.{noRow, rowAt, counter, lastRow, primary, formula, variables, hardOf, softOf, negated, tail, bounded, boundedVariables, boundedHard}
 use Rattle.theory.specs.Circuit.{gates-append, gates-map, hardClauses-append}
 use Rattle.theory.specs.Counter.{length-counter}

@@ -1,6 +1,6 @@
 -- What the writers of the formula with its tail are given, and what they leave in the words.
-use mathlib.Core.Path.{_≡_, refl, sym, ap, _∙_}
-use mathlib.Core.List.{List, [], _∷_, _++_, flatMap, append-nil, append-assoc}
+use mathlib.Core.Path.{_≡_, ap, _∙_}
+use mathlib.Core.List.{List, [], _∷_, _++_, flatMap, append-nil}
 use Prim.Native.Nat.{ℕ, zero, suc, _+_, _*_, _≤_, _<_}
 use native.Mathlib.Omega.{arith}
 use lib.ListN.{length, drop}
@@ -23,7 +23,7 @@ use Rattle.sink.specs.declared.Sink.{Sink}
 use Rattle.sink.specs.declared.Mode.the-variants.{Words, Tail}
 use Rattle.store.specs.Marked.{length-marks}
 use Rattle.clauses.specs.Writable.{Writable, formulaLines}
-use Rattle.checker.specs.Tails.{unitWord, lastOf, last-there, tail-words, tail-none, tailClauses, bounded-variables, bounded-words}
+use Rattle.checker.specs.Tails.{unitWord, tail-words, tail-none, bounded-variables, bounded-words}
 
 -- the tail's rows were put into the words
 pub record RowsPut (us : List (ℕ × ℕ)) (cols first at : ℕ) (ws : List ℕ) (r : Sink) (ws′ : List ℕ) : Type 0 where

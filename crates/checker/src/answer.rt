@@ -13,7 +13,6 @@ ghost use lib.ListN.{length, replicate};
 ghost use Rattle.scope.specs.Answers.{checkMeans};
 ghost use Rattle.scope.specs.Operations.{checkOf};
 ghost use Rattle.store.specs.Rows.{noRow};
-ghost use Rattle.store.specs.Directory.{capacity};
 ghost use Rattle.checker.specs.Prepared.{lent};
 ghost use Rattle.checker.specs.Checked.{Follows};
 
@@ -25,7 +24,7 @@ fn follow(
     rows: &mut [Row],
     marks: &mut [u8],
 ) -> CheckAnswer
-    ensures { λ r. ⌜ Follows (now (proof .entry)) (now (words .entry)) (capacity (now (rows .entry))) (now (marks .entry)) ready r ⌝ }
+    ensures { λ r. ⌜ Follows (now (proof .entry)) (now (words .entry)) (length (now (rows .entry))) (now (marks .entry)) ready r ⌝ }
 {
     match ready {
         Ready::Formula(used, last) => {
@@ -47,7 +46,7 @@ pub fn check(
     marks: &mut [u8],
 ) -> CheckAnswer
     ensures { λ r. ⌜ checkMeans r ≡ checkOf (now (file .entry)) bound (now (proof .entry))
-        (lent (length (now (words .entry))) (capacity (now (rows .entry))) (length (now (marks .entry)))) ⌝ }
+        (lent (length (now (words .entry))) (length (now (rows .entry))) (length (now (marks .entry)))) ⌝ }
     ensures { λ _. ⌜ now (words .exit) ≡ replicate (length (now (words .entry))) 0 ⌝ }
     ensures { λ _. ⌜ now (rows .exit) ≡ replicate (length (now (rows .entry))) noRow ⌝ }
     ensures { λ _. ⌜ now (marks .exit) ≡ replicate (length (now (marks .entry))) 0 ⌝ }

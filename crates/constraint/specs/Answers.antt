@@ -1,7 +1,7 @@
 -- What the answers of this crate stand for; a list stands in the store l.
 use Prim.Native.Nat.{ℕ}
 use mathlib.Core.List.{List}
-use Rattle.scope.specs.Parsed.{Parsed, got, refused}
+use Rattle.scope.specs.Parsed.{Parsed, got}
 use Rattle.scope.specs.Instance.{Counts}
 use Rattle.scope.specs.Kinds as kinds
 use Rattle.scope.specs.declared.Refusal.{Refusal}

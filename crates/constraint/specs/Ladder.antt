@@ -1,6 +1,6 @@
 -- Steps of a ladder of reads, for the answers of this crate: what was read goes to the rest, a refusal is the result.
 use Prim.Native.Nat.{ℕ}
-use mathlib.Core.Path.{_≡_, refl, sym, ap, _∙_}
+use mathlib.Core.Path.{_≡_, sym, ap, _∙_}
 use mathlib.Core.List.{List}
 use Rattle.scope.specs.Parsed.{Parsed, got, refused, andThen}
 use Rattle.scope.specs.Kinds as kinds

@@ -1,11 +1,11 @@
 -- Walking the constraints of an accepted file: each call decodes the next of them, and none is refused.
-use Prim.Native.Nat.{ℕ, zero, suc, _+_, _-_, _≤_, _<_}
-use mathlib.Core.Path.{_≡_, refl, sym, ap, _∙_}
+use Prim.Native.Nat.{ℕ, suc, _+_, _-_, _≤_, _<_}
+use mathlib.Core.Path.{_≡_, sym, ap, _∙_}
 use mathlib.Core.List.{List, [], _∷_}
 use lib.ListN.{length, drop}
 use lib.Seq.{drop-drop}
 use native.Mathlib.Omega.{arith}
-use Rattle.scope.specs.Parsed.{Parsed, got, refused, andThen, cons, repeat}
+use Rattle.scope.specs.Parsed.{got, refused, cons, repeat}
 use Rattle.scope.specs.Kinds.{Constraint}
 use Rattle.scope.specs.Instance.{Counts}
 use Rattle.scope.specs.declared.Refusal.{Refusal}

@@ -1,17 +1,17 @@
 -- The lines of a counted list: its counter, its low part, its high part.
-use mathlib.Core.Path.{_≡_, refl, ap, _∙_, sym}
+use mathlib.Core.Path.{_≡_, refl, ap, _∙_}
 use mathlib.Core.Bool.{Bool, true, false, cond}
 use mathlib.Core.List.{List, [], _∷_, _++_, map}
-use Prim.Native.Nat.{ℕ, zero, suc, _+_, _-_, _*_, _≤_, _<_}
+use Prim.Native.Nat.{ℕ, zero, suc, _+_, _-_, _*_, _≤_}
 use native.Mathlib.Nat.{add-zero, mul-le-mul-right}
 use native.Mathlib.Omega.{arith}
 use lib.Dec.{leb, ltb}
 use lib.ListN.{length, length-append}
 use Rattle.scope.specs.Kinds.{Rule, from}
-use Rattle.scope.specs.Cnf.{neg, opp, Gate, Item, gate, hard, soft, gates}
+use Rattle.scope.specs.Cnf.{neg, opp, Item, gate, hard, soft, gates}
 use Rattle.scope.specs.Formula.{noRow, rowAt, row, counter, lastRow, ones, unit, lowUnits, highUnits, shortUnits, boundItems, countInto}
-use Rattle.sink.specs.Lines.{Line, lines, lines-append}
-use Rattle.sink.specs.Tails.{row-length, lastFirst, last-at, last-row}
+use Rattle.sink.specs.Lines.{lines, lines-append}
+use Rattle.sink.specs.Tails.{row-length, last-at, last-row}
 use Rattle.sink.specs.World.{rowOver}
 use Rattle.gates.specs.Rows.{gates-map}
 use Rattle.gates.specs.Units.{unitLine}
@@ -21,12 +21,6 @@ use Rattle.counts.specs.declared.Bounds.{Bounds}
 -- the rule of some bounds, without its list
 abbrev pub ruleOf : Bounds → Rule
 ruleOf b = record { lo = b .lo; hi = b .hi; zeroFree = b .free; list = [] }
-
--- a rule's list does not matter for its counter and its units
-pub count-same : (J w : ℕ) (r : Rule) (b : Bounds) (xs : List ℕ) (v : ℕ) → r .lo ≡ b .lo → r .hi ≡ b .hi → r .zeroFree ≡ b .free
-    → countInto J w r xs v ≡ countInto J w (ruleOf b) xs v
-unfolding countInto boundItems
-count-same J w r b xs v e f g = rw (e, f, g)
 
 -- the low part, from the variable v on
 unfoldable pub lowItems : ℕ → Bounds → (ℕ → ℕ) → ℕ → List Item

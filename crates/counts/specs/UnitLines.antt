@@ -1,17 +1,16 @@
 -- The lines of a counted list's bounds: what the writers' loops keep.
 use mathlib.Core.Path.{_≡_, refl, ap, _∙_, sym}
-use mathlib.Core.Bool.{Bool, true, false, cond}
+use mathlib.Core.Bool.{Bool, true, false}
 use mathlib.Core.List.{List, [], _∷_, _++_, map, append-assoc}
 use Prim.Native.Nat.{ℕ, zero, suc, _+_, _-_, _*_, _≤_, _<_}
 use native.Mathlib.Nat.{add-zero, sub-zero}
-use native.Mathlib.Numerals.{add-one}
 use native.Mathlib.Omega.{arith}
 use lib.Dec.{leb}
 use borrow.Author.Tests.{le-leb, lt-ltb, le-ltb, leb-true, leb-false}
 use Rattle.scope.specs.Kinds.{from}
-use Rattle.scope.specs.Cnf.{pos, neg, opp, Gate, Item, gate, hard, soft, gates, short}
+use Rattle.scope.specs.Cnf.{pos, neg, opp, Gate, Item, gate, soft, gates, short}
 use Rattle.scope.specs.Formula.{unit, lowUnits, highUnits, shortUnits}
-use Rattle.sink.specs.Lines.{Line, clauseLine, softLine, lines, lines-append}
+use Rattle.sink.specs.Lines.{Line, softLine, lines, lines-append}
 use Rattle.sink.specs.World.{rowOver}
 use Rattle.gates.specs.Units.{unitLine, unit-lines}
 
@@ -52,10 +51,6 @@ softs-from m w f j (suc k) = ap (_∷_ (softLine (suc w) (f j))) (softs-from m w
 
 -- the low part
 module _ (m w : ℕ) (q : ℕ → ℕ) (lo : ℕ) where
-  pub low-none : w ≡ 0 → lo ≡ 0 → lines m (lowUnits w q lo) ≡ []
-  unfolding lines lowUnits
-  low-none e z = rw (e, z)
-
   pub low-hard : w ≡ 0 → 1 ≤ lo → lines m (lowUnits w q lo) ≡ unitLine w (q lo) ∷ []
   unfolding lines lowUnits
   low-hard e h = rw (e, le-leb 1 lo h)

@@ -1,10 +1,8 @@
 // Counted lists: a counter and the units of its bounds.
 ghost use mathlib.Core.Path.{_≡_};
 ghost use mathlib.Core.Bool.{true, false};
-ghost use mathlib.Core.List.{List, [], _∷_, _++_, map};
-ghost use Prim.Native.Nat.{ℕ, _+_, _-_, _*_, _≤_, _<_};
+ghost use Prim.Native.Nat.{_+_, _-_, _*_, _≤_, _<_};
 ghost use lib.ListN.{length};
-ghost use Rattle.scope.specs.Cnf.{opp};
 ghost use Rattle.scope.specs.Formula.{highUnits, shortUnits, countInto};
 ghost use Rattle.sink.specs.Run.{Ran};
 ghost use Rattle.sink.specs.Lines.{lines};

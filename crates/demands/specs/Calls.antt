@@ -8,10 +8,10 @@ use mathlib.Core.List.{List, [], _∷_}
 use lib.Dec.{leb}
 use lib.ListN.{length, take}
 use borrow.Author.Tests.{leb-true}
-use Rattle.scope.specs.Parsed.{Parsed, got, refused, Answer, answered, refusal, with, provided}
+use Rattle.scope.specs.Parsed.{Parsed, got, refused, Answer, answered, with, provided}
 use Rattle.scope.specs.Instance.{Instance, parse}
 use Rattle.scope.specs.Formula.{primary, variables, mostVariables}
-use Rattle.scope.specs.Operations.{decodeOf, checkOf, part, falsifiedSoft}
+use Rattle.scope.specs.Operations.{decodeOf, checkOf, falsifiedSoft}
 use Rattle.scope.specs.Spelling.{Bytes}
 use Rattle.scope.specs.Refutation.{NoTimetable}
 use Rattle.scope.specs.Demands.{Accepted, KeepsHard}

@@ -9,7 +9,7 @@ use native.Mathlib.Omega.{arith}
 use native.Mathlib.Nat.{add-zero, zero-add, add-assoc}
 use borrow.Author.Tests.{lt-ltb, le-ltb, ltb-true, ltb-false}
 use Rattle.scope.specs.Kinds.{Atom, Entry, between, limit, gaps, gapsAfter}
-use Rattle.scope.specs.Score.{trues, any, deviation, charged, entryTrue, count, deviations}
+use Rattle.scope.specs.Score.{trues, any, deviation, charged, entryTrue, deviations}
 use Rattle.deviation.specs.Group.{idles, idlesAfter}
 use Rattle.deviation.specs.Sums.{total}
 

@@ -3,7 +3,6 @@ use tables::row_len;
 use tables::row_member;
 use timetable::bytes::bit_of;
 ghost use mathlib.Core.Path.{_≡_};
-ghost use mathlib.Core.Bool.{Bool};
 ghost use Prim.Native.Nat.{_+_, _≤_};
 ghost use Rattle.scope.specs.Score.{trues};
 ghost use Rattle.tables.specs.Rows.{rowAt, RowIn};

@@ -1,14 +1,14 @@
 -- A number and a literal as runs of stores.
-use mathlib.Core.Path.{_≡_, refl, ap, _∙_, sym}
+use mathlib.Core.Path.{_≡_, refl, ap, _∙_}
 use mathlib.Core.Bool.{Bool, true, false}
 use mathlib.Core.List.{List, [], _∷_, _++_, append-assoc}
-use Prim.Native.Nat.{ℕ, zero, suc, _+_, _-_, _/_, _%_, _≤_, _<_}
+use Prim.Native.Nat.{ℕ, _+_, _-_, _/_, _%_, _≤_, _<_}
 use native.Mathlib.Omega.{arith}
 use lib.ListN.{length, set, length-append}
 use lib.Seq.{sets, set-set}
 use lib.Dec.{eqb}
 use borrow.Author.Tests.{eq-eqb, ne-eqb, eqb-true, eqb-false}
-use Rattle.scope.specs.Text.{digits, decimal, space, literalText}
+use Rattle.scope.specs.Text.{decimal, space, literalText}
 use Rattle.digits.specs.Run.{run, Ran, then, same}
 use Rattle.digits.specs.Store.{Out, out, put, further, ran-sets, run-at}
 use Rattle.digits.specs.Decimal.{lastDigits, digits-last, digits-some}

@@ -1,6 +1,6 @@
 -- Which numbers the refusals of an operation have, place by place.
 use Prim.Native.Nat.{ℕ, zero, suc, _*_}
-use mathlib.Core.Path.{_≡_, refl}
+use mathlib.Core.Path.{_≡_}
 use mathlib.Core.Bool.{Bool, true, false, cond, _||_}
 use mathlib.Core.List.{List, [], _∷_}
 use mathlib.Core.Option.{Option, none, some}
@@ -8,7 +8,7 @@ use lib.Dec.{eqb, leb, ltb}
 use lib.ListN.{length, drop}
 use Rattle.scope.specs.Parsed.{Parsed, got, refused, Answer, answered, refusal, andThen, unless, cons, repeat, with, provided}
 use Rattle.scope.specs.Number.{Front, broken, whole, within, front, numberFrom, number, limited, reference, references, listed}
-use Rattle.scope.specs.Kinds.{Event, Kind, Constraint, cluster, idle, lowOf, highOf, longest, rulesOf}
+use Rattle.scope.specs.Kinds.{Event, Kind, cluster, idle, lowOf, highOf, longest, rulesOf}
 use Rattle.scope.specs.Instance.{Counts, countsOf, Instance, eventAt, pairAt, boundsAt, clashAt, unavailableAt, preferredAt, splitAt, spreadAt, busyAt, overGroupsAt, fieldsAt, ended, constraintAt, sizesAt, groupsAt, constraintsAt, parse}
 use Rattle.scope.specs.Score.{cells, truth, firstWrong, firstAbove, unlessFound, ofTimetable}
 

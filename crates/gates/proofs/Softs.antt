@@ -1,16 +1,16 @@
 -- The step for a soft unit, mode by mode, and the tail's row.
-use mathlib.Core.Path.{_≡_, refl, ap, _∙_, sym}
-use mathlib.Core.Bool.{Bool, true, false, cond, _&&_, and-false}
-use mathlib.Core.List.{List, [], _∷_, _++_, map, flatMap}
-use Prim.Native.Nat.{ℕ, zero, suc, _+_, _≤_, _<_}
+use mathlib.Core.Path.{_≡_, ap, _∙_, sym}
+use mathlib.Core.Bool.{_&&_, and-false}
+use mathlib.Core.List.{List, [], _∷_, map, flatMap}
+use Prim.Native.Nat.{ℕ, _+_, _≤_, _<_}
 use lib.Dec.{leb}
 use borrow.Author.Tests.{lt-leb}
 use Rattle.scope.specs.Cnf.{bit, lit, opp, gate}
 use Rattle.scope.specs.Formula.{row}
-use Rattle.sink.specs.Run.{run, Ran}
-use Rattle.sink.specs.Lines.{Line, clauseLine, softLine, lines, gatesClauses}
+use Rattle.sink.specs.Run.{Ran}
+use Rattle.sink.specs.Lines.{clauseLine, softLine, lines, gatesClauses}
 use Rattle.sink.specs.Block.{mark, split, Marks}
-use Rattle.sink.specs.World.{World, world, chargedSink, putWords, rowOver, rowClauses, nextRow, tailRow, step}
+use Rattle.sink.specs.World.{World, world, chargedSink, putWords, rowOver, rowClauses, tailRow, step}
 use Rattle.sink.specs.Meaning.{words-lines}
 use Rattle.sink.specs.Tails.{row-fits}
 use Rattle.sink.specs.declared.Sink.{Sink}

@@ -8,7 +8,7 @@ use lib.ListN.{length}
 use lib.Dec.{leb}
 use borrow.Author.Tests.{leb-true, leb-false, le-leb, lt-leb}
 use Rattle.laws.specs.Booleans.{beq-iff}
-use Rattle.scope.specs.Cnf.{Assignment, bit, lit, value, gate, gateClauses, clauses}
+use Rattle.scope.specs.Cnf.{bit, lit, value, gate, gateClauses, clauses}
 use Rattle.theory.specs.Gates.{gate-holds, lit-pos}
 use Rattle.sink.specs.Run.{Ran, further}
 use Rattle.sink.specs.Lines.{lines}

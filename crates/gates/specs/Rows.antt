@@ -1,14 +1,14 @@
 -- The lines of a counter, cell by cell and row by row: what the loops keep.
-use mathlib.Core.Path.{_≡_, refl, ap, _∙_, sym}
-use mathlib.Core.List.{List, [], _∷_, _++_, map, append-assoc}
-use Prim.Native.Nat.{ℕ, zero, suc, _+_, _-_, _*_, _≤_, _<_}
+use mathlib.Core.Path.{_≡_, refl, ap, _∙_}
+use mathlib.Core.List.{List, [], _∷_, _++_, map}
+use Prim.Native.Nat.{ℕ, suc, _+_, _-_, _*_, _≤_, _<_}
 use native.Mathlib.Nat.{add-zero, sub-zero}
 use native.Mathlib.Numerals.{add-one}
 use native.Mathlib.Omega.{arith}
 use lib.ListN.{length, drop, getD, drop-of-length-le}
 use lib.Seq.{drop-cons}
-use Rattle.scope.specs.Cnf.{Gate, cell, Item, gate, gates}
-use Rattle.scope.specs.Formula.{noRow, rowAt, row, counter, lastRow, ones}
+use Rattle.scope.specs.Cnf.{Gate, gate, gates}
+use Rattle.scope.specs.Formula.{row, counter, ones}
 use Rattle.sink.specs.Lines.{Line, lines, lines-append, map-append}
 use Rattle.sink.specs.Tails.{row-length, row-over}
 use Rattle.sink.specs.World.{rowOver}

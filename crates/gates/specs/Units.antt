@@ -1,20 +1,18 @@
 -- Start clauses and units as lines.
-use mathlib.Core.Path.{_≡_, refl, ap, _∙_, sym}
-use mathlib.Core.Bool.{Bool, true, false, cond}
-use mathlib.Core.List.{List, [], _∷_, _++_, map, flatMap}
+use mathlib.Core.Path.{_≡_, refl}
+use mathlib.Core.Bool.{Bool, true, false}
+use mathlib.Core.List.{List, [], _∷_, map, flatMap}
 use Prim.Native.Nat.{ℕ, zero, suc, _+_, _-_, _*_, _≤_, _<_}
 use native.Mathlib.Omega.{arith}
-use lib.Dec.{eqb, leb, ltb}
+use lib.Dec.{eqb}
 use borrow.Author.Tests.{ne-eqb}
 use Rattle.scope.specs.Kinds.{Y, S}
 use Rattle.scope.specs.Instance.{Instance}
 use Rattle.scope.specs.Score.{var}
-use Rattle.scope.specs.Cnf.{pos, neg, opp, Item, gate, hard, soft, gates}
-use Rattle.scope.specs.Formula.{unit, startItems, yBefore}
-use Rattle.sink.specs.Run.{Ran}
+use Rattle.scope.specs.Cnf.{pos, neg}
+use Rattle.scope.specs.Formula.{unit, startItems}
 use Rattle.sink.specs.Lines.{Line, clauseLine, softLine, lines}
 use Rattle.sink.specs.Block.{mark, Marks, marks}
-use Rattle.gates.specs.Literals.{Variable}
 
 -- the two clauses of an event's start, where y and s are its variables Y and S, at time 1 or later
 abbrev pub startClauses : Bool → ℕ → ℕ → List (List ℕ)

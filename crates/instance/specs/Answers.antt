@@ -1,7 +1,7 @@
 -- What the answers of this crate stand for.
 use Prim.Native.Nat.{ℕ}
 use mathlib.Core.List.{List}
-use Rattle.scope.specs.Parsed.{Parsed, got, refused, repeat}
+use Rattle.scope.specs.Parsed.{Parsed, got, repeat}
 use Rattle.scope.specs.Kinds.{Constraint}
 use Rattle.scope.specs.Instance.{Instance}
 use Rattle.scope.specs.declared.Refusal.{Refusal}

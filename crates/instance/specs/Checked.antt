@@ -1,13 +1,13 @@
 -- The constraints as the reader checks them are those of the instance.
 use Prim.Native.Nat.{ℕ, _≤_, _<_}
-use mathlib.Core.Path.{_≡_, refl, sym, ap, _∙_}
+use mathlib.Core.Path.{_≡_, sym, ap, _∙_}
 use mathlib.Core.List.{List}
 use lib.ListN.{length}
 use native.Mathlib.Omega.{arith}
-use Rattle.scope.specs.Parsed.{Parsed, got, refused, andThen, repeat}
-use Rattle.scope.specs.Kinds.{Event, Kind, Constraint, users, rulesOf, longest}
+use Rattle.scope.specs.Parsed.{Parsed, got, refused, andThen}
+use Rattle.scope.specs.Kinds.{Constraint, users, rulesOf, longest}
 use Rattle.scope.specs.Number.{limited}
-use Rattle.scope.specs.Instance.{Counts, Instance, countsOf, constraintAt, parse}
+use Rattle.scope.specs.Instance.{countsOf, parse}
 use Rattle.scope.specs.declared.Refusal.{Refusal}
 use Rattle.number.specs.declared.Number.{Number}
 use Rattle.number.specs.Answers.{said, refusalOf, refusedBy}
@@ -18,12 +18,12 @@ use Rattle.tables.specs.Reading.{event-row, events-in, groups-in}
 use Rattle.tables.specs.Users.{Counted, users-counted}
 use Rattle.constraint.specs.declared.kinds.Head.{Head}
 use Rattle.constraint.specs.Answers.{countsIn}
-use Rattle.constraint.specs.Decoded.{checkedAt, checked-same, constraint-checked}
+use Rattle.constraint.specs.Decoded.{checked-same, constraint-checked}
 use Rattle.instance.specs.declared.reader.Sizes.{Sizes}
 use Rattle.instance.specs.declared.reader.SizesRead.{SizesRead}
 use Rattle.instance.specs.Answers.{saidTables, headStart, constraintsOf, instanceOf}
 use Rattle.instance.specs.Ends.{ends, endOf, wholeAt, ends-got, ends-of-refused, whole-same, whole-got, whole-refused, whole-left, whole-end}
-use Rattle.instance.specs.File.{Start, withConstraints, constraintIn, tablesAt, restAt, parse-parts}
+use Rattle.instance.specs.File.{withConstraints, constraintIn, tablesAt, restAt, parse-parts}
 use Rattle.instance.specs.Length.{list-length}
 use Rattle.instance.specs.Ready.{Lent, lengthBy, checkedBy, checkedAll, checkedWhole, byCounts, byRows, checkedBy-same}
 use Rattle.instance.specs.Ladder.{step-tables}

@@ -1,12 +1,11 @@
 -- The members but first and last of groups in the rows of a table.
-use Prim.Native.Nat.{ℕ, zero, suc, _+_, _-_, _≤_, _<_}
-use mathlib.Core.Path.{_≡_, refl, sym, ap, _∙_}
+use Prim.Native.Nat.{ℕ, _+_, _-_, _≤_, _<_}
+use mathlib.Core.Path.{_≡_, refl}
 use mathlib.Core.List.{List, [], _∷_}
 use lib.ListN.{length, getD, drop, drop-of-length-le}
 use lib.Seq.{drop-cons}
 use native.Mathlib.Omega.{arith}
 use native.Mathlib.Numerals.{add-one}
-use Rattle.scope.specs.Kinds.{groupAt}
 use Rattle.number.specs.Each.{Each, each-none, each-more, each-at}
 use Rattle.number.specs.Lists.{leading, length-leading, getD-leading}
 use Rattle.number.specs.Laws.{Ascending, none, more}

@@ -1,12 +1,12 @@
 -- Steps of a ladder of reads, for the answers of this crate: what was read goes to the rest, a refusal is the result.
 use Prim.Native.Nat.{ℕ}
-use mathlib.Core.Path.{_≡_, refl, sym, ap, _∙_}
+use mathlib.Core.Path.{_≡_, sym, ap, _∙_}
 use mathlib.Core.List.{List}
-use Rattle.scope.specs.Parsed.{Parsed, got, refused, andThen}
+use Rattle.scope.specs.Parsed.{Parsed, refused, andThen}
 use Rattle.scope.specs.Kinds.{Event}
 use Rattle.scope.specs.declared.Refusal.{Refusal}
 use Rattle.number.specs.declared.Number.{Number}
-use Rattle.number.specs.Answers.{said, refusalOf, refusedBy}
+use Rattle.number.specs.Answers.{refusalOf}
 use Rattle.number.specs.Ladder.{step, ladder as numberLadder}
 use Rattle.tables.specs.Rows.{rows, eventsOf}
 use Rattle.tables.specs.Answers.{saidRows, saidEvents}

@@ -1,8 +1,7 @@
 -- What an accepted file is known to keep: its sizes, its tables, the walk over its constraints, each of them valid.
-use Prim.Native.Nat.{ℕ, zero, suc, _+_, _*_, _≤_, _<_}
+use Prim.Native.Nat.{ℕ, _+_, _≤_, _<_}
 use mathlib.Core.Path.{_≡_, refl, sym, ap, _∙_, subst}
-use mathlib.Core.List.{List, [], _∷_}
-use mathlib.Core.Bool.{true}
+use mathlib.Core.List.{List, _∷_}
 use lib.Dec.{leb}
 use lib.ListN.{length, drop}
 use native.Mathlib.Omega.{arith}
@@ -11,8 +10,8 @@ use Rattle.scope.specs.Parsed.{Parsed, got, refused, andThen, unless, repeat}
 use Rattle.scope.specs.Parsed.{answered, refusal}
 use Rattle.scope.specs.Operations.{readOf}
 use Rattle.scope.specs.Number.{limited}
-use Rattle.scope.specs.Kinds.{Event, Kind, Constraint, rulesOf, longest, lowOf, highOf}
-use Rattle.scope.specs.Instance.{Counts, Instance, countsOf, ended, constraintAt, parse}
+use Rattle.scope.specs.Kinds.{Kind, Constraint, rulesOf, longest, lowOf, highOf}
+use Rattle.scope.specs.Instance.{Counts, Instance, countsOf, ended, parse}
 use Rattle.number.specs.Parsing.{listOf, andThen-got, unless-got, repeat-length, repeat-also}
 use Rattle.number.specs.Each.{Each, each-head, each-drop, repeat-each}
 use Rattle.number.specs.Laws.{Ascending, limited-got, repeat-got}
@@ -30,7 +29,7 @@ use Rattle.instance.specs.declared.reader.File.{File}
 use Rattle.instance.specs.Answers.{headStart, constraintsOf, instanceOf, saidFile}
 use Rattle.instance.specs.Ends.{endOf, wholeAt, whole-got}
 use Rattle.instance.specs.File.{Start, withConstraints, constraintIn, tablesAt, restAt, parse-parts}
-use Rattle.instance.specs.Start.{SizesIn, StartIn, TablesAt, tables-got}
+use Rattle.instance.specs.Start.{SizesIn, StartIn, tables-got}
 
 -- a constraint of an instance: its weight and fields within their limits, its counted lists at most 255 long,
 -- lo no more than hi and than the longest list

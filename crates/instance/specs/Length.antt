@@ -1,17 +1,16 @@
 -- The length of a kind's counted list by arithmetic, as the reader computes it, and that it is right.
-use Prim.Native.Nat.{ℕ, zero, suc, _+_, _-_, _*_, _≤_, _<_, min, max}
+use Prim.Native.Nat.{ℕ, zero, suc, _+_, _-_, _*_, _≤_, _<_}
 use mathlib.Core.Path.{_≡_, refl, sym, ap, _∙_}
 use mathlib.Core.List.{List, [], _∷_, _++_, map, flatMap}
-use mathlib.Core.Bool.{Bool, true, false, cond, _||_}
-use mathlib.Core.Logic.{⊎-elim, _⊎_, inl, inr}
+use mathlib.Core.Bool.{cond}
+use mathlib.Core.Logic.{⊎-elim, _⊎_}
 use native.Mathlib.Nat.{eq-or-lt-of-le}
 use native.Mathlib.Omega.{arith}
 use borrow.Author.Tests.{eq-eqb, ne-eqb}
-use lib.Dec.{eqb}
 use lib.ListN.{length, getD, length-map, length-append}
-use Rattle.scope.specs.Kinds.{Event, Kind, clash, unavailable, preferred, split, spread, busy, cluster, idle, Atom, Y, S, X, Entry, atom, gap, Rule, between, from, upTo, member, users, outside, groupAt, usesAt, takesAt, startsAt, gapsAfter, gaps, rulesOf, longest}
-use Rattle.number.specs.Each.{Each, each-at, each-none, each-more}
-use Rattle.number.specs.Laws.{Ascending, none, more, ascending-length}
+use Rattle.scope.specs.Kinds.{Event, Kind, clash, unavailable, preferred, split, spread, busy, cluster, idle, Atom, Y, S, X, Entry, atom, Rule, between, from, upTo, member, users, outside, groupAt, usesAt, startsAt, gapsAfter, gaps, rulesOf, longest}
+use Rattle.number.specs.Each.{Each, each-none, each-more}
+use Rattle.number.specs.Laws.{Ascending, none, more}
 use Rattle.tables.specs.Users.{below-once}
 
 -- the members but first and last of each of some groups

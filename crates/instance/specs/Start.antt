@@ -1,12 +1,11 @@
 -- What is known of sizes and tables that were read.
-use Prim.Native.Nat.{ℕ, zero, suc, _+_, _*_, _≤_, _<_}
-use mathlib.Core.Path.{_≡_, refl, sym, ap, _∙_, subst}
+use Prim.Native.Nat.{ℕ, _≤_, _<_}
+use mathlib.Core.Path.{_≡_, sym, ap, _∙_, subst}
 use mathlib.Core.List.{List}
 use lib.ListN.{length}
 use native.Mathlib.Omega.{arith}
-use Rattle.scope.specs.Parsed.{Parsed, got, refused, andThen, repeat}
+use Rattle.scope.specs.Parsed.{got, andThen, repeat}
 use Rattle.scope.specs.Number.{limited}
-use Rattle.scope.specs.Kinds.{Event}
 use Rattle.scope.specs.Instance.{eventAt, groupsAt, sizesAt}
 use Rattle.number.specs.Parsing.{andThen-got}
 use Rattle.number.specs.Each.{Each}

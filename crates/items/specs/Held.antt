@@ -1,14 +1,14 @@
 -- Gathered literals as the writers want them.
-use mathlib.Core.Path.{_≡_, refl, ap, _∙_, sym}
-use mathlib.Core.List.{List, [], _∷_}
+use mathlib.Core.Path.{_≡_, ap, _∙_, sym}
+use mathlib.Core.List.{List}
 use Prim.Native.Nat.{ℕ, _≤_, _<_}
 use native.Mathlib.Omega.{arith}
 use lib.ListN.{length, take, getD}
-use lib.Seq.{getD-take, length-take-le}
+use lib.Seq.{getD-take}
 use Rattle.number.specs.Each.{Each, each-at}
 use Rattle.literals.specs.Words.{Holds}
 use Rattle.literals.specs.Proper.{Proper}
-use Rattle.gates.specs.Literals.{Literal, LiteralsTo, Literals, literals-take}
+use Rattle.gates.specs.Literals.{LiteralsTo, Literals, literals-take}
 
 -- as many as were gathered
 pub held-length : {words : List ℕ} {n : ℕ} {xs : List ℕ} → Holds words n xs → length (take n words) ≡ n

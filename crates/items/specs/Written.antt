@@ -1,7 +1,7 @@
 -- Items that a writer ran, and what its loop keeps: the items that are left, from the next variable on.
-use mathlib.Core.Path.{_≡_, refl, ap, _∙_, sym}
+use mathlib.Core.Path.{_≡_, refl, ap}
 use mathlib.Core.List.{List, [], _∷_, _++_}
-use Prim.Native.Nat.{ℕ, suc, _+_, _≤_}
+use Prim.Native.Nat.{ℕ, _+_, _≤_}
 use native.Mathlib.Omega.{arith}
 use Rattle.scope.specs.Cnf.{Item, gate, hard, soft, gates}
 use Rattle.sink.specs.Run.{Ran, Todo, then, todo-start, todo-turn, todo-done}

@@ -5,10 +5,10 @@ use Prim.Native.Nat.{ℕ, suc, _+_, _-_, _*_, _≤_, _<_}
 use native.Mathlib.Numerals.{add-one}
 use native.Mathlib.Omega.{arith}
 use lib.ListN.{length, take, drop, set, getD, length-drop, length-set}
-use lib.Seq.{take-all, take-at, drop-at, take-add, take-take, take-append-add, take-append-le, length-take-le, set-set, set-getD, take-set-le, getD-take, getD-drop}
-use Rattle.scope.specs.Cnf.{pos, or, idling, Item, gate, gates}
+use lib.Seq.{take-all, drop-at, take-add, take-take, take-append-add, take-append-le, length-take-le, set-set, set-getD, take-set-le, getD-take, getD-drop}
+use Rattle.scope.specs.Cnf.{or, idling, Item, gate}
 use Rattle.sink.specs.Run.{Ran}
-use Rattle.sink.specs.Lines.{Line, lines, map-append}
+use Rattle.sink.specs.Lines.{Line, lines}
 use Rattle.sink.specs.World.{World}
 use Rattle.gates.specs.Literals.{LiteralsTo}
 use Rattle.gates.specs.Rows.{gates-map}

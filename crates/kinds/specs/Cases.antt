@@ -1,6 +1,6 @@
 -- What is known of the literals of those kinds whose lists are not read off the tables directly.
-use mathlib.Core.Path.{_≡_, refl, ap, _∙_, sym}
-use mathlib.Core.List.{List, [], _∷_, map, flatMap}
+use mathlib.Core.Path.{_≡_, refl, _∙_}
+use mathlib.Core.List.{List, [], map}
 use Prim.Native.Nat.{ℕ, zero, suc, _+_, _-_, _*_, _/_, _≤_}
 use native.Mathlib.Omega.{arith}
 use lib.ListN.{length, take, length-map}
@@ -12,12 +12,10 @@ use Rattle.number.specs.Lists.{leading, length-leading, leading-take}
 use Rattle.tables.specs.Rows.{rowAt}
 use Rattle.constraint.specs.declared.kinds.Head.{Head}
 use Rattle.literals.specs.Variables.{sAt, xAt, Within}
-use Rattle.literals.specs.Words.{Holds, holds-as}
-use Rattle.literals.specs.Outputs.{every}
 use Rattle.literals.specs.Numbered.{numbered, xsOf, innerCount, idleGates}
 use Rattle.literals.specs.Tables.{groupIn}
 use Rattle.kinds.specs.Ground.{Ground, cellsOf, ground-events}
-use Rattle.kinds.specs.Counted.{only, countedList, listIn, Fit, GatesIn}
+use Rattle.kinds.specs.Counted.{countedList, Fit, GatesIn}
 use Rattle.kinds.specs.Lengths.{length-every, length-each, length-idle}
 
 -- a clash has no gates, and none of its literals is counted here

@@ -1,17 +1,13 @@
 -- What the writers of constraints are lent: the sizes of an instance, the rows of its groups, a constraint's fields and list.
-use Prim.Native.Nat.{ℕ, _+_, _-_, _*_, _≤_, _<_}
-use mathlib.Core.Path.{_≡_}
+use Prim.Native.Nat.{ℕ, _-_, _*_, _≤_, _<_}
 use mathlib.Core.List.{List}
 use native.Mathlib.Nat.{mul-le-mul}
 use native.Mathlib.Omega.{arith}
-use lib.ListN.{length}
-use Rattle.scope.specs.Kinds.{Kind}
 use Rattle.number.specs.Each.{Each, each-none, each-more}
 use Rattle.number.specs.Laws.{Ascending, none, more}
-use Rattle.tables.specs.Rows.{rowAt, RowIn, RowsIn}
+use Rattle.tables.specs.Rows.{rowAt, RowsIn}
 use Rattle.constraint.specs.declared.kinds.Head.{Head}
-use Rattle.constraint.specs.Answers.{countsIn}
-use Rattle.constraint.specs.Valid.{OneOf, InRange}
+use Rattle.constraint.specs.Valid.{OneOf}
 use Rattle.literals.specs.Variables.{Sizes, Within, GroupIn}
 
 -- the sizes, and the rows of the groups, each of which ascends

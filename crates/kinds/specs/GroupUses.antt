@@ -1,5 +1,5 @@
 -- X of a resource in groups, group by group.
-use mathlib.Core.Path.{_≡_, refl, ap, _∙_, sym}
+use mathlib.Core.Path.{_≡_}
 use mathlib.Core.List.{List, [], _∷_, _++_, map}
 use Prim.Native.Nat.{ℕ, _+_, _-_, _*_, _≤_, _<_}
 use native.Mathlib.Numerals.{add-one}
@@ -14,7 +14,7 @@ use Rattle.constraint.specs.Valid.{OneOf}
 use Rattle.sink.specs.Run.{Ran}
 use Rattle.sink.specs.Lines.{Line, lines}
 use Rattle.sink.specs.World.{World}
-use Rattle.literals.specs.Variables.{xAt, Within}
+use Rattle.literals.specs.Variables.{xAt}
 use Rattle.literals.specs.Words.{Holds}
 use Rattle.literals.specs.Proper.{Proper, times-proper, ascending-within}
 use Rattle.literals.specs.Numbered.{xsOf}

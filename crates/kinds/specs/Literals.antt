@@ -1,19 +1,16 @@
 -- The literals that a constraint counts are literals of variables.
-use mathlib.Core.Path.{_≡_, refl}
-use mathlib.Core.List.{List, []}
-use Prim.Native.Nat.{ℕ, _+_, _*_, _≤_}
+use mathlib.Core.List.{List}
+use Prim.Native.Nat.{ℕ, _+_, _≤_}
 use native.Mathlib.Omega.{arith}
 use lib.ListN.{length}
 use Rattle.scope.specs.Kinds.{Kind, clash, unavailable, preferred, split, spread, busy, cluster, idle}
 use Rattle.number.specs.Each.{Each, each-none}
-use Rattle.number.specs.Lists.{leading}
 use Rattle.constraint.specs.declared.kinds.Head.{Head}
 use Rattle.literals.specs.Proper.{Proper, times-proper, spread-proper, every-proper, upTo-within, outside-within, ascending-within}
-use Rattle.literals.specs.Numbered.{numbered, xsOf}
+use Rattle.literals.specs.Numbered.{numbered}
 use Rattle.literals.specs.Tables.{groupIn}
 use Rattle.kinds.specs.Ground.{cellsOf, ground-sizes, ground-event, ground-ascends, ground-events}
 use Rattle.kinds.specs.Counted.{countedList, listIn, Fit, GatesIn}
-use Rattle.kinds.specs.Lengths.{length-every, length-idle}
 use Rattle.kinds.specs.Cases.{clash-literals, cluster-gates, idle-gates}
 use Rattle.kinds.specs.GroupUses.{uses-proper}
 

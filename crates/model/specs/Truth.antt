@@ -1,12 +1,11 @@
 -- What a run over a formula's lines in the mode Evaluate finds of a model.
 use Prim.Native.Nat.{ℕ, suc, _+_, _≤_}
-use mathlib.Core.Path.{_≡_, refl, sym, ap, _∙_}
+use mathlib.Core.Path.{_≡_, refl, ap, _∙_}
 use mathlib.Core.Bool.{Bool, true, false, cond}
 use mathlib.Core.List.{List, [], _∷_}
 use mathlib.Core.Option.{Option, none, some}
 use native.Mathlib.Omega.{arith}
-use lib.ListN.{length}
-use Rattle.scope.specs.Parsed.{Answer, answered, refusal}
+use Rattle.scope.specs.Parsed.{Answer, refusal}
 use Rattle.scope.specs.Instance.{Instance}
 use Rattle.scope.specs.Cnf.{Assignment, bit, lit, clause, falsified}
 use Rattle.scope.specs.Score.{unlessFound}
@@ -17,7 +16,7 @@ use Rattle.sizing.specs.declared.Size.{Size}
 use Rattle.sizes.specs.Whole.{Numbers}
 use Rattle.sink.specs.Run.{Ran}
 use Rattle.sink.specs.World.{World, world, step}
-use Rattle.sink.specs.Meaning.{found, evaluated, evaluate-lines}
+use Rattle.sink.specs.Meaning.{found, evaluate-lines}
 use Rattle.sink.specs.declared.Job.{Job}
 use Rattle.sink.specs.declared.Sink.{Sink}
 use Rattle.sink.specs.declared.Mode.the-variants.{Evaluate}

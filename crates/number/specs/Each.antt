@@ -1,11 +1,10 @@
 -- What holds of each member of a list, and of each thing that was read.
-use Prim.Native.Nat.{ℕ, zero, suc, _+_, _≤_, _<_}
-use mathlib.Core.Path.{_≡_, refl}
+use Prim.Native.Nat.{ℕ, zero, suc, _+_, _<_}
+use mathlib.Core.Path.{_≡_}
 use mathlib.Core.List.{List, [], _∷_, _++_}
 use lib.ListN.{length, getD, drop}
 use native.Mathlib.Nat.{not-suc-le-zero, le-of-suc-le-suc}
-use native.Mathlib.Omega.{arith}
-use Rattle.scope.specs.Parsed.{Parsed, got, refused, andThen, cons, repeat}
+use Rattle.scope.specs.Parsed.{Parsed, got, cons, repeat}
 use Rattle.number.specs.Parsing.{andThen-got, cons-got}
 
 -- P holds of each
@@ -15,9 +14,6 @@ pub data Each {A : Type 0} (P : A → Type 0) : List A → Type 0 where
 
 pub each-head : {A : Type 0} {P : A → Type 0} {x : A} {xs : List A} → Each P (x ∷ xs) → P x
 each-head (each-more p ps) = p
-
-pub each-tail : {A : Type 0} {P : A → Type 0} {x : A} {xs : List A} → Each P (x ∷ xs) → Each P xs
-each-tail (each-more p ps) = ps
 
 -- of each of a list's first part, and of the last member
 pub each-front : {A : Type 0} {P : A → Type 0} (xs ys : List A) → Each P (xs ++ ys) → Each P xs

@@ -1,15 +1,15 @@
 -- Steps of a ladder of reads, for `search`: a function that reads one field after another returns what the definition says,
 -- by these laws and what the calls on the way ensure.
 use Prim.Native.Nat.{ℕ}
-use mathlib.Core.Path.{_≡_, refl, sym, ap, _∙_}
+use mathlib.Core.Path.{_≡_, sym, ap, _∙_}
 use mathlib.Core.Bool.{Bool, true, false}
 use borrow.Author.Tests.{le-leb, lt-leb, lt-ltb, le-ltb}
 use Rattle.scope.specs.Parsed.{Parsed, got, refused, andThen, unless}
 use Rattle.scope.specs.declared.Refusal.{Refusal}
 use Rattle.number.specs.declared.Number.{Number}
 use Rattle.number.specs.declared.Number.the-variants.{Value, Refused}
-use Rattle.number.specs.Answers.{said, refusalOf, refusedBy}
-use Rattle.number.specs.Laws.{NumberAt, LimitedAt, ReferenceAt, number-got, limited-got, reference-got}
+use Rattle.number.specs.Answers.{said, refusalOf}
+use Rattle.number.specs.Laws.{LimitedAt, ReferenceAt, limited-got, reference-got}
 use Rattle.scope.specs.Number.{number, limited, reference}
 use mathlib.Core.List.{List}
 
@@ -54,10 +54,7 @@ unless-no t k v p e = rw e
 pub ruleset ladder =
     (stop, step-number, number-refused, number-stop, unless-ok, unless-no, le-leb, lt-leb, lt-ltb, le-ltb)
 
--- what is known of a number, of one within limits and of a reference that a call gave
-pub number-value : (s : List ℕ) (at : ℕ) (x : Number) {v n : ℕ} → said x ≡ number s at → x ≡ Value v n → NumberAt s at v n
-number-value s at x e h = number-got s at (sym e ∙ ap said h)
-
+-- what is known of a number within limits and of a reference that a call gave
 pub limited-value : (lo hi : ℕ) (s : List ℕ) (at : ℕ) (x : Number) {v n : ℕ}
     → said x ≡ limited lo hi s at
     → x ≡ Value v n

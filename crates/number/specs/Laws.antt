@@ -1,13 +1,13 @@
 -- What is known of numbers, references and lists that were read: their sizes, and where they end.
 use Prim.Native.Nat.{ℕ, zero, suc, _+_, _-_, _≤_, _<_}
-use mathlib.Core.Path.{_≡_, refl, sym, ap, _∙_}
+use mathlib.Core.Path.{_≡_, refl, ap}
 use mathlib.Core.List.{List, [], _∷_}
 use mathlib.Core.Bool.{Bool, true, false, cond}
 use lib.Dec.{ltb, leb, eqb}
 use lib.ListN.{length, drop, length-drop}
 use native.Mathlib.Omega.{arith}
 use borrow.Author.Tests.{ltb-true, leb-true}
-use Rattle.scope.specs.Parsed.{Parsed, got, refused, andThen, unless, cons, repeat}
+use Rattle.scope.specs.Parsed.{Parsed, got, unless, cons, repeat}
 use Rattle.scope.specs.Number.{Front, broken, whole, group, front, within, most, numberFrom, number, limited, reference, references, listed}
 use Rattle.number.specs.Parsing.{andThen-got, unless-got, cons-got, refused-got, cond-case}
 

@@ -8,7 +8,7 @@ use lib.Seq.{take-suc-set, drop-set-add}
 use native.Mathlib.Nat.{not-suc-le-zero, le-of-suc-le-suc}
 use native.Mathlib.Omega.{arith}
 use native.Mathlib.Numerals.{add-one}
-use Rattle.scope.specs.Parsed.{Parsed, got, refused, andThen}
+use Rattle.scope.specs.Parsed.{Parsed, got}
 use Rattle.scope.specs.Number.{limited, reference, references, listed}
 use Rattle.scope.specs.declared.Refusal.{Refusal}
 use Rattle.number.specs.declared.Number.{Number}

@@ -1,6 +1,6 @@
 -- Laws of reading one thing after another: what follows from a reading that got something, and the turns of a loop that reads.
 use Prim.Native.Nat.{ℕ, zero, suc, _+_, _-_, _≤_, _<_}
-use mathlib.Core.Path.{_≡_, refl, sym, ap, _∙_}
+use mathlib.Core.Path.{_≡_, refl, sym, ap}
 use mathlib.Core.List.{List, [], _∷_, _++_, append-assoc, append-nil}
 use mathlib.Core.Bool.{Bool, true, false, cond}
 use lib.ListN.{length}
@@ -44,9 +44,6 @@ cons-got a (refused k v) {xs} {end} e = refused-got (Consed a (refused k v) xs e
 -- one value, one end
 pub got-value : {A : Type 0} {a b : A} {m n : ℕ} → got a m ≡ got b n → a ≡ b
 got-value e = cc
-
-pub got-end : {A : Type 0} {a b : A} {m n : ℕ} → got a m ≡ got b n → m ≡ n
-got-end e = cc
 
 -- the list that was read; of a refusal none
 abbrev pub listOf : {A : Type 0} → Parsed (List A) → List A

@@ -1,9 +1,8 @@
 -- A cluster's ORs.
-use mathlib.Core.Path.{_≡_, refl, ap, _∙_}
-use mathlib.Core.List.{List, [], _∷_, map}
+use mathlib.Core.Path.{_≡_, _∙_}
+use mathlib.Core.List.{List, map}
 use Prim.Native.Nat.{ℕ, _+_, _≤_}
 use native.Mathlib.Omega.{arith}
-use lib.ListN.{length}
 use Rattle.scope.specs.Cnf.{or, gate, gates}
 use Rattle.number.specs.Lists.{leading, length-leading}
 use Rattle.constraint.specs.declared.kinds.Head.{Head}

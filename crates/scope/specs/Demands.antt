@@ -5,14 +5,13 @@ use mathlib.Core.Logic.{_↔_}
 use mathlib.Core.List.{List}
 use Prim.Native.Nat.{ℕ, _-_, _≤_, _<_}
 use lib.ListN.{length, getD}
-use Rattle.scope.specs.Parsed.{Parsed, got, Answer, answered}
+use Rattle.scope.specs.Parsed.{got, answered}
 use Rattle.scope.specs.Instance.{Instance, parse}
 use Rattle.scope.specs.Cnf.{bit, clauses}
 use Rattle.scope.specs.Formula.{variables, hardOf, mostVariables}
 use Rattle.scope.specs.Operations.{scoreOf, decodeOf, part, falsifiedSoft, checkOf, Lent}
 use Rattle.scope.specs.Spelling.{Bytes}
 use Rattle.scope.specs.Refutation.{NoTimetable}
-use Rattle.scope.specs.declared.Infeasibility.{Infeasibility}
 use Rattle.scope.specs.declared.Objective.{Objective}
 
 -- "an accepted instance": the file gives none of 1 to 6

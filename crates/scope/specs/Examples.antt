@@ -1,14 +1,14 @@
 -- The examples of document 01 that are marked P, file A's listing, and its limits, as one table under one theorem.
 -- A case is what the definitions compute and what the paper says, both as numbers.
 use mathlib.Core.Path.{_≡_, refl}
-use mathlib.Core.Bool.{Bool, true, false, cond, _||_}
+use mathlib.Core.Bool.{Bool, false, cond, _||_}
 use mathlib.Core.List.{List, [], _∷_, _++_, map, flatMap}
-use Prim.Native.Nat.{ℕ, zero, suc, _+_, _*_, _/_, _%_}
-use lib.ListN.{length, drop, replicate}
+use Prim.Native.Nat.{ℕ, _+_, _/_, _%_}
+use lib.ListN.{drop, replicate}
 use lib.Dec.{eqb, ltb}
 use Rattle.scope.specs.Parsed.{Parsed, got, refused, Answer, answered, refusal, repeat}
 use Rattle.scope.specs.Number.{group, front, within, number, limited, reference, references, listed}
-use Rattle.scope.specs.Kinds.{Atom, Y, S, X, Entry, atom, spread, busy, limit, between, upTo, usesAt, from, member, usersFrom, outside, gapsAfter, gaps, rulesOf, longest}
+use Rattle.scope.specs.Kinds.{Atom, Y, S, X, Entry, atom, spread, limit, upTo, usesAt, from, member, usersFrom, outside, gapsAfter, gaps, rulesOf, longest}
 use Rattle.scope.specs.Instance.{eventAt, pairAt, boundsAt, clashAt, unavailableAt, preferredAt, splitAt, spreadAt, busyAt, overGroupsAt, fieldsAt, ended, constraintAt, sizesAt, groupsAt, constraintsAt, parse}
 use Rattle.scope.specs.Cnf.{Item, gate, byte, bit, lit, clause, clauses, hasTrue, withoutFalse, tidy, implied, gateClauses, value, hardClauses, outputs, softUnits, falsified}
 use Rattle.scope.specs.Score.{trues, any, all, deviation, charged, entryTrue, deviations, truth, eventRight, firstWrong, infeasibilityOf, objectiveOf, firstAbove}

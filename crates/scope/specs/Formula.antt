@@ -1,10 +1,10 @@
 -- The formula of an instance: its items in the order of clauses and variables, the tail for a bound, and their sizes.
-use mathlib.Core.Bool.{Bool, true, false, cond}
+use mathlib.Core.Bool.{cond}
 use mathlib.Core.List.{List, [], _∷_, _++_, map, flatMap}
 use Prim.Native.Nat.{ℕ, zero, suc, _+_, _-_, _*_, min}
 use lib.ListN.{length}
 use lib.Dec.{leb, ltb}
-use Rattle.scope.specs.Kinds.{Event, Constraint, Atom, Y, S, X, Entry, atom, anyOf, gap, Rule, between, from, upTo, users, takesAt}
+use Rattle.scope.specs.Kinds.{Event, Constraint, Atom, Y, S, Entry, atom, anyOf, gap, Rule, between, from, upTo, users, takesAt}
 use Rattle.scope.specs.Instance.{Instance}
 use Rattle.scope.specs.Cnf.{pos, neg, opp, Gate, or, cell, idling, short, Item, gate, hard, soft, hardClauses, gates, softUnits}
 use Rattle.scope.specs.Score.{cells, var, rules, eventCount}

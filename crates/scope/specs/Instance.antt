@@ -1,10 +1,10 @@
 -- The instance file, and refusals 1 to 6 in file order.
 use Prim.Native.Nat.{ℕ}
-use mathlib.Core.List.{List, [], _∷_}
+use mathlib.Core.List.{List}
 use mathlib.Core.Bool.{cond}
 use lib.ListN.{length}
 use lib.Dec.{leb, eqb}
-use Rattle.scope.specs.Parsed.{Parsed, got, refused, andThen, unless, repeat}
+use Rattle.scope.specs.Parsed.{Parsed, got, andThen, unless, repeat}
 use Rattle.scope.specs.Number.{limited, reference, listed}
 use Rattle.scope.specs.Kinds.{Event, Kind, clash, unavailable, preferred, split, spread, busy, cluster, idle, Constraint, rulesOf, lowOf, highOf, longest}
 

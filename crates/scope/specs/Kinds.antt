@@ -1,8 +1,8 @@
 -- The table of kinds: the counted lists of each, with their bounds. Events, times, resources and groups count from 1.
 -- A list is said once: valued in a timetable it gives the score (Score), numbered it gives the clauses (Formula).
-use Prim.Native.Nat.{ℕ, zero, suc, _+_, _-_, _*_, min, max}
+use Prim.Native.Nat.{ℕ, zero, suc, _+_, _-_, min, max}
 use mathlib.Core.List.{List, [], _∷_, _++_, map, flatMap}
-use mathlib.Core.Bool.{Bool, true, false, cond, not, _||_}
+use mathlib.Core.Bool.{Bool, true, false, cond, _||_}
 use lib.ListN.{length, getD}
 use lib.Dec.{eqb}
 

@@ -5,8 +5,8 @@ use mathlib.Core.Option.{Option, none, some}
 use Prim.Native.Nat.{ℕ, zero, suc, _+_, _-_, _*_}
 use lib.ListN.{length}
 use lib.Dec.{leb, ltb, eqb}
-use Rattle.scope.specs.Parsed.{Answer, answered, refusal, provided}
-use Rattle.scope.specs.Kinds.{Event, Constraint, Atom, Y, S, X, Entry, atom, anyOf, gap, Rule, upTo, users, takesAt, rulesOf}
+use Rattle.scope.specs.Parsed.{Answer, refusal, provided}
+use Rattle.scope.specs.Kinds.{Event, Constraint, Atom, Y, S, X, Entry, atom, anyOf, gap, Rule, upTo, users, rulesOf}
 use Rattle.scope.specs.Instance.{Instance}
 use Rattle.scope.specs.Cnf.{bit}
 use Rattle.scope.specs.declared.Infeasibility.{Infeasibility}

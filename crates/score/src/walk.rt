@@ -9,7 +9,6 @@ ghost use mathlib.Core.Path.{_≡_};
 ghost use mathlib.Core.Bool.{cond};
 ghost use Prim.Native.Nat.{_+_, _*_, _≤_, _<_};
 ghost use lib.Dec.{eqb};
-ghost use Rattle.constraint.specs.Answers.{countsIn};
 ghost use Rattle.deviation.specs.Charge.{chargeOf};
 ghost use Rattle.score.specs.Amounts.{hardSum, softSum, decodedOf, Walkable};
 

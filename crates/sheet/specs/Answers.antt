@@ -8,7 +8,7 @@ use lib.Seq.{length-take-le}
 use lib.Dec.{eqb}
 use native.Mathlib.Omega.{arith}
 use borrow.Author.Tests.{eqb-true}
-use Rattle.scope.specs.Parsed.{refused, Answer, answered, refusal, provided, then}
+use Rattle.scope.specs.Parsed.{refused, Answer, answered, provided, then}
 use Rattle.scope.specs.Instance.{Instance, parse}
 use Rattle.scope.specs.Score.{cells, ofTimetable, infeasibility, objective}
 use Rattle.scope.specs.Operations.{scoreOf, sameBytes, sameSheetOf}

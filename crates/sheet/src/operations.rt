@@ -12,7 +12,7 @@ use timetable::check::Verdict;
 use timetable::check::checked;
 ghost use mathlib.Core.Path.{_≡_};
 ghost use mathlib.Core.List.{List};
-ghost use Prim.Native.Nat.{ℕ, _≤_};
+ghost use Prim.Native.Nat.{ℕ};
 ghost use lib.ListN.{length};
 ghost use lib.Dec.{leb};
 ghost use Rattle.scope.specs.Operations.{scoreOf, sameSheetOf};

@@ -1,14 +1,14 @@
 -- What is done with a block word by word is the run over its clauses, mode by mode.
 use mathlib.Core.Path.{_≡_, refl, ap, _∙_, sym}
-use mathlib.Core.Bool.{Bool, true, false}
-use mathlib.Core.List.{List, [], _∷_, _++_, map, flatMap}
+use mathlib.Core.Bool.{true, false}
+use mathlib.Core.List.{List, [], _∷_, map}
 use Prim.Native.Nat.{ℕ, _+_}
 use lib.ListN.{length}
 use Rattle.scope.specs.Cnf.{bit, clause}
-use Rattle.scope.specs.Text.{decimal, line}
+use Rattle.scope.specs.Text.{decimal}
 use Rattle.sink.specs.Run.{run, Ran, Out, out, put, further}
-use Rattle.sink.specs.Lines.{Line, clauseLine}
-use Rattle.sink.specs.Block.{mark, split, Whole, mark-split, Parts, byClause, byWords, by-words}
+use Rattle.sink.specs.Lines.{clauseLine}
+use Rattle.sink.specs.Block.{mark, split, Whole, mark-split, byClause, byWords, by-words}
 use Rattle.sink.specs.World.{World, world, sinkAt, inText, inWords, badAfter, step}
 use Rattle.sink.specs.Parts.{textParts, sizeParts, judgeParts, run-each, text-clause, size-clause, judge-clause}
 use Rattle.sink.specs.declared.Sink.{Sink}

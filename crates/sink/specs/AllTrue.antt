@@ -2,7 +2,7 @@
 use mathlib.Core.Path.{_≡_, refl, sym, ap, _∙_}
 use mathlib.Core.Bool.{Bool, true, false, cond}
 use mathlib.Core.List.{List, [], _∷_, map}
-use Prim.Native.Nat.{ℕ, zero, suc, _+_, _≤_}
+use Prim.Native.Nat.{ℕ, zero, suc, _≤_}
 use native.Mathlib.Omega.{arith}
 use lib.ListN.{length}
 use lib.Dec.{eqb}
@@ -11,7 +11,7 @@ use Rattle.laws.specs.Booleans.{never-true, and-true}
 use Rattle.scope.specs.Cnf.{bit, clause, clauses}
 use Rattle.sink.specs.Run.{run, Ran, further}
 use Rattle.sink.specs.Lines.{clauseLine}
-use Rattle.sink.specs.World.{World, world, sinkAt, step}
+use Rattle.sink.specs.World.{world, sinkAt, step}
 use Rattle.sink.specs.declared.Sink.{Sink}
 use Rattle.sink.specs.declared.Job.{Job}
 use Rattle.sink.specs.declared.Mode.{Mode}

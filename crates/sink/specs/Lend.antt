@@ -2,19 +2,19 @@
 use mathlib.Core.Path.{_≡_, refl, ap, ap₂, _∙_, sym}
 use mathlib.Core.Bool.{Bool, true, false, cond}
 use mathlib.Core.List.{List, [], _∷_, _++_, flatMap, append-nil}
-use Prim.Native.Nat.{ℕ, zero, suc, _+_, _-_, _≤_, _<_, min}
+use Prim.Native.Nat.{ℕ, _+_, _-_, _≤_, _<_, min}
 use native.Mathlib.Nat.{zero-add, suc-add}
 use native.Mathlib.Omega.{arith}
 use lib.ListN.{length, take, drop, set, length-set, length-append, length-take, length-drop, take-append-drop, drop-of-length-le}
 use lib.Seq.{set-out, take-all, take-at, length-take-le}
 use lib.Dec.{ltb}
 use borrow.Author.Tests.{ltb-true, ltb-false}
-use Rattle.scope.specs.Cnf.{bit, lit, clause}
+use Rattle.scope.specs.Cnf.{bit, clause}
 use Rattle.scope.specs.Text.{line}
-use Rattle.sink.specs.Run.{run, Ran, Out, out, put, further, run-length}
+use Rattle.sink.specs.Run.{run, Ran, Out, out, put, further}
 use Rattle.sink.specs.Lines.{Line, clauseLine, softLine}
 use Rattle.sink.specs.Block.{mark}
-use Rattle.sink.specs.World.{World, world, sinkAt, placed, moved, inText, inWords, putText, putWords, badAfter, judged, charged, rowsFit, rowClauses, nextRow, tailRow, clauseStep, softStep, step}
+use Rattle.sink.specs.World.{World, world, sinkAt, placed, moved, inText, inWords, putText, putWords, judged, rowsFit, rowClauses, nextRow, tailRow, clauseStep, softStep, step}
 use Rattle.sink.specs.declared.Sink.{Sink}
 use Rattle.sink.specs.declared.Job.{Job}
 use Rattle.sink.specs.declared.Mode.{Mode}

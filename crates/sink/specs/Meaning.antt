@@ -3,16 +3,15 @@ use mathlib.Core.Path.{_≡_, refl, ap, _∙_, sym}
 use mathlib.Core.Bool.{Bool, true, false, cond}
 use mathlib.Core.List.{List, [], _∷_, _++_, flatMap}
 use mathlib.Core.Option.{Option, none, some}
-use Prim.Native.Nat.{ℕ, zero, suc, _+_, _≤_}
-use native.Mathlib.Nat.{add-zero}
+use Prim.Native.Nat.{ℕ, suc, _+_, _≤_}
 use native.Mathlib.Omega.{arith}
 use lib.ListN.{length, take, drop, length-append}
 use lib.Dec.{eqb}
-use borrow.Author.Tests.{eqb-true, eqb-false, ne-eqb}
-use Rattle.scope.specs.Cnf.{Assignment, bit, lit, clause, Item, hardClauses, softUnits, falsified}
+use borrow.Author.Tests.{eqb-true, ne-eqb}
+use Rattle.scope.specs.Cnf.{bit, lit, clause, Item, hardClauses, softUnits, falsified}
 use Rattle.scope.specs.Text.{line}
 use Rattle.scope.specs.Operations.{lowestFalse}
-use Rattle.sink.specs.Run.{run, run-append, run-fits, Out, out, put, further, further-further}
+use Rattle.sink.specs.Run.{run, run-append, run-fits, Out, out, put, further}
 use Rattle.sink.specs.Lines.{Line, clauseLine, softLine, lines, clausesOf, softsOf, clauses-lines, softs-lines}
 use Rattle.sink.specs.Block.{mark}
 use Rattle.sink.specs.World.{World, placed, moved, inText, inWords, putText, putWords, badAfter, judged, charged, step}
@@ -167,11 +166,7 @@ module _ (k : Job) (m : List ℕ) where
         rw (← clauses-lines n is, ← softs-lines n is)
         (evaluate-run e (lines n is) w (rw (clauses-lines n is) h) g)
 
--- bytes that fit stand in the text from the position on, and every other byte is as it was; the same for words
-pub text-fits : (xs : List ℕ) (w : World) → w .at + length xs ≤ length (w .text) → length (w .text) ≤ 9223372036854775807
-    → putText xs w ≡ inText (out (w .at + length xs) (take (w .at) (w .text) ++ xs ++ drop (w .at + length xs) (w .text))) w
-text-fits xs w h g = ap (λ (o : Out). inText o w) (run-fits xs (w .text) (w .at) h g)
-
+-- words that fit stand in the words from the position on, and every other word is as it was
 pub words-fit : (xs : List ℕ) (w : World) → w .at + length xs ≤ length (w .words) → length (w .words) ≤ 9223372036854775807
     → putWords xs w ≡ inWords (out (w .at + length xs) (take (w .at) (w .words) ++ xs ++ drop (w .at + length xs) (w .words))) w
 words-fit xs w h g = ap (λ (o : Out). inWords o w) (run-fits xs (w .words) (w .at) h g)

@@ -1,13 +1,13 @@
 -- How text, its length and a model's truth go through a block, word by word.
 use mathlib.Core.Path.{_≡_, refl, ap, _∙_, sym}
-use mathlib.Core.Bool.{Bool, true, false, cond, _||_, or-false, or-assoc}
+use mathlib.Core.Bool.{Bool, true, false, _||_, or-false, or-assoc}
 use mathlib.Core.List.{List, [], _∷_, _++_, flatMap}
-use Prim.Native.Nat.{ℕ, zero, suc, _+_, _≤_}
+use Prim.Native.Nat.{ℕ, _+_}
 use native.Mathlib.Omega.{arith}
 use lib.ListN.{length, length-append}
 use Rattle.scope.specs.Cnf.{bit, lit, clause}
 use Rattle.scope.specs.Text.{decimal, space, newline, literalText, line}
-use Rattle.sink.specs.Run.{run, run-append, Out, out, put, further, further-further}
+use Rattle.sink.specs.Run.{run, run-append, Out, put, further}
 use Rattle.sink.specs.Block.{Parts, byClause, byWords}
 use Rattle.sink.specs.World.{badAfter}
 use Rattle.sink.specs.declared.Judgement.{Judgement}

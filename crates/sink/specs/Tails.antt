@@ -1,15 +1,12 @@
 -- What a run in the mode Tail comes to: the clauses of the tail's counter, as words.
 use mathlib.Core.Path.{_≡_, refl, ap, _∙_, sym}
-use mathlib.Core.Bool.{Bool, true, false, cond, _&&_}
-use mathlib.Core.List.{List, [], _∷_, _++_, map, flatMap, append-assoc}
+use mathlib.Core.List.{List, [], _∷_, _++_, flatMap}
 use Prim.Native.Nat.{ℕ, zero, suc, _+_, _*_, _≤_, _<_}
-use native.Mathlib.Nat.{add-zero, zero-add, add-assoc, suc-mul}
 use native.Mathlib.Omega.{arith}
 use lib.ListN.{length}
-use lib.Dec.{leb}
 use borrow.Author.Tests.{le-leb}
 use Rattle.scope.specs.Cnf.{opp, Gate, Item, hardClauses, softUnits}
-use Rattle.scope.specs.Formula.{noRow, rowAt, row, counter, lastRow, negated}
+use Rattle.scope.specs.Formula.{rowAt, row, counter, lastRow, negated}
 use Rattle.sink.specs.Run.{run, run-append, Out, out, put}
 use Rattle.sink.specs.Lines.{Line, clauseLine, softLine, lines, softsOf, softs-lines, gatesClauses, gates-append, flat-append}
 use Rattle.sink.specs.Block.{mark}

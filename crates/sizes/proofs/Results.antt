@@ -1,5 +1,5 @@
 -- A size put together from the results of calls is the size that is asked for, and its sums do not wrap.
-use mathlib.Core.Path.{_≡_, sym, ap, _∙_}
+use mathlib.Core.Path.{_≡_, sym, _∙_}
 use mathlib.Core.Bool.{Bool}
 use mathlib.Core.List.{List}
 use Prim.Native.Nat.{ℕ, _+_, _-_, _*_, _≤_, _<_}
@@ -8,7 +8,7 @@ use lib.ListN.{length, getD, drop}
 use Rattle.number.specs.Lists.{leading}
 use Rattle.tables.specs.Rows.{rowAt}
 use Rattle.sizing.specs.declared.Size.{Size}
-use Rattle.sizing.specs.Sums.{none, sum, Within, Fits64, within-more, within-sum, sum-assoc, sum-none}
+use Rattle.sizing.specs.Sums.{sum, Within, Fits64, within-more, within-sum, sum-assoc, sum-none}
 use Rattle.sizes.specs.Shapes.{gateOf}
 use Rattle.sizes.specs.Groups.{rowsSize, rows-more, rows-past, gate-within}
 

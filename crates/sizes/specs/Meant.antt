@@ -1,10 +1,10 @@
 -- The instances that a file's constraints, the tables and the counts of users stand for.
-use Prim.Native.Nat.{ℕ, _+_, _≤_, _<_}
-use mathlib.Core.Path.{_≡_, sym, _∙_}
-use mathlib.Core.List.{List, [], _∷_}
+use Prim.Native.Nat.{ℕ, _+_, _<_}
+use mathlib.Core.Path.{_≡_}
+use mathlib.Core.List.{List, _∷_}
 use native.Mathlib.Omega.{arith}
-use lib.ListN.{length, getD, drop}
-use Rattle.laws.specs.Lists.{All, All-drop}
+use lib.ListN.{getD, drop}
+use Rattle.laws.specs.Lists.{All-drop}
 use Rattle.scope.specs.Kinds.{Event, Constraint}
 use Rattle.scope.specs.Instance.{Instance}
 use Rattle.theory.specs.Accepted.{ValidInstance, ValidConstraint}
@@ -20,7 +20,7 @@ use Rattle.constraint.specs.Valid.{InRange}
 use Rattle.constraint.specs.Walk.{Walk, walk-read}
 use Rattle.instance.specs.Length.{list-length}
 use Rattle.instance.specs.Ready.{Ready}
-use Rattle.sizes.specs.Sizable.{Users, lengthIn, Sizable}
+use Rattle.sizes.specs.Sizable.{Users, Sizable}
 
 -- an instance whose groups stand in a table
 abbrev pub instanceIn : List ℕ → Head → List Event → List Constraint → Instance

@@ -3,11 +3,9 @@ use Prim.Native.Nat.{ℕ, _≤_}
 use mathlib.Core.Path.{_≡_, refl, sym, ap, _∙_}
 use mathlib.Core.Bool.{Bool, true, false, cond}
 use mathlib.Core.List.{List}
-use native.Mathlib.Omega.{arith}
 use lib.Dec.{leb}
-use lib.ListN.{length}
 use borrow.Author.Tests.{leb-true, le-leb}
-use Rattle.scope.specs.Parsed.{Parsed, got, refused, Answer, answered, refusal, with, then, provided}
+use Rattle.scope.specs.Parsed.{Parsed, got, refused, Answer, answered, with, then, provided}
 use Rattle.scope.specs.Instance.{Instance, parse}
 use Rattle.scope.specs.Formula.{variables, boundedVariables, mostBound, mostVariables}
 use Rattle.scope.specs.Operations.{ofSize, ofBound, formulaSize, sizesOf}

@@ -1,12 +1,12 @@
 -- What is known of an accepted file, its tables and the counts of users, for the walk over them.
-use Prim.Native.Nat.{ℕ, zero, suc, _+_, _*_, _≤_, _<_}
-use mathlib.Core.Path.{_≡_, refl, sym, ap, _∙_}
+use Prim.Native.Nat.{ℕ, zero, suc, _+_, _≤_, _<_}
+use mathlib.Core.Path.{_≡_, sym, _∙_}
 use mathlib.Core.List.{List, [], _∷_}
 use mathlib.Core.Logic.{⊎-elim}
 use native.Mathlib.Nat.{not-suc-le-zero, le-of-suc-le-suc, eq-or-lt-of-le}
 use native.Mathlib.Omega.{arith}
 use lib.ListN.{length, getD}
-use Rattle.scope.specs.Kinds.{Event, users}
+use Rattle.scope.specs.Kinds.{users}
 use Rattle.theory.specs.Accepted.{ValidInstance, gives-instance}
 use Rattle.number.specs.Each.{Each, each-front, each-last}
 use Rattle.tables.specs.Rows.{rowAt, rows, eventsOf, RowsIn}
@@ -16,10 +16,9 @@ use Rattle.tables.specs.Users.{Counted, users-counted}
 use Rattle.constraint.specs.declared.kinds.Head.{Head}
 use Rattle.instance.specs.Answers.{instanceOf}
 use Rattle.instance.specs.Laws.{Accepted, event-rows, group-rows}
-use Rattle.instance.specs.Ready.{Ready, zeros}
 use Rattle.instance.specs.Stores.{Stores}
 use Rattle.sizing.specs.declared.Size.{Size}
-use Rattle.sizing.specs.Sums.{sum, Fits64, within-more}
+use Rattle.sizing.specs.Sums.{sum, within-more}
 use Rattle.sizing.specs.Limits.{users-most}
 use Rattle.sizing.specs.Whole.{constraintsSize, beforeSize, wholeSize, tailOf}
 use Rattle.sizing.specs.WholeLimits.{whole-within}

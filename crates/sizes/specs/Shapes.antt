@@ -1,13 +1,13 @@
 -- The size of a constraint by its shape: how many counted lists it has, their bounds, and the groups with gates of their own.
 use mathlib.Core.Path.{_≡_, refl, sym, _∙_}
 use mathlib.Core.Bool.{Bool, true, false}
-use mathlib.Core.List.{List, [], _∷_}
-use Prim.Native.Nat.{ℕ, _+_, _*_}
+use mathlib.Core.List.{List, []}
+use Prim.Native.Nat.{ℕ}
 use native.Mathlib.Omega.{arith}
 use Rattle.scope.specs.Kinds.{Event, Kind, clash, unavailable, preferred, split, spread, busy, cluster, idle, lowOf, highOf}
 use Rattle.number.specs.Lists.{leading}
 use Rattle.sizing.specs.declared.Size.{Size}
-use Rattle.sizing.specs.Sums.{equal, none, sum, multiple, none-sum}
+use Rattle.sizing.specs.Sums.{equal, sum, multiple, none-sum}
 use Rattle.sizing.specs.Gates.{orSize}
 use Rattle.sizing.specs.KindSizes.{gapsSize, groupsSize, listSize, clashSize, listLength, kindSize}
 use Rattle.sizes.specs.declared.shape.Shape.{Shape}

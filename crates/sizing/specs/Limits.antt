@@ -24,9 +24,6 @@ use Rattle.sizing.specs.KindSizes.{listSize, clashSize, gapSize, gapsSiz
 pub fits-multiple : (k m : ℕ) (a : Size) → k ≤ 4294967295 → m ≤ 4294967295 → Within m a → Fits64 (multiple k a)
 fits-multiple k m a h j w = within-more (omega (arith, mul-le-mul h j)) (within-multiple k m a w)
 
-pub fits-sum : (a b : Size) → Within 9223372036854775807 a → Within 9223372036854775807 b → Fits64 (sum a b)
-fits-sum a b v w = within-more (omega arith) (within-sum 9223372036854775807 9223372036854775807 a b v w)
-
 -- an OR
 pub or-within : (n : ℕ) → n ≤ 1024 → Within 3073 (orSize n)
 unfolding orSize

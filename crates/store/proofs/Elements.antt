@@ -12,7 +12,7 @@ use prog.Wp.{Heap}
 use ghost.Atoms.{Atoms}
 use types.Kit.{Given, Item, Goal, Seq, Step, step, ‵, _$_, move, drop}
 use denote.Laws.{Is, shows}
-use denote.Memory.{cellAt, mem, shares}
+use denote.Memory.{cellAt, shares}
 use denote.Index.{row, place, others, elem-out, elem-put}
 use denote.Steps.{only, owned}
 use denote.Struct.Laws as LL

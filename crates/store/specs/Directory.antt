@@ -1,5 +1,5 @@
 -- The rows that a list of row structs holds.
-use mathlib.Core.Path.{_≡_, refl, sym, ap, fun-ext}
+use mathlib.Core.Path.{_≡_, refl, fun-ext}
 use mathlib.Core.Bool.{Bool, true, false, cond}
 use mathlib.Core.List.{List}
 use Prim.Native.Nat.{ℕ, _<_}
@@ -11,12 +11,9 @@ use Rattle.scope.specs.Steps.{put}
 use Rattle.store.specs.declared.directory.Row.{Row}
 use Rattle.store.specs.Rows.{noRow}
 
+-- row i of them, and no row past the end
 abbrev pub rowsOf : List Row → ℕ → Row
 rowsOf xs i = getD xs i noRow
-
--- how many rows there are
-abbrev pub capacity : List Row → ℕ
-capacity xs = length xs
 
 -- a row that is stored
 pub row-put : (xs : List Row) (n : ℕ) (row : Row) → n < length xs → rowsOf (set xs n row) ≡ put (rowsOf xs) n row

@@ -4,7 +4,7 @@ ghost use mathlib.Core.Path.{_≡_};
 ghost use Prim.Native.Nat.{_≤_, _<_};
 ghost use lib.ListN.{length, replicate};
 ghost use Rattle.store.specs.Rows.{noRow, Started, Narrowed, Finds, Dies, Appends};
-ghost use Rattle.store.specs.Directory.{rowsOf, capacity};
+ghost use Rattle.store.specs.Directory.{rowsOf};
 ghost use Rattle.store.specs.Marked.{Unmarks, rowBetween, Built};
 
 // A clause's id, its first word, its length, and 1 as long as it is live.
@@ -102,7 +102,7 @@ fn least(a: usize, b: usize) -> usize
 
 // The row with an id among the first n; where there is none, the row that is found is not live.
 pub fn find(rows: &[Row], n: usize, id: usize) -> Probe
-    ensures { λ r. ⌜ Finds (capacity (now (rows .entry))) (rowsOf (now (rows .entry))) n id r ⌝ }
+    ensures { λ r. ⌜ Finds (length (now (rows .entry))) (rowsOf (now (rows .entry))) n id r ⌝ }
 {
     let mut s = start(least(n, rows.len()), id);
     while s.lo < s.hi {
@@ -114,7 +114,7 @@ pub fn find(rows: &[Row], n: usize, id: usize) -> Probe
 
 // The row i is no longer live.
 pub fn mark_dead(rows: &mut [Row], i: usize)
-    ensures { λ _. ⌜ Dies (capacity (now (rows .entry))) (rowsOf (now (rows .entry))) (rowsOf (now (rows .exit))) i ⌝ }
+    ensures { λ _. ⌜ Dies (length (now (rows .entry))) (rowsOf (now (rows .entry))) (rowsOf (now (rows .exit))) i ⌝ }
 {
     if rows.len() <= i {
         return;
@@ -124,7 +124,7 @@ pub fn mark_dead(rows: &mut [Row], i: usize)
 
 // A row after the first n.
 pub fn append(rows: &mut [Row], n: usize, row: Row)
-    ensures { λ _. ⌜ Appends (capacity (now (rows .entry))) (rowsOf (now (rows .entry))) (rowsOf (now (rows .exit))) n row ⌝ }
+    ensures { λ _. ⌜ Appends (length (now (rows .entry))) (rowsOf (now (rows .entry))) (rowsOf (now (rows .exit))) n row ⌝ }
 {
     if rows.len() <= n {
         return;
@@ -166,7 +166,7 @@ fn row_between(n: usize, first: usize, next: usize) -> Row
 // The rows of the clauses in the first total words, where each clause's last word is marked by 2^31; the words are then as
 // they were before they were marked. The clauses have the ids 1, 2, .. in turn. How many they are.
 pub fn build_directory(words: &mut [u32], rows: &mut [Row], total: usize) -> usize
-    ensures { λ r. ⌜ Built (now (words .entry)) (now (words .exit)) (capacity (now (rows .entry))) (rowsOf (now (rows .exit))) total r ⌝ }
+    ensures { λ r. ⌜ Built (now (words .entry)) (now (words .exit)) (length (now (rows .entry))) (rowsOf (now (rows .exit))) total r ⌝ }
 {
     let end = least(total, words.len());
     let mut n = 0;

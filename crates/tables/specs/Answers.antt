@@ -1,7 +1,7 @@
 -- What the answers of this crate stand for: a list in a row, lists in the rows of a table, an event, and events in two tables.
 use Prim.Native.Nat.{ℕ}
 use mathlib.Core.List.{List}
-use Rattle.scope.specs.Parsed.{Parsed, got, refused}
+use Rattle.scope.specs.Parsed.{Parsed, got}
 use Rattle.scope.specs.Kinds.{Event}
 use Rattle.number.specs.declared.Number.{Number}
 use Rattle.number.specs.declared.Number.the-variants.{Value, Refused}

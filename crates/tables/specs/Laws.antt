@@ -1,18 +1,14 @@
 -- What is known of a table's rows: a row's length is its first byte, its members are the bytes after that.
 use Prim.Native.Nat.{ℕ, zero, suc, _+_, _*_, _-_, _≤_, _<_}
-use mathlib.Core.Path.{_≡_, refl, sym, ap, _∙_}
-use mathlib.Core.List.{List, [], _∷_, _++_}
-use mathlib.Core.Bool.{Bool, true, false, _||_}
+use mathlib.Core.Path.{_≡_, refl, _∙_}
+use mathlib.Core.List.{List, [], _∷_}
 use mathlib.Core.Logic.{⊎-elim}
 use native.Mathlib.Nat.{not-suc-le-zero, le-of-suc-le-suc, add-zero, eq-or-lt-of-le}
 use native.Mathlib.Omega.{arith}
-use native.Mathlib.Numerals.{add-one}
-use lib.Dec.{eqb}
-use borrow.Author.Tests.{eq-eqb, ne-eqb}
-use lib.ListN.{length, getD, take, drop, length-append, List·getD-append, drop-of-length-le}
-use lib.Seq.{getD-take, getD-drop, getD-at, drop-cons}
-use Rattle.scope.specs.Kinds.{Event, member, groupAt}
-use Rattle.number.specs.Lists.{leading, length-leading, getD-leading}
+use lib.ListN.{length, getD, take, drop, length-append, List·getD-append}
+use lib.Seq.{getD-take, getD-drop, getD-at}
+use Rattle.scope.specs.Kinds.{Event, groupAt}
+use Rattle.number.specs.Lists.{length-leading, getD-leading}
 use Rattle.tables.specs.Rows.{rowOf, rowAt, rows, eventOf, eventsOf}
 
 -- a row: its length and its members
@@ -77,19 +73,3 @@ events-at d t (suc n) e other h =
     (λ (l : e < n).
     List·getD-append (eventsOf d t n) (eventOf d t n ∷ []) other e (rw length-events l) ∙ events-at d t n e other l)
     (eq-or-lt-of-le (le-of-suc-le-suc h))
-
--- looking for x in a list, member by member: y is the member at i
-module _ (x y : ℕ) (l : List ℕ) (i : ℕ) (h : i < length l) (e : y ≡ getD l i 0) where
-  next-member : member x (drop i l) ≡ eqb x y || member x (drop (i + 1) l)
-  unfolding member
-  next-member = rw (e, add-one, drop-cons l i 0)
-
-  pub member-here : y ≡ x → member x (drop i l) ≡ true
-  member-here k = next-member ∙ rw (eq-eqb x y (sym k))
-
-  pub member-later : (y ≡ x → ⊥) → member x (drop i l) ≡ member x (drop (i + 1) l)
-  member-later k = next-member ∙ rw (ne-eqb x y (λ p. k (sym p)))
-
-pub member-past : (x : ℕ) (l : List ℕ) (i : ℕ) → length l ≤ i → member x (drop i l) ≡ false
-unfolding member
-member-past x l i h = rw (drop-of-length-le l h)

@@ -1,12 +1,12 @@
 -- What is known of events and groups that were read, and so of the tables' rows that hold them.
 use Prim.Native.Nat.{ℕ, zero, suc, _+_, _*_, _-_, _≤_, _<_}
-use mathlib.Core.Path.{_≡_, refl, sym, ap, _∙_}
-use mathlib.Core.List.{List, [], _∷_, _++_}
+use mathlib.Core.Path.{_≡_}
+use mathlib.Core.List.{List, [], _∷_}
 use mathlib.Core.Logic.{⊎-elim}
-use lib.ListN.{length, getD}
+use lib.ListN.{length}
 use native.Mathlib.Nat.{not-suc-le-zero, le-of-suc-le-suc, eq-or-lt-of-le}
 use native.Mathlib.Omega.{arith}
-use Rattle.scope.specs.Parsed.{Parsed, got, refused, andThen, repeat}
+use Rattle.scope.specs.Parsed.{got, andThen, repeat}
 use Rattle.scope.specs.Number.{limited, listed}
 use Rattle.scope.specs.Kinds.{Event}
 use Rattle.scope.specs.Instance.{eventAt, groupsAt}

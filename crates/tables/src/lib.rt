@@ -7,7 +7,6 @@ mod users;
 
 pub use read::events_at;
 pub use read::groups_at;
-pub use row::row_has;
 pub use row::row_len;
 pub use row::row_member;
 pub use store::durations;

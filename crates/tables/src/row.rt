@@ -2,7 +2,6 @@
 ghost use mathlib.Core.Path.{_≡_};
 ghost use Prim.Native.Nat.{_+_, _*_, _≤_, _<_};
 ghost use lib.ListN.{length, getD};
-ghost use Rattle.scope.specs.Kinds.{member};
 ghost use Rattle.tables.specs.Rows.{rowAt, RowIn};
 
 // How many members it has.
@@ -22,20 +21,4 @@ pub fn row_member(table: &[u8], row: usize, k: usize) -> u8
 {
     let at = row * 126 + 1 + k;
     table[at]
-}
-
-// Whether x is a member.
-pub fn row_has(table: &[u8], row: usize, x: u8) -> bool
-    requires { ⌜ RowIn (now table) row ⌝ }
-    ensures { λ b. ⌜ b ≡ member x (rowAt (now (table .entry)) row) ⌝ }
-{
-    let n = row_len(table, row);
-    let mut k: usize = 0;
-    while k < n {
-        if row_member(table, row, k) == x {
-            return true;
-        }
-        k = k + 1;
-    }
-    false
 }

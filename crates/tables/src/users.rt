@@ -4,7 +4,7 @@ use crate::row::row_member;
 ghost use mathlib.Core.Path.{_≡_};
 ghost use Prim.Native.Nat.{ℕ, _+_, _≤_, _<_};
 ghost use lib.ListN.{length, getD};
-ghost use Rattle.tables.specs.Rows.{rowAt, RowsIn};
+ghost use Rattle.tables.specs.Rows.{RowsIn};
 ghost use Rattle.tables.specs.Users.{Counted};
 
 // One more for each member of a row.

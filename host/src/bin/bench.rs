@@ -86,17 +86,28 @@ fn main() {
     checks(&schools);
 }
 
-/// The operations that walk over the clauses.
+/// The operations that walk over the clauses, on the same files. Their
+/// constraints are all soft, so that every timetable has a model to decode.
 fn formulas(schools: &[School]) {
-    let written = |school: &&School| school.lessons <= MOST_WRITTEN;
-    for School { lessons, file, .. } in schools.iter().filter(written) {
+    let files: Vec<(usize, Vec<u8>, Vec<u8>)> = schools
+        .iter()
+        .filter(|school| school.lessons <= MOST_WRITTEN)
+        .map(|school| {
+            let mut soft = school.instance.clone();
+            for constraint in &mut soft.constraints {
+                constraint.weight = constraint.weight.max(1);
+            }
+            (school.lessons, encode(&soft), model(&soft, &school.table))
+        })
+        .collect();
+    for (lessons, file, _) in &files {
         row(
             ("text_size", *lessons, file.len()),
             || engine::text_size(file).is_ok(),
             || reference::text_size(file).is_ok(),
         );
     }
-    for School { lessons, file, .. } in schools.iter().filter(written) {
+    for (lessons, file, _) in &files {
         let length = engine::text_size(file).expect("an accepted file") as usize;
         let (mut out, mut same) = (vec![0; length], vec![0; length]);
         let mut value = 0;
@@ -106,23 +117,11 @@ fn formulas(schools: &[School]) {
             || reference::text(file, &mut same).is_ok(),
         );
     }
-    for School {
-        lessons,
-        instance,
-        table,
-        ..
-    } in schools.iter().filter(written)
-    {
-        // Without hard constraints every timetable has a model.
-        let mut soft = instance.clone();
-        for constraint in &mut soft.constraints {
-            constraint.weight = constraint.weight.max(1);
-        }
-        let (file, model) = (encode(&soft), model(&soft, table));
+    for (lessons, file, model) in &files {
         row(
             ("decode", *lessons, file.len() + model.len()),
-            || engine::decode(&file, &model).is_ok(),
-            || reference::decode(&file, &model).is_ok(),
+            || engine::decode(file, model).is_ok(),
+            || reference::decode(file, model).is_ok(),
         );
     }
 }

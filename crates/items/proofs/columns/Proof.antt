@@ -1,5 +1,5 @@
 -- `items::columns` meets its contract.
-use mathlib.Core.Path.{_∙_, sym}
+use mathlib.Core.Path.{sym}
 use native.Mathlib.Omega.{arith}
 use Rattle.items.specs.Counted.{columns-hard, columns-soft}
 use borrow.Author.Needs.{needs}

@@ -1,5 +1,4 @@
 -- `items::shorts` meets its contract.
-use mathlib.Core.Path.{refl}
 use borrow.Author.Needs.{needs}
 use Rattle.items.proofs.shorts.Statement.{statement}
 use Rattle.items.proofs.shorts.Tie as tie

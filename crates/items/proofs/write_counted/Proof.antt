@@ -1,8 +1,5 @@
 -- `items::write_counted` meets its contract.
-use Prim.Native.Nat.{_+_, _*_, _≤_}
-use mathlib.Core.Path.{_≡_, refl}
 use native.Mathlib.Omega.{arith}
-use lib.ListN.{length}
 use Rattle.items.specs.Counted.{counted-gates, counted-wrote}
 use borrow.Author.Needs.{needs}
 use Rattle.items.proofs.write_counted.Statement.{statement}

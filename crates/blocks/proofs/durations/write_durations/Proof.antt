@@ -1,8 +1,8 @@
 -- `blocks::durations::write_durations` meets its contract. The loop's invariant: the counted lists of the events that are left.
-use mathlib.Core.Path.{_≡_, refl, _∙_, sym}
+use mathlib.Core.Path.{_≡_, refl, sym}
 use Prim.Native.Nat.{_+_, _-_, _≤_}
 use native.Mathlib.Omega.{arith}
-use lib.ListN.{length, getD}
+use lib.ListN.{length}
 use Rattle.sink.specs.World.{world, step}
 use Rattle.literals.specs.Numbered.{allNumbered}
 use Rattle.items.specs.Held.{held-length, front-literals}

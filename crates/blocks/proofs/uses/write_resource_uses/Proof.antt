@@ -1,5 +1,5 @@
 -- `blocks::uses::write_resource_uses` meets its contract. The loop's invariant: the ORs of the times that are left.
-use mathlib.Core.Path.{_≡_, refl, _∙_}
+use mathlib.Core.Path.{_≡_, refl}
 use Prim.Native.Nat.{_+_, _-_, _≤_}
 use native.Mathlib.Omega.{arith}
 use lib.ListN.{length, take, length-map}

@@ -37,7 +37,7 @@ use denote.Triple.Entry.{onEntry}
 use denote.Triple.Spec.{Meets, tripleOf}
 use denote.Triple.Statement.{Contract, Triple}
 use denote.Triple.Table.{entered as entered-by, cited}
-use denote.Triple.Walked.{says, needs, Stays, stay-slice, stay-dropped, walkOf, goes-slice, goes-dropped, ends-at, walked, walk-meets}
+use denote.Triple.Walked.{says, Stays, stay-slice, stay-dropped, walkOf, goes-slice, goes-dropped, ends-at, walked, walk-meets}
 use denote.Exit.{yes}
 use lib.Dec.{T, eqb, T-not, eqb-refl, eqb→eq}
 use mathlib.Core.Bool.{not}

@@ -16,7 +16,7 @@ use ghost.Atoms.{Atoms}
 use contract.Monad.{Fun}
 use contract.Running.{givenOf, tables, tablesOf}
 use types.Kit.{Given, ‵, _⊛_, ⋆, _$_, _∵_, !, qed, by, move, keep, split, join, fsplit, suffices, frame}
-use types.Run.{look, init, and-then, no-more, first, returns, enter, params1, pass1, pass0}
+use types.Run.{look, init, and-then, no-more, returns, enter, params1, pass1, pass0}
 use types.Part.{agg}
 use sound.WpLaws.{WpFn-mono}
 use denote.RattleType.{owns}

@@ -1,6 +1,5 @@
-use mathlib.Core.Path.{_≡_, sym, _∙_}
+use mathlib.Core.Path.{sym, _∙_}
 use native.Mathlib.Omega.{arith}
-use lib.ListN.{getD}
 use Rattle.bound.proofs.StepBytes.{byte-inside}
 use Rattle.bound.proofs.StepReading.{byte-adds, byte-other, byte-cut, byte-deletes}
 use borrow.Author.Needs.{needs}

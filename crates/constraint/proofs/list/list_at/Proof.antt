@@ -1,7 +1,7 @@
 -- `constraint::list::list_at` meets its contract. The loop's invariant: the list is what the members stored so far and the
 -- references still to be read come to.
 use borrow.Author.Needs.{needs}
-use Prim.Native.Nat.{_-_, _≤_, _<_}
+use Prim.Native.Nat.{_-_, _≤_}
 use mathlib.Core.Path.{_≡_, sym, ap, _∙_}
 use native.Mathlib.Omega.{arith}
 use lib.ListN.{length, length-set}

@@ -1,4 +1,3 @@
-use mathlib.Core.Path.{refl}
 use Rattle.gates.specs.Evaluate.{beq-true}
 use Rattle.gates.proofs.evaluate.equal.Statement.{statement}
 use Rattle.gates.proofs.evaluate.equal.Tie as tie

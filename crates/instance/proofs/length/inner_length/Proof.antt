@@ -1,10 +1,10 @@
 -- `instance::length::inner_length` meets its contract. The loop's invariant: the sum, and what the groups still to be looked
 -- at come to, are the whole; a group has at most 125 members.
 use borrow.Author.Needs.{needs}
-use Prim.Native.Nat.{_+_, _*_, _-_, _≤_, _<_}
-use mathlib.Core.Path.{_≡_, refl, sym, _∙_}
+use Prim.Native.Nat.{_+_, _*_, _-_, _≤_}
+use mathlib.Core.Path.{_≡_}
 use native.Mathlib.Omega.{arith}
-use lib.ListN.{length, getD, drop}
+use lib.ListN.{length, drop}
 use Rattle.number.specs.Lists.{leading}
 use Rattle.instance.specs.Inner.{innerRows, listed-in, inner-more, inner-past}
 use Rattle.instance.proofs.length.inner_length.Statement.{statement}

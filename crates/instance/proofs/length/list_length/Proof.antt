@@ -1,12 +1,12 @@
 -- `instance::length::list_length` meets its contract: a case for each kind.
 use borrow.Author.Needs.{needs}
 use Prim.Native.Nat.{_≤_}
-use mathlib.Core.Path.{_≡_, refl, sym, _∙_}
+use mathlib.Core.Path.{_∙_}
 use native.Mathlib.Nat.{mul-le-mul}
 use native.Mathlib.Omega.{arith}
 use lib.ListN.{length}
 use Rattle.number.specs.Laws.{ascending-length}
-use Rattle.number.specs.Lists.{leading, length-leading}
+use Rattle.number.specs.Lists.{length-leading}
 use Rattle.tables.specs.Laws.{group-row}
 use Rattle.instance.specs.Length.{listLength}
 use Rattle.instance.specs.Inner.{one-in, ascending-in, inner-rows}

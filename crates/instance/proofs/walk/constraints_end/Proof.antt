@@ -1,9 +1,9 @@
 -- `instance::walk::constraints_end` meets its contract. The loop's invariant: the constraints still to be read end where all do.
 use borrow.Author.Needs.{needs}
-use Prim.Native.Nat.{_-_, _≤_, _<_}
-use mathlib.Core.Path.{_≡_, refl, sym, ap, _∙_}
+use Prim.Native.Nat.{_-_, _≤_}
+use mathlib.Core.Path.{_≡_, refl, sym, _∙_}
 use native.Mathlib.Omega.{arith}
-use lib.ListN.{length, getD}
+use lib.ListN.{getD}
 use Rattle.scope.specs.Parsed.{repeat}
 use Rattle.constraint.specs.Ladder.{next-value, next-refused}
 use Rattle.instance.specs.Ends.{ends, ends-more, ends-refused, ends-end}

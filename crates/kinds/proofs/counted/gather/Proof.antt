@@ -1,15 +1,10 @@
 -- `kinds::counted::gather` meets its contract: a case for each kind.
-use Prim.Native.Nat.{_+_, _-_, _*_, _≤_}
-use mathlib.Core.Path.{_≡_, refl, sym, _∙_}
+use Prim.Native.Nat.{_-_}
 use native.Mathlib.Omega.{arith}
-use lib.ListN.{length}
-use Rattle.number.specs.Laws.{ascending-length}
-use Rattle.number.specs.Lists.{leading, length-leading, leading-take}
-use Rattle.tables.specs.Rows.{rowAt}
-use Rattle.literals.specs.Variables.{sAt}
-use Rattle.literals.specs.Words.{holds-none, holds-as}
+use Rattle.number.specs.Lists.{length-leading}
+use Rattle.literals.specs.Words.{holds-none}
 use Rattle.literals.specs.Numbered.{numbered}
-use Rattle.kinds.specs.Ground.{ground-sizes, ground-event, ground-resource, ground-group, ground-ascends, ground-events}
+use Rattle.kinds.specs.Ground.{ground-sizes, ground-event, ground-resource, ground-group, ground-ascends}
 use Rattle.kinds.specs.Counted.{countedList}
 use Rattle.kinds.specs.Cases.{clash-literals, spread-fit, cluster-fit, idle-fit}
 use borrow.Author.Needs.{needs}

@@ -1,5 +1,4 @@
 -- `kinds::gaps::write_earlier` meets its contract.
-use mathlib.Core.Path.{_≡_, _∙_}
 use Rattle.kinds.proofs.IdleTimes.{put-back}
 use borrow.Author.Needs.{needs}
 use Rattle.kinds.proofs.gaps.write_earlier.Statement.{statement}

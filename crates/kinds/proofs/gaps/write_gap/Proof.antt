@@ -1,5 +1,5 @@
 -- `kinds::gaps::write_gap` meets its contract.
-use mathlib.Core.Path.{_≡_, _∙_}
+use mathlib.Core.Path.{_∙_}
 use native.Mathlib.Omega.{arith}
 use Rattle.kinds.proofs.IdleTimes.{gap-ran}
 use borrow.Author.Needs.{needs}

@@ -1,8 +1,8 @@
 -- `kinds::gaps::write_gaps` meets its contract. The loop's invariant: the gates of the groups that are left.
-use mathlib.Core.Path.{_≡_, refl, _∙_}
-use Prim.Native.Nat.{_+_, _-_, _*_, _≤_}
+use mathlib.Core.Path.{_≡_, refl}
+use Prim.Native.Nat.{_-_, _≤_}
 use native.Mathlib.Omega.{arith}
-use lib.ListN.{length, drop}
+use lib.ListN.{length}
 use Rattle.sink.specs.World.{world, step}
 use Rattle.literals.specs.Tables.{groupIn}
 use Rattle.items.specs.Held.{held-literals}

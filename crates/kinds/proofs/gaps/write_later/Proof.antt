@@ -1,5 +1,4 @@
 -- `kinds::gaps::write_later` meets its contract.
-use mathlib.Core.Path.{_≡_, _∙_}
 use Rattle.kinds.proofs.IdleTimes.{later-words, later-literals, later-room, later-kept}
 use borrow.Author.Needs.{needs}
 use Rattle.kinds.proofs.gaps.write_later.Statement.{statement}

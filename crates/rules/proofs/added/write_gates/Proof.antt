@@ -1,8 +1,8 @@
 -- `rules::added::write_gates` meets its contract: a case for each kind.
-use mathlib.Core.Path.{_≡_, refl, _∙_}
+use mathlib.Core.Path.{refl}
 use native.Mathlib.Omega.{arith}
 use Rattle.literals.specs.Numbered.{numbered}
-use Rattle.kinds.specs.Ground.{cellsOf, ground-groups}
+use Rattle.kinds.specs.Ground.{ground-groups}
 use Rattle.kinds.specs.Counted.{countedList}
 use Rattle.kinds.specs.Cases.{clash-gates, groups-room}
 use Rattle.items.specs.Written.{wrote-none}

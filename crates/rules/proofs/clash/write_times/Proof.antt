@@ -1,6 +1,6 @@
 -- `rules::clash::write_times` meets its contract. The loop's invariant: the counted lists of the times that are left.
-use mathlib.Core.Path.{_≡_, refl, _∙_, sym}
-use Prim.Native.Nat.{_+_, _-_, _≤_}
+use mathlib.Core.Path.{_≡_, refl, sym}
+use Prim.Native.Nat.{_-_, _≤_}
 use native.Mathlib.Omega.{arith}
 use lib.ListN.{length, take}
 use Rattle.sink.specs.World.{world, step}

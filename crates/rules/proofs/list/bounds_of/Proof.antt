@@ -1,5 +1,5 @@
 -- `rules::list::bounds_of` meets its contract: a case for each kind.
-use mathlib.Core.Path.{_≡_, refl}
+use mathlib.Core.Path.{refl}
 use Rattle.literals.specs.Numbered.{numbered}
 use Rattle.kinds.specs.Counted.{countedList}
 use Rattle.rules.specs.BoundsFor.{clash-bounds}

@@ -1,7 +1,6 @@
 -- `rules::list::write_list` meets its contract.
-use mathlib.Core.Path.{_≡_, refl, _∙_, sym}
+use mathlib.Core.Path.{refl, sym}
 use native.Mathlib.Omega.{arith}
-use lib.ListN.{length}
 use Rattle.constraint.specs.Answers.{kindOf}
 use Rattle.literals.specs.Tables.{groupIn}
 use Rattle.items.specs.Held.{held-length, front-literals}

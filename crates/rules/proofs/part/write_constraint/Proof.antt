@@ -1,5 +1,4 @@
 -- `rules::part::write_constraint` meets its contract.
-use mathlib.Core.Path.{_≡_}
 use native.Mathlib.Omega.{arith}
 use Rattle.sink.specs.Lend.{base-within, lent, lent-before}
 use borrow.Author.Needs.{needs}

@@ -1,5 +1,5 @@
 -- `rules::rules::write_rules` meets its contract.
-use mathlib.Core.Path.{_≡_, refl, _∙_, sym}
+use mathlib.Core.Path.{sym}
 use Rattle.items.specs.Written.{room-same, wrote-same}
 use Rattle.rules.specs.Clash.{clash-fits, clash-lists}
 use Rattle.rules.specs.OneList.{list-fits, list-part}

@@ -1,7 +1,7 @@
 -- `before::durations_size` meets its contract. The loop's invariant: the sum is that of the events so far.
 use borrow.Author.Needs.{needs}
 use Prim.Native.Nat.{ℕ, _*_, _-_, _≤_}
-use mathlib.Core.Path.{_≡_, refl}
+use mathlib.Core.Path.{_≡_}
 use mathlib.Core.List.{List}
 use native.Mathlib.Omega.{arith}
 use Rattle.tables.specs.Rows.{eventsOf}

@@ -1,8 +1,8 @@
 -- `size::groups_size` meets its contract. The loop's invariant: the sum, and what the groups still to be looked at come to, are
 -- the whole.
 use borrow.Author.Needs.{needs}
-use Prim.Native.Nat.{_+_, _*_, _-_, _≤_}
-use mathlib.Core.Path.{_≡_, refl, sym, _∙_}
+use Prim.Native.Nat.{_*_, _-_, _≤_}
+use mathlib.Core.Path.{_≡_, sym}
 use native.Mathlib.Omega.{arith}
 use lib.ListN.{drop}
 use Rattle.number.specs.Lists.{leading}

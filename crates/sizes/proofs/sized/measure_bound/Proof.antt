@@ -1,7 +1,6 @@
 -- `sized::measure_bound` meets its contract: the file is read, then the bound is judged, then the formula with its tail.
 use borrow.Author.Needs.{needs}
 use mathlib.Core.Path.{sym, _∙_}
-use Prim.Native.Nat.{_≤_}
 use borrow.Author.Tests.{leb-true}
 use Rattle.instance.specs.Laws.{accepted}
 use Rattle.sizes.specs.Whole.{total-fits}

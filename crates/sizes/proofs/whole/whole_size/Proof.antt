@@ -1,7 +1,6 @@
 -- `whole::whole_size` meets its contract: users counted, what stands before the constraints, and the walk over them.
 use borrow.Author.Needs.{needs}
 use mathlib.Core.Path.{refl}
-use native.Mathlib.Omega.{arith}
 use Rattle.instance.specs.Ready.{zeros}
 use Rattle.sizes.specs.Opened.{opened-countable, opened-users, opened-begun, opened-meant, opened-walkable, opened-whole}
 use Rattle.sizes.proofs.whole.whole_size.Statement.{statement}

@@ -28,7 +28,7 @@ use denote.Plain.{uint-vals, uint-tells}
 use denote.Builtin.{usize}
 use denote.Ref.{RefT}
 use denote.Slice.{sliceVal, slice-vals, MutSlice, Room, mut-slice-tells}
-use denote.Index.{row, place-is}
+use denote.Index.{place-is}
 use denote.Signature.{plain}
 use denote.Steps.{nothing}
 use denote.Struct.Laws as LL

@@ -30,7 +30,7 @@ use denote.Builtin.{usize}
 use denote.Ref.{RefT}
 use denote.Memory.{shares}
 use denote.Slice.{sliceVal, slice-vals, ShrSlice, Room, shr-slice-tells}
-use denote.Index.{row, place-is, elem-back, looks-slice, shuts-slice}
+use denote.Index.{place-is, elem-back, looks-slice, shuts-slice}
 use denote.Signature.{plain}
 use denote.Steps.{owned, nothing}
 use denote.Struct.Laws as LL
@@ -45,7 +45,7 @@ use Rattle.store.specs.declared.directory.Probe.{Probe}
 use Rattle.store.specs.Rows.{noRow}
 use Rattle.store.specs.Directory.{rowsOf}
 use Rattle.store.proofs.Walk.{rest, ty-at, Addrs, addr-at, env-of, laid, rotate, dropped, allocs-all, frees-all, var, part, fills}
-use Rattle.store.proofs.Slices.{at-list, shared}
+use Rattle.store.proofs.Slices.{at-list}
 use Rattle.store.proofs.Elements.{IsRow, row-typed, row-out, IsProbe, probe-same, probe-typed}
 use Rattle.store.proofs.directory.Row as R
 use Rattle.store.proofs.directory.Row.Laws as R′

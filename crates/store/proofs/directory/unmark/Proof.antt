@@ -1,9 +1,8 @@
-use mathlib.Core.Path.{_≡_, refl, ap}
-use Prim.Native.Nat.{_-_, _≤_}
+use mathlib.Core.Path.{_≡_, ap}
+use Prim.Native.Nat.{_-_}
 use native.Mathlib.Omega.{arith}
 use lib.ListN.{length, length-set}
 use Rattle.store.proofs.Building.{Passing, pass-start, pass-next, pass-marked, pass-end}
-use borrow.Author.Needs.{needs}
 use Rattle.store.proofs.directory.unmark.Statement.{statement}
 use Rattle.store.proofs.directory.unmark.Tie as tie
 

@@ -1,7 +1,7 @@
 -- `tables::read::groups_at` meets its contract. The loop's invariant: the groups are the rows of the table so far, and those
 -- still to be read.
 use borrow.Author.Needs.{needs}
-use Prim.Native.Nat.{_+_, _*_, _-_, _≤_, _<_}
+use Prim.Native.Nat.{_+_, _*_, _-_, _≤_}
 use mathlib.Core.Path.{_≡_, sym, _∙_}
 use native.Mathlib.Omega.{arith}
 use lib.ListN.{length, length-take, length-drop}

@@ -6,7 +6,6 @@ use mathlib.Core.Path.{_≡_, refl, sym, ap, _∙_}
 use native.Mathlib.Omega.{arith}
 use lib.ListN.{length, getD, set, length-set}
 use lib.Seq.{getD-set-same, getD-set-other}
-use Rattle.scope.specs.Parsed.{got}
 use Rattle.scope.specs.Number.{listed}
 use Rattle.number.specs.Answers.{said}
 use Rattle.number.specs.Ladder.{limited-value, reference-value}

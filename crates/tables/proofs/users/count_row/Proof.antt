@@ -1,7 +1,7 @@
 -- `tables::users::count_row` meets its contract. The loop's invariant: the counts are those of the rows before and of the
 -- members passed, so they stay small.
 use borrow.Author.Needs.{needs}
-use Prim.Native.Nat.{_-_, _≤_, _<_}
+use Prim.Native.Nat.{_-_, _≤_}
 use mathlib.Core.Path.{_≡_}
 use native.Mathlib.Omega.{arith}
 use lib.ListN.{length, length-set}
