@@ -59,8 +59,7 @@ fn cell_words(block: &mut [u32; 11], x: u32, w: u32, prev: u32, first: u32, j: u
     11
 }
 
-// One cell of a counter. In a model its variable is compared with its gate's value; the clauses are written one by one only
-// where some are false.
+// One cell of a counter.
 pub fn write_cell(
     job: Job,
     model: &[u8],
@@ -77,18 +76,13 @@ pub fn write_cell(
     ensures { λ r. ⌜ Ran (step job (now (model .entry))) (lines (first + j) (gate (cellAt x w prev j) ∷ []))
         (world s (now (text .entry)) (now (words .entry))) (world r (now (text .exit)) (now (words .exit))) ⌝ }
 {
-    if sink::evaluates(job) {
-        if evaluate::cell_right(model, x, w, prev, first, j) {
-            return sink::passed(s, evaluate::cell_clauses(w, prev, j));
-        }
-    }
     let mut block = [0u32; 11];
     let n = cell_words(&mut block, x, w, prev, first, j);
     sink::emit(job, model, text, words, s, &block[..n])
 }
 
-// One row of a counter: the row at first over the row at prev, for a literal of a weight.
-pub fn write_row(
+// The cells of a row, one by one.
+fn write_cells(
     job: Job,
     model: &[u8],
     text: &mut [u8],
@@ -109,6 +103,32 @@ pub fn write_row(
         z = write_cell(job, model, text, words, z, x, w, prev, first, j);
     }
     z
+}
+
+// One row of a counter: the row at first over the row at prev, for a literal of a weight. In a model each of its variables is
+// compared with its gate's value, and clauses are looked at one by one only where some are false.
+pub fn write_row(
+    job: Job,
+    model: &[u8],
+    text: &mut [u8],
+    words: &mut [u32],
+    s: Sink,
+    x: u32,
+    w: u32,
+    prev: u32,
+    first: u32,
+    cols: u32,
+) -> Sink
+    requires { ⌜ Literal x × (1 ≤ first) × (first + cols ≤ 1073741824) × (prev + cols ≤ 1073741824) ⌝ }
+    ensures { λ r. ⌜ Ran (step job (now (model .entry))) (lines first (map gate (row (rowOver prev) w x 1 cols)))
+        (world s (now (text .entry)) (now (words .entry))) (world r (now (text .exit)) (now (words .exit))) ⌝ }
+{
+    if sink::evaluates(job) {
+        if evaluate::row_right(model, x, w, prev, first, cols) {
+            return sink::passed(s, evaluate::row_clauses(w, prev, cols));
+        }
+    }
+    write_cells(job, model, text, words, s, x, w, prev, first, cols)
 }
 
 // A counter over literals of the weight 1, from the variable first on.

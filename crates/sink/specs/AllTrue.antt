@@ -34,6 +34,22 @@ evaluating-is Words e = never-true e
 evaluating-is Evaluate e = refl
 evaluating-is Tail e = never-true e
 
+-- a position after n clauses more
+abbrev pub counted : ℕ → ℕ → ℕ
+counted zero a = a
+counted (suc n) a = further a (suc n)
+
+pub counted-none : (n : ℕ) {a : ℕ} → n ≡ 0 → a ≡ counted n a
+counted-none n e = rw e
+
+pub counted-some : (n a : ℕ) → (n ≡ 0 → ⊥) → further a n ≡ counted n a
+counted-some zero a z = absurd (z refl)
+counted-some (suc n) a z = refl
+
+counted-more : (n a : ℕ) → counted n (further a 1) ≡ counted (suc n) a
+counted-more zero a = refl
+counted-more (suc n) a = omega arith
+
 -- the lowest false clause so far stays
 bad-stays : (b : ℕ) → cond (eqb b 0) 0 b ≡ b
 bad-stays zero = refl
@@ -44,19 +60,18 @@ module _ (k : Job) (m : List ℕ) (e : k .mode ≡ Evaluate) (t w : List ℕ) wh
   unfolding step
   one-true c s h = rw (e, h, bad-stays (s .bad))
 
-  all-true : (c : List ℕ) (cs : List (List ℕ)) (s : Sink) → clauses (bit m) (c ∷ cs) ≡ true
-      → run (step k m) (map clauseLine (c ∷ cs)) (world s t w) ≡ world (sinkAt (further (s .at) (suc (length cs))) s) t w
+  all-true : (cs : List (List ℕ)) (s : Sink) → clauses (bit m) cs ≡ true
+      → run (step k m) (map clauseLine cs) (world s t w) ≡ world (sinkAt (counted (length cs) (s .at)) s) t w
   unfolding clauses
-  all-true c [] s h = one-true c s (and-true (clause (bit m) c) _ h .0)
-  all-true c (d ∷ ds) s h =
-      let b = and-true (clause (bit m) c) (clauses (bit m) (d ∷ ds)) h in
-      ap (run (step k m) (map clauseLine (d ∷ ds))) (one-true c s (b .0))
-      ∙ all-true d ds (sinkAt (further (s .at) 1) s) (b .1)
-      ∙ ap (λ (a : ℕ). world (sinkAt a s) t w) (omega arith)
+  all-true [] s h = refl
+  all-true (c ∷ cs) s h =
+      let b = and-true (clause (bit m) c) (clauses (bit m) cs) h in
+      ap (run (step k m) (map clauseLine cs)) (one-true c s (b .0))
+      ∙ all-true cs (sinkAt (further (s .at) 1) s) (b .1)
+      ∙ ap (λ (a : ℕ). world (sinkAt a s) t w) (counted-more (length cs) (s .at))
 
 -- a run over them
 pub true-ran : (k : Job) (m : List ℕ) (cs : List (List ℕ)) {s s′ : Sink} {t w : List ℕ} → evaluating (k .mode) ≡ true → clauses (bit m) cs ≡ true
-    → 1 ≤ length cs → s′ ≡ sinkAt (further (s .at) (length cs)) s → Ran (step k m) (map clauseLine cs) (world s t w) (world s′ t w)
-true-ran k m [] e h n q = absurd (omega arith)
-true-ran k m (c ∷ cs) {s} {s′} {t} {w} e h n q =
-    record { eq = ap (λ (x : Sink). world x t w) q ∙ sym (all-true k m (evaluating-is (k .mode) e) t w c cs s h) }
+    → s′ ≡ sinkAt (counted (length cs) (s .at)) s → Ran (step k m) (map clauseLine cs) (world s t w) (world s′ t w)
+true-ran k m cs {s} {s′} {t} {w} e h q =
+    record { eq = ap (λ (x : Sink). world x t w) q ∙ sym (all-true k m (evaluating-is (k .mode) e) t w cs s h) }

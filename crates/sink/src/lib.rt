@@ -2,12 +2,12 @@
 ghost use mathlib.Core.Path.{_≡_};
 ghost use mathlib.Core.List.{map};
 ghost use Prim.Native.Nat.{min};
-ghost use Rattle.sink.specs.Run.{Ran, further};
+ghost use Rattle.sink.specs.Run.{Ran};
 ghost use Rattle.sink.specs.Lines.{clauseLine};
 ghost use Rattle.sink.specs.Block.{split, Whole};
 ghost use Rattle.sink.specs.World.{world, sinkAt, step};
 ghost use Rattle.sink.specs.Lend.{partBase};
-ghost use Rattle.sink.specs.AllTrue.{evaluating};
+ghost use Rattle.sink.specs.AllTrue.{counted, evaluating};
 
 pub mod bytes;
 pub mod judge;
@@ -101,10 +101,13 @@ pub fn evaluates(job: Job) -> bool
     }
 }
 
-// The sink after some clauses more.
+// The sink after n clauses more.
 pub fn passed(s: Sink, n: usize) -> Sink
-    ensures { λ r. ⌜ r ≡ sinkAt (further (s .at) n) s ⌝ }
+    ensures { λ r. ⌜ r ≡ sinkAt (counted n (s .at)) s ⌝ }
 {
+    if n == 0 {
+        return s;
+    }
     placed(s, digits::advance(s.at, n))
 }
 

@@ -1,67 +1,51 @@
-use mathlib.Core.Path.{_≡_, refl, sym}
-use Prim.Native.Nat.{_-_, _≤_}
-use native.Mathlib.Omega.{arith}
+use mathlib.Core.Path.{sym, _∙_}
+use Rattle.gates.specs.Evaluate.{row-passed}
 use borrow.Author.Needs.{needs}
-use lib.ListN.{length}
-use Rattle.sink.specs.Run.{Todo, todo-start, same, todo-turn, todo-done}
-use Rattle.sink.specs.World.{world, step}
-use Rattle.gates.specs.Rows.{rowFrom, row-start, row-turn, row-end}
 use Rattle.gates.proofs.cells.write_row.Statement.{statement}
 use Rattle.gates.proofs.cells.write_row.Tie as tie
 
-abbrev Inv-loop : tie.InvT-loop
-Inv-loop job model text₀ words₀ x w prev first cols z₀ j₀ text words z j =
-    (j ≤ cols) × (length text ≡ length text₀) × (length words ≡ length words₀)
-    × Todo (step job model) (rowFrom x w prev first cols j) (rowFrom x w prev first cols 0) (world z₀ text₀ words₀) (world z text words)
+evaluates-requires : tie.Need-evaluates-requires
+evaluates-requires c κs = search needs
 
-abbrev μ-loop : tie.MeasureT-loop
-μ-loop job model text₀ words₀ x w prev first cols z₀ j₀ text words z j = cols - j
+row-right-requires : tie.Need-row-right-requires
+row-right-requires c κs = search needs
 
-loop-holds : tie.Need-loop-holds Inv-loop μ-loop
-loop-holds c = (omega arith, refl, refl, todo-start)
+row-clauses-requires : tie.Need-row-clauses-requires
+row-clauses-requires c κs = search needs
 
-write-cell-requires : tie.Need-write-cell-requires Inv-loop μ-loop
-write-cell-requires c κs = (c .before .before .before .before .before .before .before .pre .0, omega arith, omega arith, omega arith)
+passed-requires : tie.Need-passed-requires
+passed-requires c κs = search needs
 
-add-j : tie.Need-add-j Inv-loop μ-loop
-add-j c = search needs
+returns : tie.Need-returns
+returns c =
+    let d = c .before .before .before .before in
+    let e = d .before .before .before .before .before in
+    let a = e .args in
+    row-passed (a .job) (a .model .now) (a .x) (a .w) (a .prev) (a .first) (a .cols) (e .pre .0) (e .pre .1) (sym (d .before .evaluates .ensures) ∙ d .if1 .taken)
+    (c .before .before .before .row-right .ensures (c .before .before .if2 .taken)) (c .before .row-clauses .ensures) (c .passed .ensures)
 
-loop-less : tie.Need-loop-less Inv-loop μ-loop
-loop-less c = search needs
+write-cells-requires : tie.Need-write-cells-requires
+write-cells-requires c κs = search needs
 
-loop-again : tie.Need-loop-again Inv-loop μ-loop
-loop-again c =
-    let l = c .before .before .before .before .before .before .before .before .loop in
-    let a = c .before .before .before .before .before .before .before .before .before .before .before .before .args in (
-      omega arith,
-      search needs,
-      search needs,
-      todo-turn (row-turn (a .x) (a .w) (a .prev) (a .first) (a .cols) (l .j) (c .before .before .before .before .before .before .before .loop-test .taken)) (l .inv .3) (c .before .before .before .before .write-cell .ensures),
-    )
-
-same-length : tie.Need-same-length Inv-loop μ-loop
+same-length : tie.Need-same-length
 same-length c = search needs
 
-same-length-2 : tie.Need-same-length-2 Inv-loop μ-loop
+same-length-2 : tie.Need-same-length-2
 same-length-2 c = search needs
 
-returns : tie.Need-returns Inv-loop μ-loop
-returns c =
-    let a = c .before .before .before .before .before .args in
-    same (sym (row-start (a .x) (a .w) (a .prev) (a .first) (a .cols)))
-    (todo-done (row-end (a .x) (a .w) (a .prev) (a .first) (a .cols) (c .before .loop .j) (c .loop-test .left)) (c .before .loop .inv .3))
+returns-2 : tie.Need-returns-2
+returns-2 c = search needs
 
 pub write-row-spec : {M : Type 1} → statement M
 write-row-spec =
     tie.close
     (tie.spec
-    Inv-loop
-    μ-loop
-    loop-holds
-    write-cell-requires
-    add-j
-    loop-less
-    loop-again
+    evaluates-requires
+    row-right-requires
+    row-clauses-requires
+    passed-requires
+    returns
+    write-cells-requires
     same-length
     same-length-2
-    returns)
+    returns-2)
