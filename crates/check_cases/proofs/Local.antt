@@ -28,7 +28,8 @@ module _ {M : Type 1} (𝓤 : URA M) (H : Heap 𝓤) (A : Atoms 𝓤) (W : Given
   made one n x v b =
       qed W (‵ (fat fullShare (tyArray (lone (R .mir)) n) b zero (arrayVal (replicate n v))) ∷ ‵ (Array R n .own (replicate n x) (arrayVal (replicate n v) ∷ [])) ∷ []) {P = sem 𝓤 H A (cells (mem R) (replicate n x) b zero)} (
       use2 W (‵ (partAt (Array R n) fullShare (replicate n x) b zero)) (part-in 𝓤 H A W (Array R n) refl fullShare (replicate n x) b zero (arrayVal (replicate n v))) $
-      use1 W (‵ (arr-parts (shares R) n .part fullShare (replicate n x) b zero)) (array-apart 𝓤 H A W R fullShare one n (replicate n x) b zero) $ fsplit ! $ feqL ! (λ l.
+      use1 W (‵ (arr-parts (shares R) n .part fullShare (replicate n x) b zero)) (array-apart 𝓤 H A W R fullShare one n (replicate n x) b zero) $
+      fsplit ! $ feqL ! (λ l.
       rewrite ! 0 (λ (F : Fml). ‵ F) (parts-cells R fullShare (replicate n x) b zero) refl $ done !))
 
   pub emptied : (xs : List (R .Denot)) (b o : ℕ) → ent 𝓤 (sem 𝓤 H A (cells (mem R) xs b o)) (H .room (tyArray (lone (R .mir)) (length xs)) b o)

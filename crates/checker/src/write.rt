@@ -120,7 +120,8 @@ pub fn write_bounded(
     list: &mut [u16],
 ) -> usize
     requires { ⌜ Bounding (now file) bound (now durations) (now resources) (now groups) (now list) head z ⌝ }
-    ensures { λ r. ⌜ Ran put (flatMap mark (boundedHard (instanceOf (now (file .entry)) (now (durations .entry)) (now (resources .entry)) (now (groups .entry)) head) bound))
+    ensures { λ r. ⌜ Ran put (flatMap mark (boundedHard (instanceOf (now (file .entry)) (now (durations .entry))
+        (now (resources .entry)) (now (groups .entry)) head) bound))
         (out 0 (now (words .entry))) (out r (now (words .exit))) ⌝ }
 {
     let at = write_hard(words, file, head, durations, resources, groups, list);

@@ -27,7 +27,8 @@ pub fn write_constraints(
     first: u32,
 ) -> Sink
     requires { ⌜ Walkable (now file) (now users) (now groups) (now list) head first × (s .at ≤ 9223372036854775807) ⌝ }
-    ensures { λ r. ⌜ Ran (step job (now (model .entry))) (lines first (itemsOf (now (users .entry)) (now (groups .entry)) head (constraintsIn head (now (file .entry))) first))
+    ensures { λ r. ⌜ Ran (step job (now (model .entry)))
+        (lines first (itemsOf (now (users .entry)) (now (groups .entry)) head (constraintsIn head (now (file .entry))) first))
         (world s (now (text .entry)) (now (words .entry))) (world r (now (text .exit)) (now (words .exit))) ⌝ }
 {
     let mut z = s;

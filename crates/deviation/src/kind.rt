@@ -85,8 +85,11 @@ fn of_split(f: Split, head: Head, bytes: &[u8]) -> u32
 }
 
 fn of_spread(f: Spread, head: Head, bytes: &[u8], groups: &[u8], list: &[u16]) -> u32
-    requires { ⌜ BytesIn (countsIn head) (now bytes) × (GroupsIn (countsIn head) (now groups) × (ListIn (f .events) (now list) × InRange (countsIn head) (spread (leading (f .events) (now list)) (f .group) (f .lo) (f .hi)))) ⌝ }
-    ensures { λ r. ⌜ r ≡ spreadCharge (head .events * head .times) (head .times) (now (bytes .entry)) (now (groups .entry)) (leading (f .events) (now (list .entry))) (f .group) (f .lo) (f .hi) ⌝ }
+    requires { ⌜ BytesIn (countsIn head) (now bytes) × (GroupsIn (countsIn head) (now groups)
+        × (ListIn (f .events) (now list) × InRange (countsIn head)
+        (spread (leading (f .events) (now list)) (f .group) (f .lo) (f .hi)))) ⌝ }
+    ensures { λ r. ⌜ r ≡ spreadCharge (head .events * head .times) (head .times) (now (bytes .entry)) (now (groups .entry))
+        (leading (f .events) (now (list .entry))) (f .group) (f .lo) (f .hi) ⌝ }
 {
     let base = starts_of(head);
     let times = head.times as usize;
@@ -97,7 +100,8 @@ fn of_spread(f: Spread, head: Head, bytes: &[u8], groups: &[u8], list: &[u16]) -
 }
 
 fn of_busy(f: Busy, head: Head, used: &[u8], groups: &[u8]) -> u32
-    requires { ⌜ MatrixIn (countsIn head) (now used) × (GroupsIn (countsIn head) (now groups) × InRange (countsIn head) (busy (f .resource) (f .group) (f .lo) (f .hi))) ⌝ }
+    requires { ⌜ MatrixIn (countsIn head) (now used) × (GroupsIn (countsIn head) (now groups)
+        × InRange (countsIn head) (busy (f .resource) (f .group) (f .lo) (f .hi))) ⌝ }
     ensures { λ r. ⌜ r ≡ busyCharge (head .times) (now (used .entry)) (now (groups .entry)) (f .resource) (f .group) (f .lo) (f .hi) ⌝ }
 {
     let base = row_of(f.resource, head.times);
@@ -107,7 +111,9 @@ fn of_busy(f: Busy, head: Head, used: &[u8], groups: &[u8]) -> u32
 }
 
 fn of_cluster(f: OverGroups, head: Head, used: &[u8], groups: &[u8], list: &[u16]) -> u32
-    requires { ⌜ MatrixIn (countsIn head) (now used) × (GroupsIn (countsIn head) (now groups) × (ListIn (f .groups) (now list) × InRange (countsIn head) (cluster (f .resource) (leading (f .groups) (now list)) (f .lo) (f .hi)))) ⌝ }
+    requires { ⌜ MatrixIn (countsIn head) (now used) × (GroupsIn (countsIn head) (now groups)
+        × (ListIn (f .groups) (now list) × InRange (countsIn head)
+        (cluster (f .resource) (leading (f .groups) (now list)) (f .lo) (f .hi)))) ⌝ }
     ensures { λ r. ⌜ r ≡ clusterCharge (head .times) (now (used .entry)) (now (groups .entry)) (f .resource) (leading (f .groups) (now (list .entry))) (f .lo) (f .hi) ⌝ }
 {
     let base = row_of(f.resource, head.times);
@@ -117,7 +123,9 @@ fn of_cluster(f: OverGroups, head: Head, used: &[u8], groups: &[u8], list: &[u16
 }
 
 fn of_idle(f: OverGroups, head: Head, used: &[u8], groups: &[u8], list: &[u16]) -> u32
-    requires { ⌜ MatrixIn (countsIn head) (now used) × (GroupsIn (countsIn head) (now groups) × (ListIn (f .groups) (now list) × InRange (countsIn head) (idle (f .resource) (leading (f .groups) (now list)) (f .lo) (f .hi)))) ⌝ }
+    requires { ⌜ MatrixIn (countsIn head) (now used) × (GroupsIn (countsIn head) (now groups)
+        × (ListIn (f .groups) (now list) × InRange (countsIn head)
+        (idle (f .resource) (leading (f .groups) (now list)) (f .lo) (f .hi)))) ⌝ }
     ensures { λ r. ⌜ r ≡ idleCharge (head .times) (now (used .entry)) (now (groups .entry)) (f .resource) (leading (f .groups) (now (list .entry))) (f .lo) (f .hi) ⌝ }
 {
     let base = row_of(f.resource, head.times);
@@ -136,8 +144,10 @@ pub fn deviation_of(
     groups: &[u8],
     list: &[u16],
 ) -> u32
-    requires { ⌜ SheetIn (countsIn head) (now bytes) (now uses) (now used) (now groups) × ((length (now list) ≡ 2048) × ((head .groups ≤ 2048) × InRange (countsIn head) (kindOf (now list) kind))) ⌝ }
-    ensures { λ r. ⌜ r ≡ chargeOf (head .events * head .times) (head .times) (now (bytes .entry)) (now (uses .entry)) (now (used .entry)) (now (groups .entry)) (kindOf (now (list .entry)) kind) ⌝ }
+    requires { ⌜ SheetIn (countsIn head) (now bytes) (now uses) (now used) (now groups)
+        × ((length (now list) ≡ 2048) × ((head .groups ≤ 2048) × InRange (countsIn head) (kindOf (now list) kind))) ⌝ }
+    ensures { λ r. ⌜ r ≡ chargeOf (head .events * head .times) (head .times) (now (bytes .entry)) (now (uses .entry))
+        (now (used .entry)) (now (groups .entry)) (kindOf (now (list .entry)) kind) ⌝ }
 {
     match kind {
         Kind::Clash(f) => of_clash(f, head, uses),

@@ -8,7 +8,7 @@ use lib.ListN.{length}
 use Rattle.scope.specs.Parsed.{Answer}
 use Rattle.scope.specs.Operations.{decodeOf}
 use Rattle.model.specs.Answers.{Decoded, returned}
-use Rattle.engine.specs.Call.{called}
+use Rattle.engine.specs.Call.{call, called}
 use Rattle.engine.specs.Operations.{decodeCall, decodedOf}
 use Rattle.engine.specs.Within.{oneOf, Within, accepts, refuses}
 use Rattle.engine.specs.Numbers.{decode-numbers}
@@ -19,8 +19,8 @@ zero-decoded : {ns : List ℕ} {a : Answer Decoded} {p : List ℕ} {n v : ℕ} (
     → Within ns a
     → (p, n, v) ≡ returned a
     → n ≡ 0
-    → record { number = 0; value = length p; outputs = v } ≡ called a decodedOf before
-zero-decoded before none accepts e z = ap (λ r. record { number = 0; value = length (r .0); outputs = r .2 }) e
+    → call 0 (length p) v ≡ called a decodedOf before
+zero-decoded before none accepts e z = ap (λ r. call 0 (length (r .0)) (r .2)) e
 zero-decoded before none (refuses h) e z =
     let k = ap (λ r. r .1) e in
     let f : _≡_ {A = ℕ} 0 1 = cc (none, h, k, z) in
@@ -32,13 +32,13 @@ other-refused : {ns : List ℕ} {a : Answer Decoded} {p : List ℕ} {n v : ℕ} 
     → Within ns a
     → (p, n, v) ≡ returned a
     → (n ≡ 0 → ⊥)
-    → record { number = n; value = v; outputs = before } ≡ called a decodedOf before
+    → call n v before ≡ called a decodedOf before
 other-refused before accepts e z = absurd (z (ap (λ r. r .1) e))
-other-refused before (refuses h) e z = ap (λ r. record { number = r .1; value = r .2; outputs = before }) e
+other-refused before (refuses h) e z = ap (λ r. call (r .1) (r .2) before) e
 
 module _ (file model : List ℕ) {p : List ℕ} {n v : ℕ} (before : ℕ) (e : (p, n, v) ≡ returned (decodeOf file model)) where
-  pub decoded-call : n ≡ 0 → record { number = 0; value = length p; outputs = v } ≡ decodeCall file model before
+  pub decoded-call : n ≡ 0 → call 0 (length p) v ≡ decodeCall file model before
   decoded-call z = zero-decoded before refl (decode-numbers file model) e z
 
-  pub decode-refused-call : (n ≡ 0 → ⊥) → record { number = n; value = v; outputs = before } ≡ decodeCall file model before
+  pub decode-refused-call : (n ≡ 0 → ⊥) → call n v before ≡ decodeCall file model before
   decode-refused-call z = other-refused before (decode-numbers file model) e z

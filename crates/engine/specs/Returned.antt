@@ -11,7 +11,7 @@ use Rattle.scope.specs.declared.TextAnswer.{TextAnswer}
 use Rattle.scope.specs.declared.CheckAnswer.{CheckAnswer}
 use Rattle.store.specs.declared.directory.Row.{Row}
 use Rattle.text.specs.Written.{written}
-use Rattle.engine.specs.Call.{Call, called, leaving, alone}
+use Rattle.engine.specs.Call.{Call, call, called, leaving, alone}
 use Rattle.engine.specs.Operations.{textCall, Stores, lentBy, zeros, zeroRows, zeroed, checkCall}
 
 -- the text: its length or a refusal, and the output
@@ -24,11 +24,11 @@ module _ (file out : List ℕ) (x : TextAnswer) {after : List ℕ} (e : (textMea
   text-leaves : leaving (textMeans x) after ≡ textCall file out
   text-leaves = ap (λ r. leaving (r .0) (r .1)) e ∙ written-leaves (textOf file (length out)) out
 
-  pub text-written : {n : ℕ} → x ≡ TextAnswer.Bytes n → record { number = 0; value = n; outputs = after } ≡ textCall file out
+  pub text-written : {n : ℕ} → x ≡ TextAnswer.Bytes n → call 0 n after ≡ textCall file out
   text-written t = rw t at text-leaves
 
   pub text-refused : {f : Refusal} → x ≡ TextAnswer.Refused f
-      → record { number = f .number; value = f .value; outputs = after } ≡ textCall file out
+      → call (f .number) (f .value) after ≡ textCall file out
   text-refused t = rw t at text-leaves
 
 -- the check: its steps or a refusal, and zeros in the stores
@@ -38,18 +38,18 @@ zeroed-leaves (refusal k v) s = refl
 
 -- the number and the value of an answer
 module _ {x : CheckAnswer} where
-  pub told-shown : {n : ℕ} → x ≡ CheckAnswer.NoTimetable n → record { number = 0; value = n; outputs = tt } ≡ alone (checkMeans x)
+  pub told-shown : {n : ℕ} → x ≡ CheckAnswer.NoTimetable n → call 0 n tt ≡ alone (checkMeans x)
   told-shown t = rw t refl
 
-  pub told-refused : {f : Refusal} → x ≡ CheckAnswer.Refused f → record { number = f .number; value = f .value; outputs = tt } ≡ alone (checkMeans x)
+  pub told-refused : {f : Refusal} → x ≡ CheckAnswer.Refused f → call (f .number) (f .value) tt ≡ alone (checkMeans x)
   told-refused t = rw t refl
 
 -- and other outputs beside them
-with-outputs : {B : Type 0} (a : Answer ℕ) (outputs : B) {number value : ℕ} → record { number = number; value = value; outputs = tt } ≡ alone a
-    → record { number = number; value = value; outputs = outputs } ≡ leaving a outputs
-with-outputs a outputs e = ap (λ (c : Call Unit). record { number = c .number; value = c .value; outputs = outputs }) e ∙ go a
+with-outputs : {B : Type 0} (a : Answer ℕ) (outputs : B) {number value : ℕ} → call number value tt ≡ alone a
+    → call number value outputs ≡ leaving a outputs
+with-outputs a outputs e = ap (λ (c : Call Unit). call (c .number) (c .value) outputs) e ∙ go a
   where
-    go : (a : Answer ℕ) → record { number = alone a .number; value = alone a .value; outputs = outputs } ≡ leaving a outputs
+    go : (a : Answer ℕ) → call (alone a .number) (alone a .value) outputs ≡ leaving a outputs
     go (answered n) = refl
     go (refusal k v) = refl
 
@@ -58,6 +58,6 @@ module _ (file : List ℕ) (B : ℕ) (proof ws : List ℕ) (rs : List Row) (ms :
   check-leaves : leaving (checkMeans x) (words, rows, marks) ≡ checkCall file B proof (ws, rs, ms)
   check-leaves = rw (e, w, r, m) (zeroed-leaves (checkOf file B proof (lentBy (ws, rs, ms))) (ws, rs, ms))
 
-  pub check-told : {number value : ℕ} → record { number = number; value = value; outputs = tt } ≡ alone (checkMeans x)
-      → record { number = number; value = value; outputs = (words, rows, marks) } ≡ checkCall file B proof (ws, rs, ms)
+  pub check-told : {number value : ℕ} → call number value tt ≡ alone (checkMeans x)
+      → call number value (words, rows, marks) ≡ checkCall file B proof (ws, rs, ms)
   check-told t = with-outputs (checkMeans x) (words, rows, marks) t ∙ check-leaves

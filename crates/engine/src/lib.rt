@@ -22,7 +22,7 @@ use text::text;
 use text::text_size;
 ghost use mathlib.Core.Path.{_≡_};
 ghost use Rattle.scope.specs.Answers.{checkMeans};
-ghost use Rattle.engine.specs.Call.{alone};
+ghost use Rattle.engine.specs.Call.{alone, call};
 ghost use Rattle.engine.specs.Operations.{checkCall, decodeCall, readCall, sameSheetCall, scoreCall, sizesCall, textCall, textSizeCall};
 
 // A refusal: its value goes to *value, its number is returned.
@@ -44,7 +44,10 @@ pub extern "C" fn timetable_read(
     constraints: &mut u64,
     value: &mut u64,
 ) -> u32
-    ensures { λ r. ⌜ record { number = r; value = now (value .exit); outputs = (now (times .exit), now (events .exit), now (resources .exit), now (groups .exit), now (constraints .exit)) } ≡ readCall (now (file .entry)) (now (value .entry)) (now (times .entry), now (events .entry), now (resources .entry), now (groups .entry), now (constraints .entry)) ⌝ }
+    ensures { λ r. ⌜ call r (now (value .exit))
+        (now (times .exit), now (events .exit), now (resources .exit), now (groups .exit), now (constraints .exit))
+        ≡ readCall (now (file .entry)) (now (value .entry))
+        (now (times .entry), now (events .entry), now (resources .entry), now (groups .entry), now (constraints .entry)) ⌝ }
 {
     let answer = read_instance(file);
     match answer {
@@ -70,7 +73,9 @@ pub extern "C" fn timetable_sizes(
     words: &mut u64,
     value: &mut u64,
 ) -> u32
-    ensures { λ r. ⌜ record { number = r; value = now (value .exit); outputs = (now (variables .exit), now (clauses .exit), now (words .exit)) } ≡ sizesCall (now (file .entry)) bound (now (value .entry)) (now (variables .entry), now (clauses .entry), now (words .entry)) ⌝ }
+    ensures { λ r. ⌜ call r (now (value .exit)) (now (variables .exit), now (clauses .exit), now (words .exit))
+        ≡ sizesCall (now (file .entry)) bound (now (value .entry))
+        (now (variables .entry), now (clauses .entry), now (words .entry)) ⌝ }
 {
     let answer = sizes(file, bound);
     match answer {
@@ -93,7 +98,9 @@ pub extern "C" fn timetable_score(
     objective: &mut u64,
     value: &mut u64,
 ) -> u32
-    ensures { λ r. ⌜ record { number = r; value = now (value .exit); outputs = (now (infeasibility .exit), now (objective .exit)) } ≡ scoreCall (now (file .entry)) (now (table .entry)) (now (value .entry)) (now (infeasibility .entry), now (objective .entry)) ⌝ }
+    ensures { λ r. ⌜ call r (now (value .exit)) (now (infeasibility .exit), now (objective .exit))
+        ≡ scoreCall (now (file .entry)) (now (table .entry)) (now (value .entry))
+        (now (infeasibility .entry), now (objective .entry)) ⌝ }
 {
     let answer = score(file, table);
     match answer {
@@ -114,7 +121,8 @@ pub extern "C" fn timetable_same_sheet(
     second: &[u8],
     value: &mut u64,
 ) -> u32
-    ensures { λ r. ⌜ record { number = r; value = now (value .exit); outputs = tt } ≡ sameSheetCall (now (file .entry)) (now (first .entry)) (now (second .entry)) ⌝ }
+    ensures { λ r. ⌜ call r (now (value .exit)) tt
+        ≡ sameSheetCall (now (file .entry)) (now (first .entry)) (now (second .entry)) ⌝ }
 {
     let answer = same_sheet(file, first, second);
     match answer {
@@ -133,7 +141,8 @@ pub extern "C" fn timetable_same_sheet(
 // The length of the clauses as text, or 1 to 6, 8.
 #[no_mangle]
 pub extern "C" fn timetable_text_size(file: &[u8], bytes: &mut u64, value: &mut u64) -> u32
-    ensures { λ r. ⌜ record { number = r; value = now (value .exit); outputs = now (bytes .exit) } ≡ textSizeCall (now (file .entry)) (now (value .entry)) (now (bytes .entry)) ⌝ }
+    ensures { λ r. ⌜ call r (now (value .exit)) (now (bytes .exit))
+        ≡ textSizeCall (now (file .entry)) (now (value .entry)) (now (bytes .entry)) ⌝ }
 {
     let answer = text_size(file);
     match answer {
@@ -148,7 +157,7 @@ pub extern "C" fn timetable_text_size(file: &[u8], bytes: &mut u64, value: &mut 
 // The clauses as text at the front of out, their length in *value; or 1 to 6, 8, 9.
 #[no_mangle]
 pub extern "C" fn timetable_text(file: &[u8], out: &mut [u8], value: &mut u64) -> u32
-    ensures { λ r. ⌜ record { number = r; value = now (value .exit); outputs = now (out .exit) } ≡ textCall (now (file .entry)) (now (out .entry)) ⌝ }
+    ensures { λ r. ⌜ call r (now (value .exit)) (now (out .exit)) ≡ textCall (now (file .entry)) (now (out .entry)) ⌝ }
 {
     let answer = text(file, out);
     match answer {
@@ -168,7 +177,8 @@ pub extern "C" fn timetable_decode(
     objective: &mut u64,
     value: &mut u64,
 ) -> u32
-    ensures { λ r. ⌜ record { number = r; value = now (value .exit); outputs = now (objective .exit) } ≡ decodeCall (now (file .entry)) (now (model .entry)) (now (objective .entry)) ⌝ }
+    ensures { λ r. ⌜ call r (now (value .exit)) (now (objective .exit))
+        ≡ decodeCall (now (file .entry)) (now (model .entry)) (now (objective .entry)) ⌝ }
 {
     let mut number: u8 = 0;
     let mut given: u64 = 0;
@@ -184,7 +194,7 @@ pub extern "C" fn timetable_decode(
 
 // What a check answers: the number of steps or a refusal's value goes to *value, and its number is returned.
 fn told(answer: CheckAnswer, value: &mut u64) -> u32
-    ensures { λ r. ⌜ record { number = r; value = now (value .exit); outputs = tt } ≡ alone (checkMeans answer) ⌝ }
+    ensures { λ r. ⌜ call r (now (value .exit)) tt ≡ alone (checkMeans answer) ⌝ }
 {
     match answer {
         CheckAnswer::Refused(f) => refuse(f, value),
@@ -206,7 +216,9 @@ pub extern "C" fn timetable_check(
     marks: &mut [u8],
     value: &mut u64,
 ) -> u32
-    ensures { λ r. ⌜ record { number = r; value = now (value .exit); outputs = (now (words .exit), now (rows .exit), now (marks .exit)) } ≡ checkCall (now (file .entry)) bound (now (proof .entry)) (now (words .entry), now (rows .entry), now (marks .entry)) ⌝ }
+    ensures { λ r. ⌜ call r (now (value .exit)) (now (words .exit), now (rows .exit), now (marks .exit))
+        ≡ checkCall (now (file .entry)) bound (now (proof .entry))
+        (now (words .entry), now (rows .entry), now (marks .entry)) ⌝ }
 {
     let answer = check(file, bound, proof, words, rows, marks);
     told(answer, value)

@@ -127,7 +127,8 @@ pub fn write_gaps(
     v: u32,
 ) -> Written
     requires { ⌜ Ground (now groups) head × (OneOf (head .resources) resource × (Each (OneOf (head .groups)) (leading count (now list))
-        × ((count ≤ length (now list)) × Room v (map gate (idleGates (xsOf (head .times) (cellsOf head) (groupIn (now groups)) resource (leading count (now list))) v))))) ⌝ }
+        × ((count ≤ length (now list)) × Room v
+        (map gate (idleGates (xsOf (head .times) (cellsOf head) (groupIn (now groups)) resource (leading count (now list))) v))))) ⌝ }
     ensures { λ r. ⌜ Wrote (step job (now (model .entry))) v
         (map gate (idleGates (xsOf (head .times) (cellsOf head) (groupIn (now (groups .entry))) resource (leading count (now (list .entry)))) v))
         (world s (now (text .entry)) (now (words .entry))) (world (r .sink) (now (text .exit)) (now (words .exit))) (r .next) ⌝ }

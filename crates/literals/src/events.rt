@@ -35,7 +35,8 @@ pub fn s_spread(
     cells: u32,
     out: &mut [u32],
 ) -> usize
-    requires { ⌜ Each (Within 1024) (take n (now list)) × ((n ≤ length (now list)) × (GroupIn (now groups) g × (Sizes times cells × (n * length (rowAt (now groups) (g - 1)) ≤ length (now out))))) ⌝ }
+    requires { ⌜ Each (Within 1024) (take n (now list)) × ((n ≤ length (now list))
+        × (GroupIn (now groups) g × (Sizes times cells × (n * length (rowAt (now groups) (g - 1)) ≤ length (now out))))) ⌝ }
     ensures { λ r. ⌜ Holds (now (out .exit)) r (flatMap (λ e. map (sAt times cells e) (rowAt (now (groups .entry)) (g - 1))) (take n (now (list .entry)))) ⌝ }
 {
     let mut at: usize = 0;

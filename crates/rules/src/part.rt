@@ -29,9 +29,11 @@ pub fn write_constraint(
     requires { ⌜ Fits (now users) (now groups) (now list) head (kindOf (now list) (c .kind))
         × Room v (constraintPart (now users) (now groups) head (kindOf (now list) (c .kind)) (c .weight) v) ⌝ }
     requires { ⌜ s .at ≤ 9223372036854775807 ⌝ }
-    ensures { λ r. ⌜ Wrote (step job (now (model .entry))) v (constraintPart (now (users .entry)) (now (groups .entry)) head (kindOf (now (list .entry)) (c .kind)) (c .weight) v)
+    ensures { λ r. ⌜ Wrote (step job (now (model .entry))) v
+        (constraintPart (now (users .entry)) (now (groups .entry)) head (kindOf (now (list .entry)) (c .kind)) (c .weight) v)
         (world s (now (text .entry)) (now (words .entry))) (world (r .sink) (now (text .exit)) (now (words .exit))) (r .next) ⌝ }
-    ensures { λ r. ⌜ Before (partBase (job .mode) (s .at)) (now (text .entry)) (now (text .exit)) × Before (partBase (job .mode) (s .at)) (now (words .entry)) (now (words .exit)) ⌝ }
+    ensures { λ r. ⌜ Before (partBase (job .mode) (s .at)) (now (text .entry)) (now (text .exit))
+        × Before (partBase (job .mode) (s .at)) (now (words .entry)) (now (words .exit)) ⌝ }
 {
     let base = sink::part_base(job, s);
     let t = sink::lesser(base, text.len());

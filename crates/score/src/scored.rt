@@ -22,7 +22,11 @@ pub fn score_of(
     list: &mut [u16],
 ) -> Score
     requires { ⌜ Scorable (now file) (now bytes) (now resources) (now groups) (now list) head ⌝ }
-    ensures { λ r. ⌜ ((d : List ℕ) → Accepted (now (file .entry)) d (now (resources .entry)) (now (groups .entry)) head → (r .infeasibility ≡ infeasibility (instanceOf (now (file .entry)) d (now (resources .entry)) (now (groups .entry)) head) (now (bytes .entry))) × (r .objective ≡ objective (instanceOf (now (file .entry)) d (now (resources .entry)) (now (groups .entry)) head) (now (bytes .entry)))) ⌝ }
+    ensures { λ r. ⌜ ((d : List ℕ) → Accepted (now (file .entry)) d (now (resources .entry)) (now (groups .entry)) head
+        → (r .infeasibility ≡ infeasibility
+        (instanceOf (now (file .entry)) d (now (resources .entry)) (now (groups .entry)) head) (now (bytes .entry)))
+        × (r .objective ≡ objective
+        (instanceOf (now (file .entry)) d (now (resources .entry)) (now (groups .entry)) head) (now (bytes .entry)))) ⌝ }
 {
     let events = head.events as usize;
     let times = head.times as usize;

@@ -57,7 +57,10 @@ pub fn charge_all(
     list: &mut [u16],
 ) -> Score
     requires { ⌜ Walkable (now file) head (now bytes) (now uses) (now used) (now groups) (now list) ⌝ }
-    ensures { λ r. ⌜ (r .infeasibility .0 ≡ hardSum (chargeOf (head .events * head .times) (head .times) (now (bytes .entry)) (now (uses .entry)) (now (used .entry)) (now (groups .entry))) (decodedOf (now (file .entry)) head)) × (r .objective .0 ≡ softSum (chargeOf (head .events * head .times) (head .times) (now (bytes .entry)) (now (uses .entry)) (now (used .entry)) (now (groups .entry))) (decodedOf (now (file .entry)) head)) ⌝ }
+    ensures { λ r. ⌜ (r .infeasibility .0 ≡ hardSum (chargeOf (head .events * head .times) (head .times)
+        (now (bytes .entry)) (now (uses .entry)) (now (used .entry)) (now (groups .entry))) (decodedOf (now (file .entry)) head))
+        × (r .objective .0 ≡ softSum (chargeOf (head .events * head .times) (head .times)
+        (now (bytes .entry)) (now (uses .entry)) (now (used .entry)) (now (groups .entry))) (decodedOf (now (file .entry)) head)) ⌝ }
 {
     let most = head.constraints as usize;
     let mut next = head.start;

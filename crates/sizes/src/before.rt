@@ -56,7 +56,8 @@ fn durations_size(times: u32, events: u32, durations: &[u8]) -> Size
 // All of them.
 pub fn before_size(head: Head, users: &[u32], durations: &[u8]) -> Size
     requires { ⌜ Begun (now users) (now durations) head ⌝ }
-    ensures { λ r. ⌜ ((t : List ℕ) → Users (now (users .entry)) (eventsOf (now (durations .entry)) t (head .events)) → r ≡ blocksSize head (eventsOf (now (durations .entry)) t (head .events))) ⌝ }
+    ensures { λ r. ⌜ ((t : List ℕ) → Users (now (users .entry)) (eventsOf (now (durations .entry)) t (head .events))
+        → r ≡ blocksSize head (eventsOf (now (durations .entry)) t (head .events))) ⌝ }
 {
     let starts = starts_size(head.events as u64, head.times as u64);
     let uses = uses_size(head.times, head.resources, users);

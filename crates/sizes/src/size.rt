@@ -75,7 +75,9 @@ pub fn constraint_size(
     list: &[u16],
 ) -> Size
     requires { ⌜ Sizable (now users) (now groups) (now list) head (constraintOf (now list) c) ⌝ }
-    ensures { λ r. ⌜ ((es : List Event) → Users (now (users .entry)) es → r ≡ kindSize (head .times) es (rows (now (groups .entry)) (head .groups)) (c .weight) (constraintOf (now (list .entry)) c .kind)) ⌝ }
+    ensures { λ r. ⌜ ((es : List Event) → Users (now (users .entry)) es
+        → r ≡ kindSize (head .times) es (rows (now (groups .entry)) (head .groups)) (c .weight)
+        (constraintOf (now (list .entry)) c .kind)) ⌝ }
 {
     let kind = c.kind;
     let n = list_length(kind, head, users, groups, list);

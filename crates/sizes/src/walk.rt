@@ -42,7 +42,9 @@ pub fn constraints_total(
     before: Size,
 ) -> Total
     requires { ⌜ Walkable (now file) (now users) (now groups) (now list) head columns before ⌝ }
-    ensures { λ r. ⌜ ((es : List Event) (cs : List Constraint) → Meant (now (file .entry)) (now (users .entry)) (now (groups .entry)) head es cs → TotalOf (now (groups .entry)) head es cs columns before r) ⌝ }
+    ensures { λ r. ⌜ ((es : List Event) (cs : List Constraint)
+        → Meant (now (file .entry)) (now (users .entry)) (now (groups .entry)) head es cs
+        → TotalOf (now (groups .entry)) head es cs columns before r) ⌝ }
 {
     let most = head.constraints as usize;
     let tail = nothing();

@@ -60,5 +60,6 @@ module _ {M : Type 1} {𝓤 : URA M} {H : Heap 𝓤} {A : Atoms 𝓤} where
         → Step K W (‵ (row R.the-row fullShare (set ys i y) b o) ∷ Γ) G
         (‵ (cellAt fullShare (R.the-row .mir) (R′.lowered y ∷ []) b (place 32 o i)) ∷ ‵ (R.the-row .own (getD ys i noRow) (R′.lowered (getD ys i noRow) ∷ [])) ∷ ‵ (others (shares R.the-row) fullShare ys i b o) ∷ Γ) G
     row-in t ys i y b o h is =
-        step (λ s. move t (1 ∷ []) $ drop t $ owned t R.the-row (Is R.the-row) ((LL.makes R.the-type R′.the-plain) 𝓤 H A) y (R′.lowered y ∷ []) is $ move t (1 ∷ 0 ∷ []) $
+        step (λ s. move t (1 ∷ []) $ drop t $ owned t R.the-row (Is R.the-row) ((LL.makes R.the-type R′.the-plain) 𝓤 H A) y (R′.lowered y ∷ []) is $
+        move t (1 ∷ 0 ∷ []) $
         elem-put t R.the-row fullShare ys i y (R′.lowered y ∷ []) b o h $ s)

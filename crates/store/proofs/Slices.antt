@@ -52,7 +52,8 @@ module _ (R : RattleType) (κ : Lft) (q : Share) (γ : GName) (b o : ℕ) where
     pub closed : (zs : List (R .Denot)) → length zs ≡ length ys
         → Step K W (‵ (Whole ℓ zs) ∷ ‵ (flft κ q) ∷ Γ) G (‵ (row R fullShare zs b o) ∷ ‵ (Open ys) ∷ Γ) G
     closed zs e =
-        step (λ s. move t (1 ∷ []) $ fsplit t $ pureL t (room R (length ys)) (λ p. fsplit t $ move t (1 ∷ []) $ fsplit t $ move t (3 ∷ 2 ∷ 0 ∷ 1 ∷ []) $
+        step (λ s. move t (1 ∷ []) $ fsplit t $ pureL t (room R (length ys)) (λ p. fsplit t $ move t (1 ∷ []) $ fsplit t $
+        move t (3 ∷ 2 ∷ 0 ∷ 1 ∷ []) $
         closes-slice t z R ys zs e b o $ fjoin t $
         pureI t (at-slice R (at-list b o γ zs) (sliceVal (b, o) (length zs) ∷ [])) (tt, (tt, tt)) (refl, subst (Room R) (sym e) p) $ fjoin t $ s))
 
@@ -69,7 +70,8 @@ module _ (R : RattleType) (κ : Lft) (q : Share) (γ : GName) (b o : ℕ) where
         → Step K W (‵ (Whole ℓ zs) ∷ ‵ (flft κ q) ∷ Γ) G (‵ (flft (ν ∷ []) fullShare) ∷ ‵ (LentOut (ν ∷ []) δ ys) ∷ ‵ (finally R δ zs) ∷ Γ) G
     back {ν} δ zs e =
         step (λ s. lft-end t z $ move t (1 ∷ []) $ fsplit t $ move t (2 ∷ 0 ∷ 3 ∷ []) $
-        use3 W (later (‵ (Arr (mem R) (length ys) .lies zs b o))) (slice-back 𝓤 H A W R (ν ∷ []) δ zs (length ys) b o) $ await t z $ fsplit t $ drop t $
+        use3 W (later (‵ (Arr (mem R) (length ys) .lies zs b o))) (slice-back 𝓤 H A W R (ν ∷ []) δ zs (length ys) b o) $ await t z $ fsplit t $
+        drop t $
         use1 W (‵ (row R fullShare zs b o)) (whole-out 𝓤 H A W R zs b o) $ closed zs e $ s)
 
     -- lent as a `&` for a lifetime of its own

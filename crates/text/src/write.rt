@@ -78,7 +78,9 @@ fn fit_text(
     list: &mut [u16],
 ) -> TextAnswer
     requires { ⌜ Ready (now file) (now durations) (now resources) (now groups) (now list) head z ⌝ }
-    ensures { λ r. ⌜ (textMeans r, now (out .exit)) ≡ written (textIn (instanceOf (now (file .entry)) (now (durations .entry)) (now (resources .entry)) (now (groups .entry)) head) (length (now (out .entry)))) (now (out .entry)) ⌝ }
+    ensures { λ r. ⌜ (textMeans r, now (out .exit))
+        ≡ written (textIn (instanceOf (now (file .entry)) (now (durations .entry)) (now (resources .entry)) (now (groups .entry)) head)
+        (length (now (out .entry)))) (now (out .entry)) ⌝ }
 {
     let n = text_length(file, head, z, durations, resources, groups, list);
     if n <= out.len() {

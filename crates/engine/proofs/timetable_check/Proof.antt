@@ -53,7 +53,7 @@ use Rattle.checker.proofs.check as check
 use Rattle.checker.proofs.check.Symbol as check-def
 use Rattle.checker.proofs.check.Symbol.{name as #check}
 use Rattle.checker.proofs.check.Met as check-thm
-use Rattle.engine.specs.Call.{alone}
+use Rattle.engine.specs.Call.{alone, call}
 use Rattle.engine.specs.Operations.{lentBy, zeros, zeroRows, checkCall}
 use Rattle.engine.specs.Returned.{check-told}
 use Rattle.engine.proofs.told as told
@@ -130,15 +130,18 @@ module _ {M : Type 1} (𝓤 : URA M) (H : Heap 𝓤) (A : Atoms 𝓤) (W : Given
       ‵ (Whole u32 κ₁ q₁ γ₁ b₁ o₁ (named 2) xs) ∷ ‵ (flft κ₁ q₁) ∷ ‵ (Whole R.the-row κ₂ q₂ γ₂ b₂ o₂ (named 3) zs) ∷ ‵ (flft κ₂ q₂) ∷ ‵ (Whole u8 κ₃ q₃ γ₃ b₃ o₃ (named 4) vs) ∷ ‵ (flft κ₃ q₃) ∷ ‵ (flft κ₀ q₀) ∷ ‵ (flft κ₄ q₄) ∷ ‵ (Value κ₅ γ₅ m) ∷ ‵ (flft κ₅ q₅) ∷ []
 
   exits : (r : ℕ) → r < 2 ^ 32 → (xs : List ℕ) (zs : List Row) (vs : List ℕ) (m : ℕ) → length xs ≡ length us → length zs ≡ length ys → length vs ≡ length ms
-      → record { number = r; value = m; outputs = (xs, zs, vs) } ≡ checkCall fs bound ps (us, ys, ms) → ent 𝓤 (⋆ 𝓤 H A (Had xs zs vs m)) (Post (vint w32 r))
+      → call r m (xs, zs, vs) ≡ checkCall fs bound ps (us, ys, ms) → ent 𝓤 (⋆ 𝓤 H A (Had xs zs vs m)) (Post (vint w32 r))
   exits r fits xs zs vs m e₁ e₂ e₃ e =
       qed W (Had xs zs vs m) ∵
-      suffices ! _ (ends-at 𝓤 H A f.ended stayed (f.clauses 𝓤 H A mem run) W outside (vint w32 r) r (tt, (tt, (tt, (xs, (zs, (vs, (m, tt))))))) (tt, (tt, (tt, (e₁, (e₂, (e₃, (tt, tt)))))))) $ says ! e $
+      suffices ! _ (ends-at 𝓤 H A f.ended stayed (f.clauses 𝓤 H A mem run) W outside (vint w32 r) r (tt, (tt, (tt, (xs, (zs, (vs, (m, tt))))))) (tt, (tt, (tt, (e₁, (e₂, (e₃, (tt, tt)))))))) $
+      says ! e $
       rewrite ! 0 (λ (k : ℕ). ‵ (MutSlice (named 2) κ₁ u32 .own (at-list b₁ o₁ γ₁ xs) (sliceVal (b₁, o₁) k ∷ []))) e₁ refl $
       rewrite ! 2 (λ (k : ℕ). ‵ (MutSlice (named 3) κ₂ R.the-row .own (at-list b₂ o₂ γ₂ zs) (sliceVal (b₂, o₂) k ∷ []))) e₂ refl $
       rewrite ! 4 (λ (k : ℕ). ‵ (MutSlice (named 4) κ₃ u8 .own (at-list b₃ o₃ γ₃ vs) (sliceVal (b₃, o₃) k ∷ []))) e₃ refl $
-      nothing ! $ move ! (10 ∷ 0 ∷ []) $ join ! $ move ! (6 ∷ 0 ∷ []) $ join ! $ move ! (4 ∷ 0 ∷ []) $ join ! $ move ! (2 ∷ 0 ∷ []) $ join ! $ move ! (4 ∷ 0 ∷ []) $ join ! $ move ! (4 ∷ 0 ∷ []) $ join ! $ frame ! $
-      nothing ! $ move ! (4 ∷ 0 ∷ []) $ fjoin ! $ move ! (3 ∷ 0 ∷ []) $ fjoin ! $ move ! (2 ∷ 0 ∷ []) $ fjoin ! $ move ! (1 ∷ 0 ∷ []) $ fjoin ! $ nothing ! $ fjoin ! $ nothing ! $ fjoin ! $ nothing ! $ fjoin ! $
+      nothing ! $ move ! (10 ∷ 0 ∷ []) $ join ! $ move ! (6 ∷ 0 ∷ []) $ join ! $ move ! (4 ∷ 0 ∷ []) $ join ! $ move ! (2 ∷ 0 ∷ []) $ join ! $
+      move ! (4 ∷ 0 ∷ []) $ join ! $ move ! (4 ∷ 0 ∷ []) $ join ! $ frame ! $
+      nothing ! $ move ! (4 ∷ 0 ∷ []) $ fjoin ! $ move ! (3 ∷ 0 ∷ []) $ fjoin ! $ move ! (2 ∷ 0 ∷ []) $ fjoin ! $ move ! (1 ∷ 0 ∷ []) $ fjoin ! $
+      nothing ! $ fjoin ! $ nothing ! $ fjoin ! $ nothing ! $ fjoin ! $
       owned ! u32 (Is u32) (uint-makes 𝓤 H A W w32) r _ (refl, fits) $ move ! (1 ∷ 0 ∷ []) $ done !
 
   -- the calls: what each is passed, what it asks, and what is said of `check`
@@ -154,19 +157,25 @@ module _ {M : Type 1} (𝓤 : URA M) (H : Heap 𝓤) (A : Atoms 𝓤) (W : Given
   goes-told : (x : CheckAnswer) (α : ℕ) (δ : GName) → IsAnswer x (S′.lowered x) → ent 𝓤 (sep 𝓤 (A .lft (α ∷ []) fullShare) (sem 𝓤 H A (Value (α ∷ []) δ n))) (told-to 𝓤 H A mem run .pre (to-told x α δ))
   goes-told x α δ is =
       qed W (‵ (flft (α ∷ []) fullShare) ∷ ‵ (Value (α ∷ []) δ n) ∷ []) ∵ nothing ! $ move ! (1 ∷ 0 ∷ []) $ join ! $
-      nothing ! $ move ! (2 ∷ 0 ∷ []) $ fjoin ! $ owned ! S.the-row (Is S.the-row) ((EL.makes S.the-type S′.the-plain) 𝓤 H A) x _ is $ fjoin ! $ move ! (1 ∷ 0 ∷ []) $ join ! $ frame ! $ done !
+      nothing ! $ move ! (2 ∷ 0 ∷ []) $ fjoin ! $ owned ! S.the-row (Is S.the-row) ((EL.makes S.the-type S′.the-plain) 𝓤 H A) x _ is $ fjoin ! $
+      move ! (1 ∷ 0 ∷ []) $ join ! $ frame ! $ done !
 
   walk : (𝓣 : Tables 𝓤 H) → FmC 𝓤 H (W .laws) (𝓣 .C) → Known 𝓤 H A mem run (𝓣 .C) → Room u8 (length fs) → Room u8 (length ps) → Room u32 (length us) → Room R.the-row (length ys) → Room u8 (length ms)
       → ent 𝓤 (onEntry 𝓤 H A f.signature (κ₄, (κ₀, (κ₁, (κ₂, (κ₃, (κ₅, tt)))))) (q₄, (q₀, (q₁, (q₂, (q₃, (q₅, tt)))))) a at) (WpFn 𝓤 H (𝓣 .C) (𝓣 .Λ) code.function (s₄ ∷ vint w64 bound ∷ s₀ ∷ s₁ ∷ s₂ ∷ s₃ ∷ vptr b₅ o₅ ∷ []) Post)
   walk 𝓣 fm known room₄ room₀ room₁ room₂ room₃ =
       qed W ((‵ (flft κ₄ q₄) ⊛ (‵ (flft κ₀ q₀) ⊛ (‵ (flft κ₁ q₁) ⊛ (‵ (flft κ₂ q₂) ⊛ (‵ (flft κ₃ q₃) ⊛ (‵ (flft κ₅ q₅) ⊛ ‵ ftrue)))))) ∷ ‵ (owns (ShrSlice (named 0) κ₄ u8 ∷ u64 ∷ ShrSlice (named 1) κ₀ u8 ∷ MutSlice (named 2) κ₁ u32 ∷ MutSlice (named 3) κ₂ R.the-row ∷ MutSlice (named 4) κ₃ u8 ∷ MutRef (named 5) κ₅ u64 ∷ []) a at) ∷ []) ∵
-      split ! $ move ! (1 ∷ []) $ split ! $ move ! (1 ∷ []) $ split ! $ move ! (1 ∷ []) $ split ! $ move ! (1 ∷ []) $ split ! $ move ! (1 ∷ []) $ split ! $ move ! (7 ∷ []) $
-      fsplit ! $ move ! (1 ∷ []) $ fsplit ! $ drop ! $ fsplit ! $ move ! (1 ∷ []) $ fsplit ! $ move ! (1 ∷ []) $ fsplit ! $ move ! (1 ∷ []) $ fsplit ! $ move ! (1 ∷ []) $ fsplit ! $
+      split ! $ move ! (1 ∷ []) $ split ! $ move ! (1 ∷ []) $ split ! $ move ! (1 ∷ []) $ split ! $ move ! (1 ∷ []) $ split ! $ move ! (1 ∷ []) $
+      split ! $ move ! (7 ∷ []) $
+      fsplit ! $ move ! (1 ∷ []) $ fsplit ! $ drop ! $ fsplit ! $ move ! (1 ∷ []) $ fsplit ! $ move ! (1 ∷ []) $ fsplit ! $ move ! (1 ∷ []) $
+      fsplit ! $ move ! (1 ∷ []) $ fsplit ! $
       -- [value; no other parameter; the marks; the rows; the words; the proof; the file; the tokens, the last one first]
       keep ! (6 ∷ 13 ∷ 5 ∷ 12 ∷ 4 ∷ 11 ∷ 3 ∷ 10 ∷ 2 ∷ 9 ∷ 0 ∷ 7 ∷ []) $
       enter ! (𝓣 .C) (𝓣 .Λ) code.function (s₄ ∷ vint w64 bound ∷ s₀ ∷ s₁ ∷ s₂ ∷ s₃ ∷ vptr b₅ o₅ ∷ []) _ $ allocs-all ! body.locals (λ ls. params1 ! $
-      pass1 ! (init ! 28 refl (tt, (tt, (record { fits = room₄ .0 }, tt)))) $ pass1 ! (init ! 26 refl (tt, record { fits = bound-fits })) $ pass1 ! (init ! 24 refl (tt, (tt, (record { fits = room₀ .0 }, tt)))) $ pass1 ! (init ! 22 refl (tt, (tt, (record { fits = room₁ .0 }, tt)))) $
-      pass1 ! (init ! 20 refl (tt, (tt, (record { fits = room₂ .0 }, tt)))) $ pass1 ! (init ! 18 refl (tt, (tt, (record { fits = room₃ .0 }, tt)))) $ pass1 ! (init ! 16 refl (tt, tt)) $ pass0 ! $
+      pass1 ! (init ! 28 refl (tt, (tt, (record { fits = room₄ .0 }, tt)))) $ pass1 ! (init ! 26 refl (tt, record { fits = bound-fits })) $
+      pass1 ! (init ! 24 refl (tt, (tt, (record { fits = room₀ .0 }, tt)))) $
+      pass1 ! (init ! 22 refl (tt, (tt, (record { fits = room₁ .0 }, tt)))) $
+      pass1 ! (init ! 20 refl (tt, (tt, (record { fits = room₂ .0 }, tt)))) $ pass1 ! (init ! 18 refl (tt, (tt, (record { fits = room₃ .0 }, tt)))) $
+      pass1 ! (init ! 16 refl (tt, tt)) $ pass0 ! $
       -- the stores are lent
       fills ! 12 (addr ! (from ! (fld ! refl (hop ! (look-in ! 22 (sub ! 0 refl (whole !))) (stop !))))) refl (tt, tt) $
       fills ! 10 (agg ! (and-then ! (var ! 12 refl) (and-then ! (part ! 22 refl (sub ! 1 refl (whole !))) (no-more !)))) refl (tt, (tt, (record { fits = room₁ .0 }, tt))) $
@@ -177,24 +186,33 @@ module _ {M : Type 1} (𝓤 : URA M) (H : Heap 𝓤) (A : Atoms 𝓤) (W : Given
       move ! (36 ∷ 37 ∷ []) $ lent u32 κ₁ q₁ γ₁ b₁ o₁ ! tt (named 2) us (λ ν₁ δ₁.
       move ! (39 ∷ 40 ∷ []) $ lent R.the-row κ₂ q₂ γ₂ b₂ o₂ ! tt (named 3) ys (λ ν₂ δ₂.
       move ! (42 ∷ 43 ∷ []) $ lent u8 κ₃ q₃ γ₃ b₃ o₃ ! tt (named 4) ms (λ ν₃ δ₃.
-      move ! (42 ∷ 44 ∷ 7 ∷ 4 ∷ 1 ∷ 41 ∷ 43 ∷ 6 ∷ 3 ∷ 0 ∷ []) $ cut (Checking 𝓤 H A mem run κ₄ κ₀ q₄ q₀ b₄ o₄ γ₄ fs bound b₀ o₀ γ₀ ps b₁ o₁ us b₂ o₂ ys b₃ o₃ ms ν₁ δ₁ ν₂ δ₂ ν₃ δ₃) (raw (check-to 𝓤 H A mem run .pre (checking ν₁ δ₁ ν₂ δ₂ ν₃ δ₃)) ∷ []) _
+      move ! (42 ∷ 44 ∷ 7 ∷ 4 ∷ 1 ∷ 41 ∷ 43 ∷ 6 ∷ 3 ∷ 0 ∷ []) $
+      cut (Checking 𝓤 H A mem run κ₄ κ₀ q₄ q₀ b₄ o₄ γ₄ fs bound b₀ o₀ γ₀ ps b₁ o₁ us b₂ o₂ ys b₃ o₃ ms ν₁ δ₁ ν₂ δ₂ ν₃ δ₃) (raw (check-to 𝓤 H A mem run .pre (checking ν₁ δ₁ ν₂ δ₂ ν₃ δ₃)) ∷ []) _
       (goes-check 𝓤 H A mem run κ₄ κ₀ q₄ q₀ b₄ o₄ γ₄ fs bound b₀ o₀ γ₀ ps b₁ o₁ us b₂ o₂ ys b₃ o₃ ms ν₁ δ₁ ν₂ δ₂ ν₃ δ₃ W bound-fits) $
       calls-to check.ended (check.clauses 𝓤 H A mem run) (checking ν₁ δ₁ ν₂ δ₂ ν₃ δ₃) (λ x ws. Says x (ws .1 .1 .1 .0) (ws .1 .1 .1 .1 .0) (ws .1 .1 .1 .1 .1 .0)) (λ x ws. and-said 𝓤 _ _ (and-said 𝓤 _ _ (both-said 𝓤 _ _))) S′.lowered answer-same ! fm (known .check)
       (and-then ! (var ! 32 refl) (and-then ! (var ! 30 refl) (and-then ! (var ! 28 refl) (and-then ! (var ! 14 refl) (and-then ! (var ! 10 refl) (and-then ! (var ! 6 refl) (no-more !))))))) (λ x ws checked is-x.
-      use1 W (‵ (flft κ₄ q₄) ⊛ (‵ (flft κ₀ q₀) ⊛ (‵ (flft (ν₁ ∷ []) fullShare) ⊛ (‵ (flft (ν₂ ∷ []) fullShare) ⊛ (‵ (flft (ν₃ ∷ []) fullShare) ⊛ ‵ ftrue))))) (id⊢ 𝓤 _) $ split ! $ move ! (1 ∷ []) $ split ! $ move ! (1 ∷ []) $ split ! $ move ! (1 ∷ []) $ split ! $ move ! (1 ∷ []) $ split ! $ move ! (1 ∷ []) $ drop ! $ move ! (5 ∷ []) $
-      fsplit ! $ drop ! $ fsplit ! $ drop ! $ fsplit ! $ drop ! $ fsplit ! $ fsplit ! $ move ! (1 ∷ []) $ feqL ! (λ k₁. move ! (1 ∷ []) $ fsplit ! $ fsplit ! $ move ! (1 ∷ []) $ feqL ! (λ k₂. move ! (1 ∷ []) $ fsplit ! $ fsplit ! $ move ! (1 ∷ []) $ feqL ! (λ k₃. move ! (1 ∷ []) $ drop ! $
-      move ! (3 ∷ 8 ∷ 0 ∷ []) $ back u8 κ₃ q₃ γ₃ b₃ o₃ ! tt (named 4) ms δ₃ (ws .1 .1 .1 .1 .1 .0) k₃ $ move ! (4 ∷ 8 ∷ 2 ∷ []) $ back R.the-row κ₂ q₂ γ₂ b₂ o₂ ! tt (named 3) ys δ₂ (ws .1 .1 .1 .1 .0) k₂ $
+      use1 W (‵ (flft κ₄ q₄) ⊛ (‵ (flft κ₀ q₀) ⊛ (‵ (flft (ν₁ ∷ []) fullShare) ⊛ (‵ (flft (ν₂ ∷ []) fullShare) ⊛ (‵ (flft (ν₃ ∷ []) fullShare) ⊛ ‵ ftrue))))) (id⊢ 𝓤 _) $
+      split ! $ move ! (1 ∷ []) $ split ! $ move ! (1 ∷ []) $ split ! $ move ! (1 ∷ []) $ split ! $ move ! (1 ∷ []) $ split ! $ move ! (1 ∷ []) $
+      drop ! $ move ! (5 ∷ []) $
+      fsplit ! $ drop ! $ fsplit ! $ drop ! $ fsplit ! $ drop ! $ fsplit ! $ fsplit ! $ move ! (1 ∷ []) $ feqL ! (λ k₁. move ! (1 ∷ []) $ fsplit ! $
+      fsplit ! $ move ! (1 ∷ []) $ feqL ! (λ k₂. move ! (1 ∷ []) $ fsplit ! $ fsplit ! $ move ! (1 ∷ []) $ feqL ! (λ k₃. move ! (1 ∷ []) $ drop ! $
+      move ! (3 ∷ 8 ∷ 0 ∷ []) $ back u8 κ₃ q₃ γ₃ b₃ o₃ ! tt (named 4) ms δ₃ (ws .1 .1 .1 .1 .1 .0) k₃ $ move ! (4 ∷ 8 ∷ 2 ∷ []) $
+      back R.the-row κ₂ q₂ γ₂ b₂ o₂ ! tt (named 3) ys δ₂ (ws .1 .1 .1 .1 .0) k₂ $
       move ! (5 ∷ 8 ∷ 4 ∷ []) $ back u32 κ₁ q₁ γ₁ b₁ o₁ ! tt (named 2) us δ₁ (ws .1 .1 .1 .0) k₁ $
       land ! (from ! (stop !)) (init ! 22 refl (answer-typed W x _ is-x)) $ rotate ! 8 $
       -- value is lent
       fills ! 0 (addr ! (from ! (hop ! (look ! 16 refl) (stop !)))) refl (tt, tt) $
       lft-new ! tt (λ α. move ! (33 ∷ 34 ∷ []) $
-      use2 W (later (exists (λ (δ : GName). ‵ (Value (α ∷ []) δ n) ⊛ ‵ (LentAgain u64 κ₅ (α ∷ []) q₅ γ₅ b₅ o₅ δ n)))) (lends-again 𝓤 H A W u64 (named 5) κ₅ (α ∷ []) q₅ γ₅ b₅ o₅ (named 5) n) $ await ! tt $ pick ! (λ δ. split ! $
+      use2 W (later (exists (λ (δ : GName). ‵ (Value (α ∷ []) δ n) ⊛ ‵ (LentAgain u64 κ₅ (α ∷ []) q₅ γ₅ b₅ o₅ δ n)))) (lends-again 𝓤 H A W u64 (named 5) κ₅ (α ∷ []) q₅ γ₅ b₅ o₅ (named 5) n) $
+      await ! tt $ pick ! (λ δ. split ! $
       move ! (2 ∷ 0 ∷ []) $ use2 W (raw (told-to 𝓤 H A mem run .pre (to-told x α δ))) (goes-told x α δ is-x) $
-      calls-to told.ended (told.clauses 𝓤 H A mem run) (to-told x α δ) (λ r vs. record { number = r; value = vs .1 .0; outputs = tt } ≡ alone (checkMeans x)) (λ r vs. id⊢ 𝓤 _) (vint w32) (uint-same w32) ! fm (known .told)
+      calls-to told.ended (told.clauses 𝓤 H A mem run) (to-told x α δ) (λ r vs. call r (vs .1 .0) tt ≡ alone (checkMeans x)) (λ r vs. id⊢ 𝓤 _) (vint w32) (uint-same w32) ! fm (known .told)
       (and-then ! (var ! 16 refl) (and-then ! (var ! 2 refl) (no-more !))) (λ r vs said is-r.
-      use1 W (‵ (flft (α ∷ []) fullShare) ⊛ ‵ ftrue) (id⊢ 𝓤 _) $ split ! $ move ! (1 ∷ []) $ drop ! $ move ! (1 ∷ []) $ fsplit ! $ drop ! $ fsplit ! $ move ! (1 ∷ []) $ drop ! $ move ! (1 ∷ []) $
-      lft-end ! tt $ move ! (0 ∷ 2 ∷ 1 ∷ []) $ use3 W (later (‵ (Value κ₅ γ₅ (vs .1 .0)) ⊛ ‵ (flft κ₅ q₅))) (comes-back 𝓤 H A W u64 (named 5) κ₅ (α ∷ []) q₅ γ₅ b₅ o₅ δ n (vs .1 .0)) $ await ! tt $ split ! $
+      use1 W (‵ (flft (α ∷ []) fullShare) ⊛ ‵ ftrue) (id⊢ 𝓤 _) $ split ! $ move ! (1 ∷ []) $ drop ! $ move ! (1 ∷ []) $ fsplit ! $ drop ! $ fsplit ! $
+      move ! (1 ∷ []) $ drop ! $ move ! (1 ∷ []) $
+      lft-end ! tt $ move ! (0 ∷ 2 ∷ 1 ∷ []) $
+      use3 W (later (‵ (Value κ₅ γ₅ (vs .1 .0)) ⊛ ‵ (flft κ₅ q₅))) (comes-back 𝓤 H A W u64 (named 5) κ₅ (α ∷ []) q₅ γ₅ b₅ o₅ δ n (vs .1 .0)) $
+      await ! tt $ split ! $
       land ! (from ! (stop !)) (init ! 32 refl (tt, record { fits = is-r .1 })) $ rotate ! 2 $ returns ! (look ! 30 refl) $
       frees-all ! body.locals ls (some _ ∷ some _ ∷ some _ ∷ some _ ∷ some _ ∷ some _ ∷ some _ ∷ some _ ∷ some _ ∷ some _ ∷ some _ ∷ some _ ∷ some _ ∷ some _ ∷ some _ ∷ some _ ∷ []) $
       by ! (exits r (is-r .1) (ws .1 .1 .1 .0) (ws .1 .1 .1 .1 .0) (ws .1 .1 .1 .1 .1 .0) (vs .1 .0) k₁ k₂ k₃ (check-told fs bound ps us ys ms x (checked .0) (checked .1 .0) (checked .1 .1 .0) (checked .1 .1 .1) said)))))))))))))

@@ -388,7 +388,8 @@ module _ {M : Type 1} (𝓤 : URA M) (H : Heap 𝓤) (A : Atoms 𝓤) (W : Given
       rewrite ! 2 (λ (k : ℕ). ‵ (MutSlice (named 1) κ₁ u32 .own (at-list b₁ o₁ γ₁ (t .us)) (sliceVal (b₁, o₁) k ∷ []))) (t .long-us) refl $
       rewrite ! 4 (λ (k : ℕ). ‵ (MutSlice (named 2) κ₂ R.the-row .own (at-list b₂ o₂ γ₂ (t .zs)) (sliceVal (b₂, o₂) k ∷ []))) (t .long-zs) refl $
       rewrite ! 6 (λ (k : ℕ). ‵ (MutSlice (named 3) κ₃ u8 .own (at-list b₃ o₃ γ₃ (t .ms)) (sliceVal (b₃, o₃) k ∷ []))) (t .long-ms) refl $
-      nothing ! $ move ! (8 ∷ 0 ∷ []) $ join ! $ move ! (6 ∷ 0 ∷ []) $ join ! $ move ! (4 ∷ 0 ∷ []) $ join ! $ move ! (2 ∷ 0 ∷ []) $ join ! $ frame ! $ drop ! $
+      nothing ! $ move ! (8 ∷ 0 ∷ []) $ join ! $ move ! (6 ∷ 0 ∷ []) $ join ! $ move ! (4 ∷ 0 ∷ []) $ join ! $ move ! (2 ∷ 0 ∷ []) $ join ! $
+      frame ! $ drop ! $
       dropped ! 3 $ move ! (3 ∷ 0 ∷ []) $ fjoin ! $ move ! (2 ∷ 0 ∷ []) $ fjoin ! $ move ! (1 ∷ 0 ∷ []) $ fjoin ! $ nothing ! $ fjoin ! $
       owned ! S.the-row (Is S.the-row) ((EL.makes S.the-type S′.the-plain) 𝓤 H A) r _ is $ move ! (1 ∷ 0 ∷ []) $ done !
 
@@ -397,7 +398,8 @@ module _ {M : Type 1} (𝓤 : URA M) (H : Heap 𝓤) (A : Atoms 𝓤) (W : Given
   to-begin = ((tt, tt, tt, (n, (used, tt)), (vint w64 n ∷ [], (vint w64 used ∷ [], tt))), tt)
 
   goes-begin : ent 𝓤 (sem 𝓤 H A ftrue) (begin-to 𝓤 H A mem run .pre to-begin)
-  goes-begin = qed W (‵ ftrue ∷ []) ∵ owned ! usize (Is usize) (uint-makes 𝓤 H A W w64) used _ (refl, used-fits) $ fjoin ! $ owned ! usize (Is usize) (uint-makes 𝓤 H A W w64) n _ (refl, n-fits) $ fjoin ! $ nothing ! $ join ! $ frame ! $ done !
+  goes-begin = qed W (‵ ftrue ∷ []) ∵ owned ! usize (Is usize) (uint-makes 𝓤 H A W w64) used _ (refl, used-fits) $ fjoin ! $
+      owned ! usize (Is usize) (uint-makes 𝓤 H A W w64) n _ (refl, n-fits) $ fjoin ! $ nothing ! $ join ! $ frame ! $ done !
 
   abbrev to-ready : ready-to 𝓤 H A mem run .Ghost
   to-ready = ((tt, tt, tt, tt, tt), tt)
@@ -409,25 +411,32 @@ module _ {M : Type 1} (𝓤 : URA M) (H : Heap 𝓤) (A : Atoms 𝓤) (W : Given
   to-turn-of m = ((tt, tt, tt, (m, tt), (N′.lowered m ∷ [], tt)), tt)
 
   goes-turn-of : (m : Machine) → IsMachine m (N′.lowered m) → ent 𝓤 (sem 𝓤 H A ftrue) (turn-of-to 𝓤 H A mem run .pre (to-turn-of m))
-  goes-turn-of m is = qed W (‵ ftrue ∷ []) ∵ owned ! N.the-row (Is N.the-row) ((LL.makes N.the-type N′.the-plain) 𝓤 H A) m _ is $ fjoin ! $ nothing ! $ join ! $ frame ! $ done !
+  goes-turn-of m is = qed W (‵ ftrue ∷ []) ∵ owned ! N.the-row (Is N.the-row) ((LL.makes N.the-type N′.the-plain) 𝓤 H A) m _ is $ fjoin ! $
+      nothing ! $ join ! $ frame ! $ done !
 
   abbrev to-row-of : Check → row-of-to 𝓤 H A mem run .Ghost
   to-row-of c = ((tt, tt, tt, (c, tt), (K′.lowered c ∷ [], tt)), tt)
 
   goes-row-of : (c : Check) → IsCheck c (K′.lowered c) → ent 𝓤 (sem 𝓤 H A ftrue) (row-of-to 𝓤 H A mem run .pre (to-row-of c))
-  goes-row-of c is = qed W (‵ ftrue ∷ []) ∵ owned ! K.the-row (Is K.the-row) ((LL.makes K.the-type K′.the-plain) 𝓤 H A) c _ is $ fjoin ! $ nothing ! $ join ! $ frame ! $ done !
+  goes-row-of c is = qed W (‵ ftrue ∷ []) ∵ owned ! K.the-row (Is K.the-row) ((LL.makes K.the-type K′.the-plain) 𝓤 H A) c _ is $ fjoin ! $ nothing ! $
+      join ! $ frame ! $ done !
 
   abbrev to-answer : Check → Machine → answer-to 𝓤 H A mem run .Ghost
   to-answer c m = ((tt, tt, tt, (c, (m, tt)), (K′.lowered c ∷ [], (N′.lowered m ∷ [], tt))), tt)
 
   goes-answer : (c : Check) (m : Machine) → IsCheck c (K′.lowered c) → IsMachine m (N′.lowered m) → ent 𝓤 (sem 𝓤 H A ftrue) (answer-to 𝓤 H A mem run .pre (to-answer c m))
-  goes-answer c m is is′ = qed W (‵ ftrue ∷ []) ∵ owned ! N.the-row (Is N.the-row) ((LL.makes N.the-type N′.the-plain) 𝓤 H A) m _ is′ $ fjoin ! $ owned ! K.the-row (Is K.the-row) ((LL.makes K.the-type K′.the-plain) 𝓤 H A) c _ is $ fjoin ! $ nothing ! $ join ! $ frame ! $ done !
+  goes-answer c m is is′ = qed W (‵ ftrue ∷ []) ∵ owned ! N.the-row (Is N.the-row) ((LL.makes N.the-type N′.the-plain) 𝓤 H A) m _ is′ $ fjoin ! $
+      owned ! K.the-row (Is K.the-row) ((LL.makes K.the-type K′.the-plain) 𝓤 H A) c _ is $ fjoin ! $ nothing ! $ join ! $ frame ! $ done !
 
   abbrev to-judge : Check → ℕ → ℕ → ℕ → judge-to 𝓤 H A mem run .Ghost
   to-judge c i j k = ((tt, tt, tt, (c, (i, (length ps, (j, (k, tt))))), (K′.lowered c ∷ [], (vint w64 i ∷ [], (vint w64 (length ps) ∷ [], (vint w64 j ∷ [], (vint w64 k ∷ [], tt)))))), tt)
 
   goes-judge : (c : Check) (i j k : ℕ) → IsCheck c (K′.lowered c) → i < 2 ^ 64 → length ps < 2 ^ 64 → j < 2 ^ 64 → k < 2 ^ 64 → ent 𝓤 (sem 𝓤 H A ftrue) (judge-to 𝓤 H A mem run .pre (to-judge c i j k))
-  goes-judge c i j k is fi fp fj fk = qed W (‵ ftrue ∷ []) ∵ owned ! usize (Is usize) (uint-makes 𝓤 H A W w64) k _ (refl, fk) $ fjoin ! $ owned ! usize (Is usize) (uint-makes 𝓤 H A W w64) j _ (refl, fj) $ fjoin ! $ owned ! usize (Is usize) (uint-makes 𝓤 H A W w64) (length ps) _ (refl, fp) $ fjoin ! $ owned ! usize (Is usize) (uint-makes 𝓤 H A W w64) i _ (refl, fi) $ fjoin ! $ owned ! K.the-row (Is K.the-row) ((LL.makes K.the-type K′.the-plain) 𝓤 H A) c _ is $ fjoin ! $ nothing ! $ join ! $ frame ! $ done !
+  goes-judge c i j k is fi fp fj fk = qed W (‵ ftrue ∷ []) ∵ owned ! usize (Is usize) (uint-makes 𝓤 H A W w64) k _ (refl, fk) $ fjoin ! $
+      owned ! usize (Is usize) (uint-makes 𝓤 H A W w64) j _ (refl, fj) $ fjoin ! $
+      owned ! usize (Is usize) (uint-makes 𝓤 H A W w64) (length ps) _ (refl, fp) $ fjoin ! $
+      owned ! usize (Is usize) (uint-makes 𝓤 H A W w64) i _ (refl, fi) $ fjoin ! $
+      owned ! K.the-row (Is K.the-row) ((LL.makes K.the-type K′.the-plain) 𝓤 H A) c _ is $ fjoin ! $ nothing ! $ join ! $ frame ! $ done !
 
   abbrev to-find : List Row → ℕ → ℕ → ℕ → GName → find-to 𝓤 H A mem run .Ghost
   to-find zs i id ν δ = (((ν ∷ [], tt), (fullShare, tt), tt, (at-list b₂ o₂ δ zs, (i, (id, tt))), (s₂ zs ∷ [], (vint w64 i ∷ [], (vint w64 id ∷ [], tt)))), tt)
@@ -435,8 +444,11 @@ module _ {M : Type 1} (𝓤 : URA M) (H : Heap 𝓤) (A : Atoms 𝓤) (W : Given
   goes-find : (zs : List Row) (i id ν : ℕ) (δ : GName) → i < 2 ^ 64 → id < 2 ^ 64
       → ent 𝓤 (sep 𝓤 (sem 𝓤 H A (ShrSlice (named 2) (ν ∷ []) R.the-row .own (at-list b₂ o₂ δ zs) (s₂ zs ∷ []))) (A .lft (ν ∷ []) fullShare)) (find-to 𝓤 H A mem run .pre (to-find zs i id ν δ))
   goes-find zs i id ν δ fi fid =
-      qed W (‵ (ShrSlice (named 2) (ν ∷ []) R.the-row .own (at-list b₂ o₂ δ zs) (s₂ zs ∷ [])) ∷ ‵ (flft (ν ∷ []) fullShare) ∷ []) ∵ nothing ! $ move ! (2 ∷ 0 ∷ []) $ join ! $
-      nothing ! $ owned ! usize (Is usize) (uint-makes 𝓤 H A W w64) id _ (refl, fid) $ fjoin ! $ owned ! usize (Is usize) (uint-makes 𝓤 H A W w64) i _ (refl, fi) $ fjoin ! $ move ! (2 ∷ 0 ∷ []) $ fjoin ! $ move ! (1 ∷ 0 ∷ []) $ join ! $ frame ! $ done !
+      qed W (‵ (ShrSlice (named 2) (ν ∷ []) R.the-row .own (at-list b₂ o₂ δ zs) (s₂ zs ∷ [])) ∷ ‵ (flft (ν ∷ []) fullShare) ∷ []) ∵ nothing ! $
+      move ! (2 ∷ 0 ∷ []) $ join ! $
+      nothing ! $ owned ! usize (Is usize) (uint-makes 𝓤 H A W w64) id _ (refl, fid) $ fjoin ! $
+      owned ! usize (Is usize) (uint-makes 𝓤 H A W w64) i _ (refl, fi) $ fjoin ! $ move ! (2 ∷ 0 ∷ []) $ fjoin ! $ move ! (1 ∷ 0 ∷ []) $ join ! $
+      frame ! $ done !
 
   abbrev to-mark-dead : List Row → ℕ → ℕ → GName → mark-dead-to 𝓤 H A mem run .Ghost
   to-mark-dead zs i ν δ = (((ν ∷ [], tt), (fullShare, tt), tt, (at-list b₂ o₂ δ zs, (i, tt)), (s₂ zs ∷ [], (vint w64 i ∷ [], tt))), tt)
@@ -444,8 +456,10 @@ module _ {M : Type 1} (𝓤 : URA M) (H : Heap 𝓤) (A : Atoms 𝓤) (W : Given
   goes-mark-dead : (zs : List Row) (i ν : ℕ) (δ : GName) → i < 2 ^ 64
       → ent 𝓤 (sep 𝓤 (sem 𝓤 H A (MutSlice (named 2) (ν ∷ []) R.the-row .own (at-list b₂ o₂ δ zs) (s₂ zs ∷ []))) (A .lft (ν ∷ []) fullShare)) (mark-dead-to 𝓤 H A mem run .pre (to-mark-dead zs i ν δ))
   goes-mark-dead zs i ν δ fi =
-      qed W (‵ (MutSlice (named 2) (ν ∷ []) R.the-row .own (at-list b₂ o₂ δ zs) (s₂ zs ∷ [])) ∷ ‵ (flft (ν ∷ []) fullShare) ∷ []) ∵ nothing ! $ move ! (2 ∷ 0 ∷ []) $ join ! $
-      nothing ! $ owned ! usize (Is usize) (uint-makes 𝓤 H A W w64) i _ (refl, fi) $ fjoin ! $ move ! (2 ∷ 0 ∷ []) $ fjoin ! $ move ! (1 ∷ 0 ∷ []) $ join ! $ frame ! $ done !
+      qed W (‵ (MutSlice (named 2) (ν ∷ []) R.the-row .own (at-list b₂ o₂ δ zs) (s₂ zs ∷ [])) ∷ ‵ (flft (ν ∷ []) fullShare) ∷ []) ∵ nothing ! $
+      move ! (2 ∷ 0 ∷ []) $ join ! $
+      nothing ! $ owned ! usize (Is usize) (uint-makes 𝓤 H A W w64) i _ (refl, fi) $ fjoin ! $ move ! (2 ∷ 0 ∷ []) $ fjoin ! $ move ! (1 ∷ 0 ∷ []) $
+      join ! $ frame ! $ done !
 
   abbrev to-append : List Row → ℕ → Row → ℕ → GName → append-to 𝓤 H A mem run .Ghost
   to-append zs i row ν δ = (((ν ∷ [], tt), (fullShare, tt), tt, (at-list b₂ o₂ δ zs, (i, (row, tt))), (s₂ zs ∷ [], (vint w64 i ∷ [], (R′.lowered row ∷ [], tt)))), tt)
@@ -453,8 +467,11 @@ module _ {M : Type 1} (𝓤 : URA M) (H : Heap 𝓤) (A : Atoms 𝓤) (W : Given
   goes-append : (zs : List Row) (i : ℕ) (row : Row) (ν : ℕ) (δ : GName) → i < 2 ^ 64 → IsRow row (R′.lowered row)
       → ent 𝓤 (sep 𝓤 (sem 𝓤 H A (MutSlice (named 2) (ν ∷ []) R.the-row .own (at-list b₂ o₂ δ zs) (s₂ zs ∷ []))) (A .lft (ν ∷ []) fullShare)) (append-to 𝓤 H A mem run .pre (to-append zs i row ν δ))
   goes-append zs i row ν δ fi is =
-      qed W (‵ (MutSlice (named 2) (ν ∷ []) R.the-row .own (at-list b₂ o₂ δ zs) (s₂ zs ∷ [])) ∷ ‵ (flft (ν ∷ []) fullShare) ∷ []) ∵ nothing ! $ move ! (2 ∷ 0 ∷ []) $ join ! $
-      nothing ! $ owned ! R.the-row (Is R.the-row) ((LL.makes R.the-type R′.the-plain) 𝓤 H A) row _ is $ fjoin ! $ owned ! usize (Is usize) (uint-makes 𝓤 H A W w64) i _ (refl, fi) $ fjoin ! $ move ! (2 ∷ 0 ∷ []) $ fjoin ! $ move ! (1 ∷ 0 ∷ []) $ join ! $ frame ! $ done !
+      qed W (‵ (MutSlice (named 2) (ν ∷ []) R.the-row .own (at-list b₂ o₂ δ zs) (s₂ zs ∷ [])) ∷ ‵ (flft (ν ∷ []) fullShare) ∷ []) ∵ nothing ! $
+      move ! (2 ∷ 0 ∷ []) $ join ! $
+      nothing ! $ owned ! R.the-row (Is R.the-row) ((LL.makes R.the-type R′.the-plain) 𝓤 H A) row _ is $ fjoin ! $
+      owned ! usize (Is usize) (uint-makes 𝓤 H A W w64) i _ (refl, fi) $ fjoin ! $ move ! (2 ∷ 0 ∷ []) $ fjoin ! $ move ! (1 ∷ 0 ∷ []) $ join ! $
+      frame ! $ done !
 
   abbrev to-advance : Machine → Row → List ℕ → List ℕ → ℕ → GName → ℕ → GName → advance-to 𝓤 H A mem run .Ghost
   to-advance m row xs vs ν δ ν′ δ′ = (((κ₀, (ν ∷ [], (ν′ ∷ [], tt))), (q₀, (fullShare, (fullShare, tt))), tt, (m, (row, (at-list b₀ o₀ γ₀ ps, (at-list b₁ o₁ δ xs, (at-list b₃ o₃ δ′ vs, tt))))), (N′.lowered m ∷ [], (R′.lowered row ∷ [], (s₀ ∷ [], (s₁ xs ∷ [], (s₃ vs ∷ [], tt)))))), tt)
@@ -466,7 +483,9 @@ module _ {M : Type 1} (𝓤 : URA M) (H : Heap 𝓤) (A : Atoms 𝓤) (W : Given
       → ent 𝓤 (⋆ 𝓤 H A (Lending xs vs ν δ ν′ δ′)) (advance-to 𝓤 H A mem run .pre (to-advance m row xs vs ν δ ν′ δ′))
   goes-advance m row xs vs ν δ ν′ δ′ is is′ =
       qed W (Lending xs vs ν δ ν′ δ′) ∵ nothing ! $ move ! (3 ∷ 0 ∷ []) $ join ! $ move ! (2 ∷ 0 ∷ []) $ join ! $ move ! (1 ∷ 0 ∷ []) $ join ! $
-      nothing ! $ move ! (4 ∷ 0 ∷ []) $ fjoin ! $ move ! (3 ∷ 0 ∷ []) $ fjoin ! $ move ! (2 ∷ 0 ∷ []) $ fjoin ! $ owned ! R.the-row (Is R.the-row) ((LL.makes R.the-type R′.the-plain) 𝓤 H A) row _ is′ $ fjoin ! $ owned ! N.the-row (Is N.the-row) ((LL.makes N.the-type N′.the-plain) 𝓤 H A) m _ is $ fjoin ! $ move ! (1 ∷ 0 ∷ []) $ join ! $ frame ! $ done !
+      nothing ! $ move ! (4 ∷ 0 ∷ []) $ fjoin ! $ move ! (3 ∷ 0 ∷ []) $ fjoin ! $ move ! (2 ∷ 0 ∷ []) $ fjoin ! $
+      owned ! R.the-row (Is R.the-row) ((LL.makes R.the-type R′.the-plain) 𝓤 H A) row _ is′ $ fjoin ! $
+      owned ! N.the-row (Is N.the-row) ((LL.makes N.the-type N′.the-plain) 𝓤 H A) m _ is $ fjoin ! $ move ! (1 ∷ 0 ∷ []) $ join ! $ frame ! $ done !
 
   abbrev to-keep : Check → List ℕ → ℕ → GName → keep-to 𝓤 H A mem run .Ghost
   to-keep c xs ν δ = (((κ₀, (ν ∷ [], tt)), (q₀, (fullShare, tt)), tt, (c, (at-list b₀ o₀ γ₀ ps, (at-list b₁ o₁ δ xs, tt))), (K′.lowered c ∷ [], (s₀ ∷ [], (s₁ xs ∷ [], tt)))), tt)
@@ -474,14 +493,17 @@ module _ {M : Type 1} (𝓤 : URA M) (H : Heap 𝓤) (A : Atoms 𝓤) (W : Given
   goes-keep : (c : Check) (xs : List ℕ) (ν : ℕ) (δ : GName) → IsCheck c (K′.lowered c)
       → ent 𝓤 (⋆ 𝓤 H A (‵ (flft κ₀ q₀) ∷ ‵ (flft (ν ∷ []) fullShare) ∷ ‵ Proof ∷ ‵ (MutSlice (named 1) (ν ∷ []) u32 .own (at-list b₁ o₁ δ xs) (s₁ xs ∷ [])) ∷ [])) (keep-to 𝓤 H A mem run .pre (to-keep c xs ν δ))
   goes-keep c xs ν δ is =
-      qed W (‵ (flft κ₀ q₀) ∷ ‵ (flft (ν ∷ []) fullShare) ∷ ‵ Proof ∷ ‵ (MutSlice (named 1) (ν ∷ []) u32 .own (at-list b₁ o₁ δ xs) (s₁ xs ∷ [])) ∷ []) ∵ nothing ! $ move ! (2 ∷ 0 ∷ []) $ join ! $ move ! (1 ∷ 0 ∷ []) $ join ! $
-      nothing ! $ move ! (3 ∷ 0 ∷ []) $ fjoin ! $ move ! (2 ∷ 0 ∷ []) $ fjoin ! $ owned ! K.the-row (Is K.the-row) ((LL.makes K.the-type K′.the-plain) 𝓤 H A) c _ is $ fjoin ! $ move ! (1 ∷ 0 ∷ []) $ join ! $ frame ! $ done !
+      qed W (‵ (flft κ₀ q₀) ∷ ‵ (flft (ν ∷ []) fullShare) ∷ ‵ Proof ∷ ‵ (MutSlice (named 1) (ν ∷ []) u32 .own (at-list b₁ o₁ δ xs) (s₁ xs ∷ [])) ∷ []) ∵ nothing ! $
+      move ! (2 ∷ 0 ∷ []) $ join ! $ move ! (1 ∷ 0 ∷ []) $ join ! $
+      nothing ! $ move ! (3 ∷ 0 ∷ []) $ fjoin ! $ move ! (2 ∷ 0 ∷ []) $ fjoin ! $
+      owned ! K.the-row (Is K.the-row) ((LL.makes K.the-type K′.the-plain) 𝓤 H A) c _ is $ fjoin ! $ move ! (1 ∷ 0 ∷ []) $ join ! $ frame ! $ done !
 
   abbrev to-enter : Check → enter-to 𝓤 H A mem run .Ghost
   to-enter c = (((κ₀, tt), (q₀, tt), tt, (c, (at-list b₀ o₀ γ₀ ps, tt)), (K′.lowered c ∷ [], (s₀ ∷ [], tt))), tt)
 
   goes-enter : (c : Check) → IsCheck c (K′.lowered c) → ent 𝓤 (sep 𝓤 (A .lft κ₀ q₀) (sem 𝓤 H A Proof)) (enter-to 𝓤 H A mem run .pre (to-enter c))
-  goes-enter c is = qed W (‵ (flft κ₀ q₀) ∷ ‵ Proof ∷ []) ∵ nothing ! $ move ! (1 ∷ 0 ∷ []) $ join ! $ nothing ! $ move ! (2 ∷ 0 ∷ []) $ fjoin ! $ owned ! K.the-row (Is K.the-row) ((LL.makes K.the-type K′.the-plain) 𝓤 H A) c _ is $ fjoin ! $ move ! (1 ∷ 0 ∷ []) $ join ! $ frame ! $ done !
+  goes-enter c is = qed W (‵ (flft κ₀ q₀) ∷ ‵ Proof ∷ []) ∵ nothing ! $ move ! (1 ∷ 0 ∷ []) $ join ! $ nothing ! $ move ! (2 ∷ 0 ∷ []) $ fjoin ! $
+      owned ! K.the-row (Is K.the-row) ((LL.makes K.the-type K′.the-plain) 𝓤 H A) c _ is $ fjoin ! $ move ! (1 ∷ 0 ∷ []) $ join ! $ frame ! $ done !
 
   abbrev to-next-step : Check → ℕ → List ℕ → ℕ → GName → next-step-to 𝓤 H A mem run .Ghost
   to-next-step c i vs ν δ = (((κ₀, (ν ∷ [], tt)), (q₀, (fullShare, tt)), tt, (c, (i, (at-list b₀ o₀ γ₀ ps, (last, (at-list b₃ o₃ δ vs, tt))))), (K′.lowered c ∷ [], (vint w64 i ∷ [], (s₀ ∷ [], (vint w64 last ∷ [], (s₃ vs ∷ [], tt)))))), tt)
@@ -489,8 +511,11 @@ module _ {M : Type 1} (𝓤 : URA M) (H : Heap 𝓤) (A : Atoms 𝓤) (W : Given
   goes-next-step : (c : Check) (i : ℕ) (vs : List ℕ) (ν : ℕ) (δ : GName) → IsCheck c (K′.lowered c) → i < 2 ^ 64
       → ent 𝓤 (⋆ 𝓤 H A (‵ (flft κ₀ q₀) ∷ ‵ (flft (ν ∷ []) fullShare) ∷ ‵ Proof ∷ ‵ (MutSlice (named 3) (ν ∷ []) u8 .own (at-list b₃ o₃ δ vs) (s₃ vs ∷ [])) ∷ [])) (next-step-to 𝓤 H A mem run .pre (to-next-step c i vs ν δ))
   goes-next-step c i vs ν δ is fi =
-      qed W (‵ (flft κ₀ q₀) ∷ ‵ (flft (ν ∷ []) fullShare) ∷ ‵ Proof ∷ ‵ (MutSlice (named 3) (ν ∷ []) u8 .own (at-list b₃ o₃ δ vs) (s₃ vs ∷ [])) ∷ []) ∵ nothing ! $ move ! (2 ∷ 0 ∷ []) $ join ! $ move ! (1 ∷ 0 ∷ []) $ join ! $
-      nothing ! $ move ! (3 ∷ 0 ∷ []) $ fjoin ! $ owned ! usize (Is usize) (uint-makes 𝓤 H A W w64) last _ (refl, last-fits) $ fjoin ! $ move ! (2 ∷ 0 ∷ []) $ fjoin ! $ owned ! usize (Is usize) (uint-makes 𝓤 H A W w64) i _ (refl, fi) $ fjoin ! $ owned ! K.the-row (Is K.the-row) ((LL.makes K.the-type K′.the-plain) 𝓤 H A) c _ is $ fjoin ! $ move ! (1 ∷ 0 ∷ []) $ join ! $ frame ! $ done !
+      qed W (‵ (flft κ₀ q₀) ∷ ‵ (flft (ν ∷ []) fullShare) ∷ ‵ Proof ∷ ‵ (MutSlice (named 3) (ν ∷ []) u8 .own (at-list b₃ o₃ δ vs) (s₃ vs ∷ [])) ∷ []) ∵ nothing ! $
+      move ! (2 ∷ 0 ∷ []) $ join ! $ move ! (1 ∷ 0 ∷ []) $ join ! $
+      nothing ! $ move ! (3 ∷ 0 ∷ []) $ fjoin ! $ owned ! usize (Is usize) (uint-makes 𝓤 H A W w64) last _ (refl, last-fits) $ fjoin ! $
+      move ! (2 ∷ 0 ∷ []) $ fjoin ! $ owned ! usize (Is usize) (uint-makes 𝓤 H A W w64) i _ (refl, fi) $ fjoin ! $
+      owned ! K.the-row (Is K.the-row) ((LL.makes K.the-type K′.the-plain) 𝓤 H A) c _ is $ fjoin ! $ move ! (1 ∷ 0 ∷ []) $ join ! $ frame ! $ done !
 
   module _ (𝓣 : Tables 𝓤 H) (fm : FmC 𝓤 H (W .laws) (𝓣 .C)) (known : Known 𝓤 H A mem run (𝓣 .C)) (room₀ : Room u8 (length ps)) (room₁ : Room u32 (length us)) (room₂ : Room R.the-row (length ys)) (room₃ : Room u8 (length ms)) (ls : Addrs body.locals) where
     abbrev C : Calls 𝓤 H
@@ -526,7 +551,8 @@ module _ {M : Type 1} (𝓤 : URA M) (H : Heap 𝓤) (A : Atoms 𝓤) (W : Given
         move ! (78 ∷ 79 ∷ []) $ shared R.the-row κ₂ q₂ γ₂ b₂ o₂ ! tt (named 2) (t .zs) (λ ν δ.
         use2 W (raw (find-to 𝓤 H A mem run .pre (to-find (t .zs) (t .c .tally .rows) (t .m .want) ν δ))) (goes-find (t .zs) (t .c .tally .rows) (t .m .want) ν δ (rows-fit (t .c) (t .is-c)) (want-fits (t .m) (t .is-m))) $
         calls-to find.ended (find.clauses 𝓤 H A mem run) (to-find (t .zs) (t .c .tally .rows) (t .m .want) ν δ) (λ r ws. Finds (length (t .zs)) (rowsOf (t .zs)) (t .c .tally .rows) (t .m .want) r) (λ r ws. id⊢ 𝓤 _) P′.lowered probe-same ! fm (known .find) (and-then ! (var ! 46 refl) (and-then ! (load ! (from ! (fld ! refl (fld ! refl (stop !)))) (look-in ! 58 (sub ! 2 refl (sub ! 1 refl (whole !))))) (and-then ! (part ! 56 refl (sub ! 2 refl (whole !))) (no-more !)))) (λ p ws found is-p.
-        use1 W (‵ (flft (ν ∷ []) fullShare) ⊛ ‵ ftrue) (id⊢ 𝓤 _) $ split ! $ move ! (1 ∷ []) $ drop ! $ move ! (1 ∷ []) $ drop ! $ move ! (0 ∷ 1 ∷ []) $
+        use1 W (‵ (flft (ν ∷ []) fullShare) ⊛ ‵ ftrue) (id⊢ 𝓤 _) $ split ! $ move ! (1 ∷ []) $ drop ! $ move ! (1 ∷ []) $ drop ! $
+        move ! (0 ∷ 1 ∷ []) $
         unshared R.the-row κ₂ q₂ γ₂ b₂ o₂ ! tt (named 2) (t .zs) $ land ! (from ! (stop !)) (init ! 52 refl (probe-typed W p _ is-p)) $
         fills ! 44 (addr ! (from ! (fld ! refl (hop ! (look-in ! 70 (sub ! 0 refl (whole !))) (stop !))))) refl (tt, tt) $
         fills ! 42 (agg ! (and-then ! (var ! 44 refl) (and-then ! (part ! 70 refl (sub ! 1 refl (whole !))) (no-more !)))) refl (tt, (tt, (record { fits = omega (arith, room₁ .0, t .long-us) }, tt))) $
@@ -538,11 +564,14 @@ module _ {M : Type 1} (𝓤 : URA M) (H : Heap 𝓤) (A : Atoms 𝓤) (W : Given
         move ! (84 ∷ 6 ∷ 3 ∷ 0 ∷ 5 ∷ 2 ∷ []) $
         cut (Lending (t .us) (t .ms) ν₁ δ₁ ν₃ δ₃) (raw (advance-to 𝓤 H A mem run .pre (to-advance (t .m) (p .hit) (t .us) (t .ms) ν₁ δ₁ ν₃ δ₃)) ∷ []) _ (goes-advance (t .m) (p .hit) (t .us) (t .ms) ν₁ δ₁ ν₃ δ₃ (t .is-m) (hit-is p is-p)) $
         calls-to advance.ended (advance.clauses 𝓤 H A mem run) (to-advance (t .m) (p .hit) (t .us) (t .ms) ν₁ δ₁ ν₃ δ₃) (λ r ws. Advances ps (t .m) (p .hit) (t .us) (t .ms) r (ws .1 .1 .1 .1 .0)) (λ r ws. id⊢ 𝓤 _) N′.lowered machine-same ! fm (known .advance) (and-then ! (var ! 60 refl) (and-then ! (part ! 56 refl (sub ! 3 refl (whole !))) (and-then ! (var ! 76 refl) (and-then ! (var ! 46 refl) (and-then ! (var ! 42 refl) (no-more !)))))) (λ m ws′ moved is-m.
-        use1 W (‵ (flft κ₀ q₀) ⊛ (‵ (flft (ν₁ ∷ []) fullShare) ⊛ (‵ (flft (ν₃ ∷ []) fullShare) ⊛ ‵ ftrue))) (id⊢ 𝓤 _) $ split ! $ move ! (1 ∷ []) $ split ! $
-        move ! (1 ∷ []) $ split ! $ move ! (1 ∷ []) $ drop ! $ move ! (3 ∷ []) $ fsplit ! $ drop ! $ fsplit ! $ drop ! $ fsplit ! $ drop ! $ fsplit ! $
+        use1 W (‵ (flft κ₀ q₀) ⊛ (‵ (flft (ν₁ ∷ []) fullShare) ⊛ (‵ (flft (ν₃ ∷ []) fullShare) ⊛ ‵ ftrue))) (id⊢ 𝓤 _) $ split ! $ move ! (1 ∷ []) $
+        split ! $
+        move ! (1 ∷ []) $ split ! $ move ! (1 ∷ []) $ drop ! $ move ! (3 ∷ []) $ fsplit ! $ drop ! $ fsplit ! $ drop ! $ fsplit ! $ drop ! $
+        fsplit ! $
         drop ! $ fsplit ! $ fsplit ! $ move ! (1 ∷ []) $ feqL ! (λ kept-ms.
         move ! (1 ∷ []) $ drop ! $ move ! (1 ∷ 5 ∷ 0 ∷ []) $ back u8 κ₃ q₃ γ₃ b₃ o₃ ! tt (named 3) (t .ms) δ₃ (ws′ .1 .1 .1 .1 .0) kept-ms $
-        move ! (2 ∷ 5 ∷ []) $ unshared u32 κ₁ q₁ γ₁ b₁ o₁ ! tt (named 1) (t .us) $ land ! (from ! (stop !)) (store ! 62 refl (machine-typed W m _ is-m)) $
+        move ! (2 ∷ 5 ∷ []) $ unshared u32 κ₁ q₁ γ₁ b₁ o₁ ! tt (named 1) (t .us) $
+        land ! (from ! (stop !)) (store ! 62 refl (machine-typed W m _ is-m)) $
         fills ! 42 (bin ! (var ! 60 refl) (lit ! tt) tt) refl (tt, tt) $ branches ! (var ! 42 refl)
         (λ yes.
         fills ! 38 (addr ! (from ! (fld ! refl (hop ! (look-in ! 74 (sub ! 0 refl (whole !))) (stop !))))) refl (tt, tt) $
@@ -554,15 +583,19 @@ module _ {M : Type 1} (𝓤 : URA M) (H : Heap 𝓤) (A : Atoms 𝓤) (W : Given
         move ! (1 ∷ []) $ feqL ! (λ kept-zs.
         move ! (1 ∷ []) $ drop ! $ move ! (1 ∷ 2 ∷ 0 ∷ []) $ back R.the-row κ₂ q₂ γ₂ b₂ o₂ ! tt (named 2) (t .zs) δ₂ (ws″ .0) kept-zs $
         land-last ! (from ! (stop !)) (init ! 40 refl (tt, tt)) $
-        forget ! 60 refl $ forget ! 58 refl $ forget ! 54 refl $ forget ! 52 refl $ forget ! 50 refl $ forget ! 48 refl $ forget ! 46 refl $ forget ! 44 refl $ forget ! 42 refl $ forget ! 40 refl $ forget ! 38 refl $ forget ! 36 refl $
+        forget ! 60 refl $ forget ! 58 refl $ forget ! 54 refl $ forget ! 52 refl $ forget ! 50 refl $ forget ! 48 refl $ forget ! 46 refl $
+        forget ! 44 refl $ forget ! 42 refl $ forget ! 40 refl $ forget ! 38 refl $ forget ! 36 refl $
         rewrite ! 72 (λ (k : ℕ). ‵ (fat fullShare (ty 4) (l ls 4) 0 (sliceVal (b₃, o₃) k))) (sym kept-ms) refl $
-        rewrite ! 74 (λ (k : ℕ). ‵ (fat fullShare (ty 3) (l ls 3) 0 (sliceVal (b₂, o₂) k))) (sym kept-zs) refl $ move ! (7 ∷ 6 ∷ 2 ∷ 3 ∷ 0 ∷ 1 ∷ 4 ∷ 5 ∷ []) $
+        rewrite ! 74 (λ (k : ℕ). ‵ (fat fullShare (ty 3) (l ls 3) 0 (sliceVal (b₂, o₂) k))) (sym kept-zs) refl $
+        move ! (7 ∷ 6 ∷ 2 ∷ 3 ∷ 0 ∷ 1 ∷ 4 ∷ 5 ∷ []) $
         rotate ! 8 $
         again ! Nearer At t (onward t (t .c) m (ws″ .0) (t .us) (ws′ .1 .1 .1 .1 .0) (t .is-c) is-m kept-zs refl kept-ms (deleted t p h (eqb→eq _ 1 yes) found (ws″ .0) dies moved)) (falls t (t .c) m (ws″ .0) (t .us) (ws′ .1 .1 .1 .1 .0) (t .is-c) is-m kept-zs refl kept-ms (deleted t p h (eqb→eq _ 1 yes) found (ws″ .0) dies moved))))))
         (λ no.
         skips ! $
-        forget ! 60 refl $ forget ! 58 refl $ forget ! 54 refl $ forget ! 52 refl $ forget ! 50 refl $ forget ! 48 refl $ forget ! 46 refl $ forget ! 44 refl $ forget ! 42 refl $
-        rewrite ! 72 (λ (k : ℕ). ‵ (fat fullShare (ty 4) (l ls 4) 0 (sliceVal (b₃, o₃) k))) (sym kept-ms) refl $ move ! (5 ∷ 4 ∷ 0 ∷ 1 ∷ 6 ∷ 7 ∷ 2 ∷ 3 ∷ []) $
+        forget ! 60 refl $ forget ! 58 refl $ forget ! 54 refl $ forget ! 52 refl $ forget ! 50 refl $ forget ! 48 refl $ forget ! 46 refl $
+        forget ! 44 refl $ forget ! 42 refl $
+        rewrite ! 72 (λ (k : ℕ). ‵ (fat fullShare (ty 4) (l ls 4) 0 (sliceVal (b₃, o₃) k))) (sym kept-ms) refl $
+        move ! (5 ∷ 4 ∷ 0 ∷ 1 ∷ 6 ∷ 7 ∷ 2 ∷ 3 ∷ []) $
         rotate ! 8 $
         again ! Nearer At t (onward t (t .c) m (t .zs) (t .us) (ws′ .1 .1 .1 .1 .0) (t .is-c) is-m refl refl kept-ms (looked t p h (not-eq _ 1 no) found moved)) (falls t (t .c) m (t .zs) (t .us) (ws′ .1 .1 .1 .1 .0) (t .is-c) is-m refl refl kept-ms (looked t p h (not-eq _ 1 no) found moved)))))))))
 
@@ -589,7 +622,8 @@ module _ {M : Type 1} (𝓤 : URA M) (H : Heap 𝓤) (A : Atoms 𝓤) (W : Given
         move ! (81 ∷ 3 ∷ 0 ∷ 2 ∷ []) $
         cut (‵ (flft κ₀ q₀) ∷ ‵ (flft (ν₁ ∷ []) fullShare) ∷ ‵ Proof ∷ ‵ (MutSlice (named 1) (ν₁ ∷ []) u32 .own (at-list b₁ o₁ δ₁ (t .us)) (s₁ (t .us) ∷ [])) ∷ []) (raw (keep-to 𝓤 H A mem run .pre (to-keep (t .c) (t .us) ν₁ δ₁)) ∷ []) _ (goes-keep (t .c) (t .us) ν₁ δ₁ (t .is-c)) $
         calls-to keep.ended (keep.clauses 𝓤 H A mem run) (to-keep (t .c) (t .us) ν₁ δ₁) (λ r ws. (r ≡ keptAs (t .c)) × Copies ps (t .c .clause .literals) (t .us) (t .c .tally .words) (ws .1 .1 .0)) (λ r ws. both-said 𝓤 _ _) K′.lowered check-same ! fm (known .keep) (and-then ! (var ! 61 refl) (and-then ! (var ! 75 refl) (and-then ! (var ! 19 refl) (no-more !)))) (λ c ws″ k is-c.
-        use1 W (‵ (flft κ₀ q₀) ⊛ (‵ (flft (ν₁ ∷ []) fullShare) ⊛ ‵ ftrue)) (id⊢ 𝓤 _) $ split ! $ move ! (1 ∷ []) $ split ! $ move ! (1 ∷ []) $ drop ! $
+        use1 W (‵ (flft κ₀ q₀) ⊛ (‵ (flft (ν₁ ∷ []) fullShare) ⊛ ‵ ftrue)) (id⊢ 𝓤 _) $ split ! $ move ! (1 ∷ []) $ split ! $ move ! (1 ∷ []) $
+        drop ! $
         move ! (2 ∷ []) $ fsplit ! $ drop ! $ fsplit ! $ drop ! $ fsplit ! $ fsplit ! $ move ! (1 ∷ []) $ feqL ! (λ kept-us.
         move ! (1 ∷ []) $ drop ! $ move ! (1 ∷ 4 ∷ 0 ∷ []) $ back u32 κ₁ q₁ γ₁ b₁ o₁ ! tt (named 1) (t .us) δ₁ (ws″ .1 .1 .0) kept-us $
         land ! (from ! (stop !)) (store ! 62 refl (check-typed W c _ is-c)) $ move ! (3 ∷ []) $
@@ -633,7 +667,8 @@ module _ {M : Type 1} (𝓤 : URA M) (H : Heap 𝓤) (A : Atoms 𝓤) (W : Given
         move ! (79 ∷ 3 ∷ 0 ∷ 2 ∷ []) $
         cut (‵ (flft κ₀ q₀) ∷ ‵ (flft (ν₃ ∷ []) fullShare) ∷ ‵ Proof ∷ ‵ (MutSlice (named 3) (ν₃ ∷ []) u8 .own (at-list b₃ o₃ δ₃ (t .ms)) (s₃ (t .ms) ∷ [])) ∷ []) (raw (next-step-to 𝓤 H A mem run .pre (to-next-step (t .c) (t .m .at) (t .ms) ν₃ δ₃)) ∷ []) _ (goes-next-step (t .c) (t .m .at) (t .ms) ν₃ δ₃ (t .is-c) (place-fits (t .m) (t .is-m))) $
         calls-to next-step.ended (next-step.clauses 𝓤 H A mem run) (to-next-step (t .c) (t .m .at) (t .ms) ν₃ δ₃) (λ r ws. TakesStep ps (t .c) (t .m .at) last (t .ms) r (ws .1 .1 .1 .1 .0)) (λ r ws. id⊢ 𝓤 _) K′.lowered check-same ! fm (known .next-step) (and-then ! (var ! 59 refl) (and-then ! (part ! 57 refl (sub ! 1 refl (whole !))) (and-then ! (var ! 73 refl) (and-then ! (var ! 65 refl) (and-then ! (var ! 3 refl) (no-more !)))))) (λ c ws step is-c.
-        use1 W (‵ (flft κ₀ q₀) ⊛ (‵ (flft (ν₃ ∷ []) fullShare) ⊛ ‵ ftrue)) (id⊢ 𝓤 _) $ split ! $ move ! (1 ∷ []) $ split ! $ move ! (1 ∷ []) $ drop ! $
+        use1 W (‵ (flft κ₀ q₀) ⊛ (‵ (flft (ν₃ ∷ []) fullShare) ⊛ ‵ ftrue)) (id⊢ 𝓤 _) $ split ! $ move ! (1 ∷ []) $ split ! $ move ! (1 ∷ []) $
+        drop ! $
         move ! (2 ∷ []) $ fsplit ! $ drop ! $ fsplit ! $ drop ! $ fsplit ! $ drop ! $ fsplit ! $ drop ! $ fsplit ! $ fsplit ! $ move ! (1 ∷ []) $
         feqL ! (λ kept-ms.
         move ! (1 ∷ []) $ drop ! $ move ! (1 ∷ 4 ∷ 0 ∷ []) $ back u8 κ₃ q₃ γ₃ b₃ o₃ ! tt (named 3) (t .ms) δ₃ (ws .1 .1 .1 .1 .0) kept-ms $
@@ -654,14 +689,16 @@ module _ {M : Type 1} (𝓤 : URA M) (H : Heap 𝓤) (A : Atoms 𝓤) (W : Given
         nothing ! $ use1 W (raw (answer-to 𝓤 H A mem run .pre (to-answer (t .c) (t .m)))) (goes-answer (t .c) (t .m) (t .is-c) (t .is-m)) $
         calls-to answer.ended (answer.clauses 𝓤 H A mem run) (to-answer (t .c) (t .m)) (λ r ws. r ≡ answerOf (t .c .tally .steps) (t .m .phase)) (λ r ws. id⊢ 𝓤 _) S′.lowered answer-same ! fm (known .answer) (and-then ! (var ! 57 refl) (and-then ! (var ! 55 refl) (no-more !))) (λ r ws e is-r.
         drop ! $ drop ! $ land ! (from ! (stop !)) (init ! 72 refl (answer-typed W r _ is-r)) $ returns-within ! Post refl (look ! 72 refl) $
-        frees-all ! body.locals ls (some _ ∷ some _ ∷ some _ ∷ some _ ∷ some _ ∷ some _ ∷ some _ ∷ some _ ∷ some _ ∷ some _ ∷ some _ ∷ []) $ by ! (exits r is-r t (record { end = here t; ran = t .ran; over = h; answer = e; few-bytes = omega (arith, room₀ .0); few-words = omega (arith, room₁ .0); few-rows = omega (arith, room₂ .0) })))
+        frees-all ! body.locals ls (some _ ∷ some _ ∷ some _ ∷ some _ ∷ some _ ∷ some _ ∷ some _ ∷ some _ ∷ some _ ∷ some _ ∷ some _ ∷ []) $
+        by ! (exits r is-r t (record { end = here t; ran = t .ran; over = h; answer = e; few-bytes = omega (arith, room₀ .0); few-words = omega (arith, room₁ .0); few-rows = omega (arith, room₂ .0) })))
 
     turns : (t : Upon) → Sq W (At t) (runs C Λ En body.turn-1 (anyQ (After t)))
     turns t =
         nothing ! $ use1 W (raw (turn-of-to 𝓤 H A mem run .pre (to-turn-of (t .m)))) (goes-turn-of (t .m) (t .is-m)) $
         calls-to turn-of.ended (turn-of.clauses 𝓤 H A mem run) (to-turn-of (t .m)) (λ r ws. r ≡ turnOf (t .m .phase)) (λ r ws. id⊢ 𝓤 _) (vint w8) (uint-same w8) ! fm (known .turn-of) (and-then ! (var ! 55 refl) (no-more !)) (λ r ws e is.
         drop ! $ drop ! $ land ! (from ! (stop !)) (init ! 52 refl (tt, record { fits = is .1 })) $
-        rewrite ! 52 (λ (k : ℕ). ‵ (fat fullShare (ty 10) (l ls 10) 0 (vint w8 k))) e refl $ fills ! 48 (bin ! (var ! 52 refl) (lit ! tt) tt) refl (tt, tt) $
+        rewrite ! 52 (λ (k : ℕ). ‵ (fat fullShare (ty 10) (l ls 10) 0 (vint w8 k))) e refl $
+        fills ! 48 (bin ! (var ! 52 refl) (lit ! tt) tt) refl (tt, tt) $
         branches ! (var ! 48 refl)
         (λ yes.
         forget ! 48 refl $ looking t (leb→le _ 1 yes))
@@ -685,11 +722,16 @@ module _ {M : Type 1} (𝓤 : URA M) (H : Heap 𝓤) (A : Atoms 𝓤) (W : Given
   unfolding starting
   walk 𝓣 fm known room₀ room₁ room₂ room₃ =
       qed W ((‵ (flft κ₀ q₀) ⊛ (‵ (flft κ₁ q₁) ⊛ (‵ (flft κ₂ q₂) ⊛ (‵ (flft κ₃ q₃) ⊛ ‵ ftrue)))) ∷ ‵ (owns (ShrSlice (named 0) κ₀ u8 ∷ MutSlice (named 1) κ₁ u32 ∷ MutSlice (named 2) κ₂ R.the-row ∷ MutSlice (named 3) κ₃ u8 ∷ usize ∷ usize ∷ usize ∷ []) a at) ∷ []) ∵
-      split ! $ move ! (1 ∷ []) $ split ! $ move ! (1 ∷ []) $ split ! $ move ! (1 ∷ []) $ split ! $ move ! (5 ∷ []) $ fsplit ! $ move ! (1 ∷ []) $ fsplit ! $ move ! (1 ∷ []) $ fsplit ! $ move ! (1 ∷ []) $ fsplit ! $
+      split ! $ move ! (1 ∷ []) $ split ! $ move ! (1 ∷ []) $ split ! $ move ! (1 ∷ []) $ split ! $ move ! (5 ∷ []) $ fsplit ! $ move ! (1 ∷ []) $
+      fsplit ! $ move ! (1 ∷ []) $ fsplit ! $ move ! (1 ∷ []) $ fsplit ! $
       keep ! (4 ∷ 9 ∷ 3 ∷ 8 ∷ 2 ∷ 7 ∷ 0 ∷ 5 ∷ []) $
-      enter ! (𝓣 .C) (𝓣 .Λ) code.function (s₀ ∷ s₁ us ∷ s₂ ys ∷ s₃ ms ∷ vint w64 last ∷ vint w64 n ∷ vint w64 used ∷ []) _ $ allocs-all ! body.locals (λ ls. params1 ! $
+      enter ! (𝓣 .C) (𝓣 .Λ) code.function (s₀ ∷ s₁ us ∷ s₂ ys ∷ s₃ ms ∷ vint w64 last ∷ vint w64 n ∷ vint w64 used ∷ []) _ $
+      allocs-all ! body.locals (λ ls. params1 ! $
       -- [the locals, the last one first; what the slices own, each with its token]
-      pass1 ! (init ! 70 refl (tt, (tt, (record { fits = room₀ .0 }, tt)))) $ pass1 ! (init ! 68 refl (tt, (tt, (record { fits = room₁ .0 }, tt)))) $ pass1 ! (init ! 66 refl (tt, (tt, (record { fits = room₂ .0 }, tt)))) $ pass1 ! (init ! 64 refl (tt, (tt, (record { fits = room₃ .0 }, tt)))) $ pass1 ! (init ! 62 refl (tt, record { fits = last-fits })) $ pass1 ! (init ! 60 refl (tt, record { fits = n-fits })) $ pass1 ! (init ! 58 refl (tt, record { fits = used-fits })) $ pass0 ! $
+      pass1 ! (init ! 70 refl (tt, (tt, (record { fits = room₀ .0 }, tt)))) $ pass1 ! (init ! 68 refl (tt, (tt, (record { fits = room₁ .0 }, tt)))) $
+      pass1 ! (init ! 66 refl (tt, (tt, (record { fits = room₂ .0 }, tt)))) $
+      pass1 ! (init ! 64 refl (tt, (tt, (record { fits = room₃ .0 }, tt)))) $ pass1 ! (init ! 62 refl (tt, record { fits = last-fits })) $
+      pass1 ! (init ! 60 refl (tt, record { fits = n-fits })) $ pass1 ! (init ! 58 refl (tt, record { fits = used-fits })) $ pass0 ! $
       nothing ! $ use1 W (raw (begin-to 𝓤 H A mem run .pre to-begin)) goes-begin $
       calls-to begin.ended (begin.clauses 𝓤 H A mem run) to-begin (λ r ws. r ≡ begun n used) (λ r ws. id⊢ 𝓤 _) K′.lowered check-same ! fm (known .begin) (and-then ! (var ! 61 refl) (and-then ! (var ! 59 refl) (no-more !))) (λ c ws e is-c.
       drop ! $ drop ! $ land ! (from ! (stop !)) (init ! 56 refl (check-typed W c _ is-c)) $

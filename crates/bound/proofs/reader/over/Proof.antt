@@ -70,12 +70,14 @@ module _ {M : Type 1} (𝓤 : URA M) (H : Heap 𝓤) (A : Atoms 𝓤) (W : Given
   exits : i < 2 ^ 64 → ent 𝓤 (⋆ 𝓤 H A (‵ (Bytes κ (at-list b o γ ps)) ∷ ‵ (flft κ q) ∷ [])) (Post (D′.lowered made))
   exits fits =
       qed W (‵ (Bytes κ (at-list b o γ ps)) ∷ ‵ (flft κ q) ∷ []) ∵
-      suffices ! _ (ends-at 𝓤 H A f.ended stayed (f.clauses 𝓤 H A mem run) W (((κ, tt), (q, tt), tt, a, at), tt) (D′.lowered made) made (tt, (tt, tt)) (tt, (tt, tt))) $ says ! (refl, refl) $
+      suffices ! _ (ends-at 𝓤 H A f.ended stayed (f.clauses 𝓤 H A mem run) W (((κ, tt), (q, tt), tt, a, at), tt) (D′.lowered made) made (tt, (tt, tt)) (tt, (tt, tt))) $
+      says ! (refl, refl) $
       nothing ! $ move ! (2 ∷ 0 ∷ []) $ join ! $ frame ! $ dropped ! 2 $ frame ! $ by ! (together 𝓤 H A W κ made fits)
 
   walk : (C : Calls 𝓤 H) (Λ : Loops 𝓤 H) → Room u8 (length ps) → i < 2 ^ 64 → ent 𝓤 (onEntry 𝓤 H A f.signature (κ, tt) (q, tt) a at) (WpFn 𝓤 H C Λ code.function (s ∷ vint w64 i ∷ []) Post)
   walk C Λ room fits =
-      qed W ((‵ (flft κ q) ⊛ ‵ ftrue) ∷ ‵ (owns (ShrSlice (named 0) κ u8 ∷ usize ∷ []) a at) ∷ []) ∵ split ! $ move ! (2 ∷ []) $ fsplit ! $ keep ! (0 ∷ 2 ∷ []) $
+      qed W ((‵ (flft κ q) ⊛ ‵ ftrue) ∷ ‵ (owns (ShrSlice (named 0) κ u8 ∷ usize ∷ []) a at) ∷ []) ∵ split ! $ move ! (2 ∷ []) $ fsplit ! $
+      keep ! (0 ∷ 2 ∷ []) $
       enter ! C Λ code.function (s ∷ vint w64 i ∷ []) _ $ allocs-all ! body.locals (λ ls. params1 ! $
       -- [the locals, the last one first; what the slice owns; the token]
       pass1 ! (init ! 2 refl (tt, (tt, (record { fits = room .0 }, tt)))) $ pass1 ! (init ! 0 refl (tt, record { fits = fits })) $ pass0 ! $

@@ -89,18 +89,22 @@ module _ {M : Type 1} (𝓤 : URA M) (H : Heap 𝓤) (A : Atoms 𝓤) (W : Given
   goes : d .at < 2 ^ 64 → ent 𝓤 (sep 𝓤 (sem 𝓤 H A (Bytes κ (d .bytes))) (A .lft κ q)) (number-at-to 𝓤 H A mem run .pre to)
   goes fits =
       qed W (‵ (Bytes κ (d .bytes)) ∷ ‵ (flft κ q) ∷ []) ∵ nothing ! $ move ! (2 ∷ 0 ∷ []) $ join ! $
-      nothing ! $ owned ! usize (Is usize) (uint-makes 𝓤 H A W w64) (d .at) _ (refl, fits) $ fjoin ! $ move ! (2 ∷ 0 ∷ []) $ fjoin ! $ move ! (1 ∷ 0 ∷ []) $ join ! $ frame ! $ done !
+      nothing ! $ owned ! usize (Is usize) (uint-makes 𝓤 H A W w64) (d .at) _ (refl, fits) $ fjoin ! $ move ! (2 ∷ 0 ∷ []) $ fjoin ! $
+      move ! (1 ∷ 0 ∷ []) $ join ! $ frame ! $ done !
 
   exits : (r : Number) → Is S.the-row r (S′.lowered r ∷ []) → said r ≡ number-of (d .bytes .now) (d .at) → ent 𝓤 (⋆ 𝓤 H A (‵ (flft κ q) ∷ [])) (Post (S′.lowered r))
   exits r is e =
       qed W (‵ (flft κ q) ∷ []) ∵
-      suffices ! _ (ends-at 𝓤 H A f.ended stayed (f.clauses 𝓤 H A mem run) W (((κ, tt), (q, tt), tt, (d, tt), (mach ∷ [], tt)), tt) (S′.lowered r) r (tt, tt) (tt, tt)) $ says ! e $
-      nothing ! $ move ! (1 ∷ 0 ∷ []) $ join ! $ frame ! $ dropped ! 1 $ frame ! $ owned ! S.the-row (Is S.the-row) ((EL.makes S.the-type S′.the-plain) 𝓤 H A) r _ is $ done !
+      suffices ! _ (ends-at 𝓤 H A f.ended stayed (f.clauses 𝓤 H A mem run) W (((κ, tt), (q, tt), tt, (d, tt), (mach ∷ [], tt)), tt) (S′.lowered r) r (tt, tt) (tt, tt)) $
+      says ! e $
+      nothing ! $ move ! (1 ∷ 0 ∷ []) $ join ! $ frame ! $ dropped ! 1 $ frame ! $
+      owned ! S.the-row (Is S.the-row) ((EL.makes S.the-type S′.the-plain) 𝓤 H A) r _ is $ done !
 
   walk : (C : Calls 𝓤 H) (Λ : Loops 𝓤 H) → FmC 𝓤 H (W .laws) C → Triple 𝓤 (C #number-at) (number-at-to 𝓤 H A mem run) → Holds (hasTy (D′.mir (named 0)) mach) × WT mach
       → ent 𝓤 (onEntry 𝓤 H A f.signature (κ, tt) (q, tt) (d, tt) (mach ∷ [], tt)) (WpFn 𝓤 H C Λ code.function (mach ∷ []) Post)
   walk C Λ fm known wt =
-      qed W ((‵ (flft κ q) ⊛ ‵ ftrue) ∷ ‵ (owns (B (κ, tt) ∷ []) (d, tt) (mach ∷ [], tt)) ∷ []) ∵ split ! $ move ! (2 ∷ []) $ fsplit ! $ keep ! (0 ∷ 2 ∷ []) $
+      qed W ((‵ (flft κ q) ⊛ ‵ ftrue) ∷ ‵ (owns (B (κ, tt) ∷ []) (d, tt) (mach ∷ [], tt)) ∷ []) ∵ split ! $ move ! (2 ∷ []) $ fsplit ! $
+      keep ! (0 ∷ 2 ∷ []) $
       use1 W (‵ (Bytes κ (d .bytes))) (apart 𝓤 H A W κ d) $
       enter ! C Λ code.function (mach ∷ []) _ $ allocs-all ! body.locals (λ ls. params1 ! $
       -- [the locals, the last one first; what the bytes own; the token]
@@ -109,7 +113,8 @@ module _ {M : Type 1} (𝓤 : URA M) (H : Heap 𝓤) (A : Atoms 𝓤) (W : Given
       use2 W (raw (number-at-to 𝓤 H A mem run .pre to)) (goes (wt .1 .1 .0 .fits)) $
       calls-to number-at.ended (number-at.clauses 𝓤 H A mem run) to (λ r ws. said r ≡ number-of (d .bytes .now) (d .at)) (λ r ws. id⊢ 𝓤 _) S′.lowered number-same ! fm known (and-then ! (var ! 3 refl) (and-then ! (var ! 1 refl) (no-more !))) (λ r ws e is.
       use1 W (‵ (flft κ q) ⊛ ‵ ftrue) (id⊢ 𝓤 _) $ split ! $ move ! (1 ∷ []) $ drop ! $ move ! (1 ∷ []) $ drop ! $
-      land ! (from ! (stop !)) (init ! 7 refl (EL.lawful S.the-type S′.the-laws 𝓤 H A W tt .typed r _ is .0)) $ returns ! (look ! 7 refl) $ rotate ! 1 $
+      land ! (from ! (stop !)) (init ! 7 refl (EL.lawful S.the-type S′.the-laws 𝓤 H A W tt .typed r _ is .0)) $ returns ! (look ! 7 refl) $
+      rotate ! 1 $
       frees-all ! body.locals ls (some _ ∷ some _ ∷ some _ ∷ some _ ∷ []) $ by ! (exits r is e)))
 
 meets : {M : Type 1} (𝓤 : URA M) (H : Heap 𝓤) (A : Atoms 𝓤) → Given 𝓤 H A → (mem : Memory → SProp 𝓤) (run : Routine → Fun 𝓤) (𝓣 : Tables 𝓤 H) → Triple 𝓤 (𝓣 .C #number-at) (number-at-to 𝓤 H A mem run)

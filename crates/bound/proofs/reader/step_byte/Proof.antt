@@ -84,18 +84,21 @@ module _ {M : Type 1} (𝓤 : URA M) (H : Heap 𝓤) (A : Atoms 𝓤) (W : Given
   goes : d .at < 2 ^ 64 → ent 𝓤 (sep 𝓤 (sem 𝓤 H A (Bytes κ (d .bytes))) (A .lft κ q)) (byte-at-to 𝓤 H A mem run .pre to)
   goes fits =
       qed W (‵ (Bytes κ (d .bytes)) ∷ ‵ (flft κ q) ∷ []) ∵ nothing ! $ move ! (2 ∷ 0 ∷ []) $ join ! $
-      nothing ! $ owned ! usize (Is usize) (uint-makes 𝓤 H A W w64) (d .at) _ (refl, fits) $ fjoin ! $ move ! (2 ∷ 0 ∷ []) $ fjoin ! $ move ! (1 ∷ 0 ∷ []) $ join ! $ frame ! $ done !
+      nothing ! $ owned ! usize (Is usize) (uint-makes 𝓤 H A W w64) (d .at) _ (refl, fits) $ fjoin ! $ move ! (2 ∷ 0 ∷ []) $ fjoin ! $
+      move ! (1 ∷ 0 ∷ []) $ join ! $ frame ! $ done !
 
   exits : (r : ℕ) → Is u8 r (vint w8 r ∷ []) → r ≡ getD (d .bytes .now) (d .at) 0 → ent 𝓤 (⋆ 𝓤 H A (‵ (flft κ q) ∷ [])) (Post (vint w8 r))
   exits r is e =
       qed W (‵ (flft κ q) ∷ []) ∵
-      suffices ! _ (ends-at 𝓤 H A f.ended stayed (f.clauses 𝓤 H A mem run) W (((κ, tt), (q, tt), tt, (d, tt), (mach ∷ [], tt)), tt) (vint w8 r) r (tt, tt) (tt, tt)) $ says ! e $
+      suffices ! _ (ends-at 𝓤 H A f.ended stayed (f.clauses 𝓤 H A mem run) W (((κ, tt), (q, tt), tt, (d, tt), (mach ∷ [], tt)), tt) (vint w8 r) r (tt, tt) (tt, tt)) $
+      says ! e $
       nothing ! $ move ! (1 ∷ 0 ∷ []) $ join ! $ frame ! $ dropped ! 1 $ frame ! $ owned ! u8 (Is u8) (uint-makes 𝓤 H A W w8) r _ is $ done !
 
   walk : (C : Calls 𝓤 H) (Λ : Loops 𝓤 H) → FmC 𝓤 H (W .laws) C → Triple 𝓤 (C #byte-at) (byte-at-to 𝓤 H A mem run) → Holds (hasTy (D′.mir (named 0)) mach) × WT mach
       → ent 𝓤 (onEntry 𝓤 H A f.signature (κ, tt) (q, tt) (d, tt) (mach ∷ [], tt)) (WpFn 𝓤 H C Λ code.function (mach ∷ []) Post)
   walk C Λ fm known wt =
-      qed W ((‵ (flft κ q) ⊛ ‵ ftrue) ∷ ‵ (owns (B (κ, tt) ∷ []) (d, tt) (mach ∷ [], tt)) ∷ []) ∵ split ! $ move ! (2 ∷ []) $ fsplit ! $ keep ! (0 ∷ 2 ∷ []) $
+      qed W ((‵ (flft κ q) ⊛ ‵ ftrue) ∷ ‵ (owns (B (κ, tt) ∷ []) (d, tt) (mach ∷ [], tt)) ∷ []) ∵ split ! $ move ! (2 ∷ []) $ fsplit ! $
+      keep ! (0 ∷ 2 ∷ []) $
       use1 W (‵ (Bytes κ (d .bytes))) (apart 𝓤 H A W κ d) $
       enter ! C Λ code.function (mach ∷ []) _ $ allocs-all ! body.locals (λ ls. params1 ! $
       -- [the locals, the last one first; what the bytes own; the token]

@@ -95,39 +95,46 @@ module _ {M : Type 1} (𝓤 : URA M) (H : Heap 𝓤) (A : Atoms 𝓤) (W : Given
   goes-over : i < 2 ^ 64 → ent 𝓤 (sep 𝓤 (sem 𝓤 H A (Bytes κ x)) (A .lft κ q)) (over-to 𝓤 H A mem run .pre to-over)
   goes-over fits =
       qed W (‵ (Bytes κ x) ∷ ‵ (flft κ q) ∷ []) ∵ nothing ! $ move ! (2 ∷ 0 ∷ []) $ join ! $
-      nothing ! $ owned ! usize (Is usize) (uint-makes 𝓤 H A W w64) i _ (refl, fits) $ fjoin ! $ move ! (2 ∷ 0 ∷ []) $ fjoin ! $ move ! (1 ∷ 0 ∷ []) $ join ! $ frame ! $ done !
+      nothing ! $ owned ! usize (Is usize) (uint-makes 𝓤 H A W w64) i _ (refl, fits) $ fjoin ! $ move ! (2 ∷ 0 ∷ []) $ fjoin ! $ move ! (1 ∷ 0 ∷ []) $
+      join ! $ frame ! $ done !
 
   abbrev to : Reader → step-byte-to 𝓤 H A mem run .Ghost
   to d = (((κ, tt), (q, tt), tt, (d, tt), (D′.lowered d ∷ [], tt)), tt)
 
   goes : (d : Reader) → ent 𝓤 (sep 𝓤 (sem 𝓤 H A (Held κ d)) (A .lft κ q)) (step-byte-to 𝓤 H A mem run .pre (to d))
   goes d =
-      qed W (‵ (Held κ d) ∷ ‵ (flft κ q) ∷ []) ∵ nothing ! $ move ! (2 ∷ 0 ∷ []) $ join ! $ nothing ! $ move ! (2 ∷ 0 ∷ []) $ fjoin ! $ move ! (1 ∷ 0 ∷ []) $ join ! $ frame ! $ done !
+      qed W (‵ (Held κ d) ∷ ‵ (flft κ q) ∷ []) ∵ nothing ! $ move ! (2 ∷ 0 ∷ []) $ join ! $ nothing ! $ move ! (2 ∷ 0 ∷ []) $ fjoin ! $
+      move ! (1 ∷ 0 ∷ []) $ join ! $ frame ! $ done !
 
   exits : (r : ℕ) → Is u8 r (vint w8 r ∷ []) → r ≡ getD ps i 0 → ent 𝓤 (⋆ 𝓤 H A (‵ (flft κ q) ∷ [])) (Post (vint w8 r))
   exits r is e =
       qed W (‵ (flft κ q) ∷ []) ∵
-      suffices ! _ (ends-at 𝓤 H A f.ended stayed (f.clauses 𝓤 H A mem run) W (((κ, tt), (q, tt), tt, (x, (i, tt)), at), tt) (vint w8 r) r (tt, (tt, tt)) (tt, (tt, tt))) $ says ! e $
+      suffices ! _ (ends-at 𝓤 H A f.ended stayed (f.clauses 𝓤 H A mem run) W (((κ, tt), (q, tt), tt, (x, (i, tt)), at), tt) (vint w8 r) r (tt, (tt, tt)) (tt, (tt, tt))) $
+      says ! e $
       nothing ! $ move ! (1 ∷ 0 ∷ []) $ join ! $ frame ! $ dropped ! 2 $ frame ! $ owned ! u8 (Is u8) (uint-makes 𝓤 H A W w8) r _ is $ done !
 
   walk : (C : Calls 𝓤 H) (Λ : Loops 𝓤 H) → FmC 𝓤 H (W .laws) C → Triple 𝓤 (C #over) (over-to 𝓤 H A mem run) → Triple 𝓤 (C #step-byte) (step-byte-to 𝓤 H A mem run) → Room u8 (length ps) → i < 2 ^ 64
       → ent 𝓤 (onEntry 𝓤 H A f.signature (κ, tt) (q, tt) (x, (i, tt)) at) (WpFn 𝓤 H C Λ code.function (s ∷ vint w64 i ∷ []) Post)
   walk C Λ fm known-over known-step-byte room fits =
-      qed W ((‵ (flft κ q) ⊛ ‵ ftrue) ∷ ‵ (owns (ShrSlice (named 0) κ u8 ∷ usize ∷ []) (x, (i, tt)) at) ∷ []) ∵ split ! $ move ! (2 ∷ []) $ fsplit ! $ keep ! (0 ∷ 2 ∷ []) $
+      qed W ((‵ (flft κ q) ⊛ ‵ ftrue) ∷ ‵ (owns (ShrSlice (named 0) κ u8 ∷ usize ∷ []) (x, (i, tt)) at) ∷ []) ∵ split ! $ move ! (2 ∷ []) $ fsplit ! $
+      keep ! (0 ∷ 2 ∷ []) $
       enter ! C Λ code.function (s ∷ vint w64 i ∷ []) _ $ allocs-all ! body.locals (λ ls. params1 ! $
       -- [the locals, the last one first; what the bytes own; the token]
       pass1 ! (init ! 4 refl (tt, (tt, (record { fits = room .0 }, tt)))) $ pass1 ! (init ! 2 refl (tt, record { fits = fits })) $ pass0 ! $
-      move ! (8 ∷ []) $ use1 W (‵ (Bytes κ x) ⊛ ‵ (Bytes κ x)) (shr-slice-copy 𝓤 H A W (named 0) κ u8 .twice x (s ∷ [])) $ split ! $ move ! (0 ∷ 10 ∷ []) $
+      move ! (8 ∷ []) $ use1 W (‵ (Bytes κ x) ⊛ ‵ (Bytes κ x)) (shr-slice-copy 𝓤 H A W (named 0) κ u8 .twice x (s ∷ [])) $ split ! $
+      move ! (0 ∷ 10 ∷ []) $
       use2 W (raw (over-to 𝓤 H A mem run .pre to-over)) (goes-over fits) $
       calls-to over.ended (over.clauses 𝓤 H A mem run) to-over (λ d ws. (d .bytes ≡ x) × (d .at ≡ i)) (λ d ws. id⊢ 𝓤 _) D′.lowered (reader-same κ) ! fm known-over (and-then ! (var ! 6 refl) (and-then ! (var ! 4 refl) (no-more !))) (λ d ws e is-d.
       use1 W (‵ (flft κ q) ⊛ ‵ ftrue) (id⊢ 𝓤 _) $ split ! $ move ! (1 ∷ []) $ drop ! $ move ! (1 ∷ []) $ drop ! $
-      land ! (from ! (stop !)) (init ! 2 refl (LL.lawful (D.the-type erased-lft) (D′.the-laws erased-lft) 𝓤 H A W .typed d _ is-d .0)) $ move ! (1 ∷ []) $
+      land ! (from ! (stop !)) (init ! 2 refl (LL.lawful (D.the-type erased-lft) (D′.the-laws erased-lft) 𝓤 H A W .typed d _ is-d .0)) $
+      move ! (1 ∷ []) $
       rewrite ! 0 (λ (y : RefT (List ℕ)). ‵ (Bytes κ y)) (sym (e .0)) refl $ use1 W (‵ (Held κ d)) (together 𝓤 H A W κ d (place-fits κ d is-d)) $
       move ! (0 ∷ 1 ∷ []) $ use2 W (raw (step-byte-to 𝓤 H A mem run .pre (to d))) (goes d) $
       calls-to step-byte.ended (step-byte.clauses 𝓤 H A mem run) (to d) (λ r ws. r ≡ getD (d .bytes .now) (d .at) 0) (λ r ws. id⊢ 𝓤 _) (vint w8) (uint-same w8) ! fm known-step-byte (and-then ! (var ! 1 refl) (no-more !)) (λ r ws′ e′ is.
       use1 W (‵ (flft κ q) ⊛ ‵ ftrue) (id⊢ 𝓤 _) $ split ! $ move ! (1 ∷ []) $ drop ! $ move ! (1 ∷ []) $ drop ! $
       land ! (from ! (stop !)) (init ! 7 refl (tt, record { fits = is .1 })) $ returns ! (look ! 7 refl) $ rotate ! 1 $
-      frees-all ! body.locals ls (some _ ∷ some _ ∷ some _ ∷ some _ ∷ []) $ by ! (exits r is (e′ ∙ (ap (λ (y : RefT (List ℕ)). getD (y .now) (d .at) 0) (e .0) ∙ ap (λ (k : ℕ). getD ps k 0) (e .1)))))))
+      frees-all ! body.locals ls (some _ ∷ some _ ∷ some _ ∷ some _ ∷ []) $
+      by ! (exits r is (e′ ∙ (ap (λ (y : RefT (List ℕ)). getD (y .now) (d .at) 0) (e .0) ∙ ap (λ (k : ℕ). getD ps k 0) (e .1)))))))
 
 meets : {M : Type 1} (𝓤 : URA M) (H : Heap 𝓤) (A : Atoms 𝓤) → Given 𝓤 H A → (mem : Memory → SProp 𝓤) (run : Routine → Fun 𝓤) (𝓣 : Tables 𝓤 H) → Triple 𝓤 (𝓣 .C #over) (over-to 𝓤 H A mem run) → Triple 𝓤 (𝓣 .C #step-byte) (step-byte-to 𝓤 H A mem run)
     → Meets 𝓤 H A f.signature (WpFn 𝓤 H (𝓣 .C) (𝓣 .Λ) code.function) (f.spec 𝓤 H A mem run)

@@ -131,8 +131,10 @@ module _ {M : Type 1} (𝓤 : URA M) (H : Heap 𝓤) (A : Atoms 𝓤) (W : Given
       says-all ! (id⊢ 𝓤 _) $
       rewrite ! 0 (λ (k : ℕ). ‵ (MutSlice (named 2) κ₁ u32 .own (at-list b₁ o₁ γ₁ xs) (sliceVal (b₁, o₁) k ∷ []))) e₁ refl $
       rewrite ! 2 (λ (k : ℕ). ‵ (MutSlice (named 3) κ₃ u8 .own (at-list b₃ o₃ γ₃ vs) (sliceVal (b₃, o₃) k ∷ []))) e₃ refl $
-      nothing ! $ move ! (4 ∷ 0 ∷ []) $ join ! $ move ! (2 ∷ 0 ∷ []) $ join ! $ move ! (3 ∷ 0 ∷ []) $ join ! $ move ! (3 ∷ 0 ∷ []) $ join ! $ frame ! $
-      nothing ! $ move ! (2 ∷ 0 ∷ []) $ fjoin ! $ nothing ! $ fjoin ! $ move ! (1 ∷ 0 ∷ []) $ fjoin ! $ nothing ! $ fjoin ! $ nothing ! $ fjoin ! $ nothing ! $ fjoin ! $
+      nothing ! $ move ! (4 ∷ 0 ∷ []) $ join ! $ move ! (2 ∷ 0 ∷ []) $ join ! $ move ! (3 ∷ 0 ∷ []) $ join ! $ move ! (3 ∷ 0 ∷ []) $ join ! $
+      frame ! $
+      nothing ! $ move ! (2 ∷ 0 ∷ []) $ fjoin ! $ nothing ! $ fjoin ! $ move ! (1 ∷ 0 ∷ []) $ fjoin ! $ nothing ! $ fjoin ! $ nothing ! $ fjoin ! $
+      nothing ! $ fjoin ! $
       owned ! S.the-row (Is S.the-row) ((EL.makes S.the-type S′.the-plain) 𝓤 H A) r _ is $ move ! (1 ∷ 0 ∷ []) $ done !
 
   -- the call: what it is passed
@@ -165,7 +167,8 @@ module _ {M : Type 1} (𝓤 : URA M) (H : Heap 𝓤) (A : Atoms 𝓤) (W : Given
   cut-all : (b : ℕ) → ent 𝓤 (sem 𝓤 H A (cells (mem R.the-row) all b 0)) (sep 𝓤 (sem 𝓤 H A (cells (mem R.the-row) some-rows b 0)) (sem 𝓤 H A (Others b)))
   cut-all b =
       qed W (‵ (cells (mem R.the-row) all b 0) ∷ []) {P = sep 𝓤 (sem 𝓤 H A (cells (mem R.the-row) some-rows b 0)) (sem 𝓤 H A (Others b))} (
-      rewrite ! 0 (λ (xs : List Row). ‵ (cells (mem R.the-row) xs b 0)) (sym (take-append-drop rows all)) refl $ by ! (cut-app 𝓤 H A (mem R.the-row) some-rows (drop-list rows all) b 0))
+      rewrite ! 0 (λ (xs : List Row). ‵ (cells (mem R.the-row) xs b 0)) (sym (take-append-drop rows all)) refl $
+      by ! (cut-app 𝓤 H A (mem R.the-row) some-rows (drop-list rows all) b 0))
 
   freed : (b : ℕ) (zs : List Row) → length zs ≡ length some-rows → ent 𝓤 (sep 𝓤 (sem 𝓤 H A (cells (mem R.the-row) zs b 0)) (sem 𝓤 H A (Others b))) (H .room (tyArray (lone (R.the-row .mir)) 1024) b 0)
   freed b zs e =
@@ -183,8 +186,12 @@ module _ {M : Type 1} (𝓤 : URA M) (H : Heap 𝓤) (A : Atoms 𝓤) (W : Given
       fsplit ! $ move ! (1 ∷ []) $ fsplit ! $ drop ! $ fsplit ! $ move ! (1 ∷ []) $ fsplit ! $ move ! (1 ∷ []) $ fsplit ! $ drop ! $ fsplit ! $
       -- [the marks; no other parameter; the words; the proof; the file; the tokens, the last one first]
       keep ! (4 ∷ 9 ∷ 3 ∷ 8 ∷ 2 ∷ 7 ∷ 0 ∷ 5 ∷ []) $
-      enter ! (𝓣 .C) (𝓣 .Λ) code.function (s₄ ∷ vint w64 bound ∷ s₀ ∷ s₁ us ∷ vint w64 rows ∷ s₃ ms ∷ []) _ $ allocs-all ! body.locals (λ ls. params1 ! $
-      pass1 ! (init ! 26 refl (tt, (tt, (record { fits = room₄ .0 }, tt)))) $ pass1 ! (init ! 24 refl (tt, record { fits = bound-fits })) $ pass1 ! (init ! 22 refl (tt, (tt, (record { fits = room₀ .0 }, tt)))) $ pass1 ! (init ! 20 refl (tt, (tt, (record { fits = room₁ .0 }, tt)))) $ pass1 ! (init ! 18 refl (tt, record { fits = rows-fit })) $ pass1 ! (init ! 16 refl (tt, (tt, (record { fits = room₃ .0 }, tt)))) $ pass0 ! $
+      enter ! (𝓣 .C) (𝓣 .Λ) code.function (s₄ ∷ vint w64 bound ∷ s₀ ∷ s₁ us ∷ vint w64 rows ∷ s₃ ms ∷ []) _ $
+      allocs-all ! body.locals (λ ls. params1 ! $
+      pass1 ! (init ! 26 refl (tt, (tt, (record { fits = room₄ .0 }, tt)))) $ pass1 ! (init ! 24 refl (tt, record { fits = bound-fits })) $
+      pass1 ! (init ! 22 refl (tt, (tt, (record { fits = room₀ .0 }, tt)))) $
+      pass1 ! (init ! 20 refl (tt, (tt, (record { fits = room₁ .0 }, tt)))) $ pass1 ! (init ! 18 refl (tt, record { fits = rows-fit })) $
+      pass1 ! (init ! 16 refl (tt, (tt, (record { fits = room₃ .0 }, tt)))) $ pass0 ! $
       -- the array
       owned ! R.the-row (Is R.the-row) ((LL.makes R.the-type R′.the-plain) 𝓤 H A) top (R′.lowered top ∷ []) top-is $
       use1 W (‵ Array-own) (array-repeat 𝓤 H A W R.the-row (LL.copy R.the-type R′.the-copy 𝓤 H A W) 1024 top (R′.lowered top)) $
@@ -200,17 +207,25 @@ module _ {M : Type 1} (𝓤 : URA M) (H : Heap 𝓤) (A : Atoms 𝓤) (W : Given
       fills ! 0 (agg ! (and-then ! (var ! 2 refl) (and-then ! (part ! 15 refl (sub ! 1 refl (whole !))) (no-more !)))) refl (tt, (tt, (record { fits = room₃ .0 }, tt))) $
       move ! (33 ∷ 34 ∷ []) $ lent u32 κ₁ q₁ γ₁ b₁ o₁ ! tt (named 2) us (λ ν₁ δ₁.
       move ! (36 ∷ 37 ∷ []) $ lent u8 κ₃ q₃ γ₃ b₃ o₃ ! tt (named 3) ms (λ ν₃ δ₃.
-      move ! (39 ∷ []) $ use1 W (‵ (cells (mem R.the-row) some-rows (l ls 8) 0) ⊛ ‵ (Others (l ls 8))) (cut-all (l ls 8)) $ split ! $ lft-new ! tt (λ ν₂. move ! (1 ∷ []) $
+      move ! (39 ∷ []) $ use1 W (‵ (cells (mem R.the-row) some-rows (l ls 8) 0) ⊛ ‵ (Others (l ls 8))) (cut-all (l ls 8)) $ split ! $
+      lft-new ! tt (λ ν₂. move ! (1 ∷ []) $
       use1 W (later (exists (λ (δ : GName). ‵ (MutSlice (named 3) (ν₂ ∷ []) R.the-row .own (at-list (l ls 8) 0 δ some-rows) (sliceVal (l ls 8, 0) (length some-rows) ∷ [])) ⊛ ‵ (flent (ν₂ ∷ []) (Held R.the-row (length some-rows) (l ls 8) 0 δ))))) (lends-slice 𝓤 H A W R.the-row (named 3) (ν₂ ∷ []) some-rows (l ls 8) 0 fit-rows) $
       await ! tt $ pick ! (λ δ₂. split ! $ rewrite ! 14 (λ (k : ℕ). ‵ (fat fullShare (ty 12) (l ls 12) 0 (sliceVal (l ls 8, 0) k))) (sym long) refl $
-      move ! (40 ∷ 42 ∷ 8 ∷ 2 ∷ 5 ∷ 39 ∷ 41 ∷ 7 ∷ 0 ∷ 4 ∷ []) $ cut (Checking 𝓤 H A mm run κ₄ κ₀ q₄ q₀ b₄ o₄ γ₄ fs bound b₀ o₀ γ₀ ps b₁ o₁ us (l ls 8) 0 some-rows b₃ o₃ ms ν₁ δ₁ ν₂ δ₂ ν₃ δ₃) (raw (check-to 𝓤 H A mm run .pre (checking (l ls 8) some-rows ν₁ δ₁ ν₂ δ₂ ν₃ δ₃)) ∷ []) _
+      move ! (40 ∷ 42 ∷ 8 ∷ 2 ∷ 5 ∷ 39 ∷ 41 ∷ 7 ∷ 0 ∷ 4 ∷ []) $
+      cut (Checking 𝓤 H A mm run κ₄ κ₀ q₄ q₀ b₄ o₄ γ₄ fs bound b₀ o₀ γ₀ ps b₁ o₁ us (l ls 8) 0 some-rows b₃ o₃ ms ν₁ δ₁ ν₂ δ₂ ν₃ δ₃) (raw (check-to 𝓤 H A mm run .pre (checking (l ls 8) some-rows ν₁ δ₁ ν₂ δ₂ ν₃ δ₃)) ∷ []) _
       (goes-check 𝓤 H A mm run κ₄ κ₀ q₄ q₀ b₄ o₄ γ₄ fs bound b₀ o₀ γ₀ ps b₁ o₁ us (l ls 8) 0 some-rows b₃ o₃ ms ν₁ δ₁ ν₂ δ₂ ν₃ δ₃ W bound-fits) $
       calls-to check.ended (check.clauses 𝓤 H A mm run) (checking (l ls 8) some-rows ν₁ δ₁ ν₂ δ₂ ν₃ δ₃) (λ r ws. Unit {0}) (λ r ws. factI 𝓤 (Unit {0}) _ tt) S′.lowered answer-same ! fm known
       (and-then ! (var ! 30 refl) (and-then ! (var ! 28 refl) (and-then ! (var ! 26 refl) (and-then ! (var ! 13 refl) (and-then ! (var ! 9 refl) (and-then ! (var ! 5 refl) (no-more !))))))) (λ r ws _ is-r.
-      use1 W (‵ (flft κ₄ q₄) ⊛ (‵ (flft κ₀ q₀) ⊛ (‵ (flft (ν₁ ∷ []) fullShare) ⊛ (‵ (flft (ν₂ ∷ []) fullShare) ⊛ (‵ (flft (ν₃ ∷ []) fullShare) ⊛ ‵ ftrue))))) (id⊢ 𝓤 _) $ split ! $ move ! (1 ∷ []) $ split ! $ move ! (1 ∷ []) $ split ! $ move ! (1 ∷ []) $ split ! $ move ! (1 ∷ []) $ split ! $ move ! (1 ∷ []) $ drop ! $ move ! (5 ∷ []) $
-      fsplit ! $ drop ! $ fsplit ! $ drop ! $ fsplit ! $ drop ! $ fsplit ! $ fsplit ! $ move ! (1 ∷ []) $ feqL ! (λ k₁. move ! (1 ∷ []) $ fsplit ! $ fsplit ! $ move ! (1 ∷ []) $ feqL ! (λ k₂. move ! (1 ∷ []) $ fsplit ! $ fsplit ! $ move ! (1 ∷ []) $ feqL ! (λ k₃. move ! (1 ∷ []) $ drop ! $
-      move ! (3 ∷ 10 ∷ 0 ∷ []) $ back u8 κ₃ q₃ γ₃ b₃ o₃ ! tt (named 3) ms δ₃ (ws .1 .1 .1 .1 .1 .0) k₃ $ move ! (5 ∷ 10 ∷ 3 ∷ []) $ back u32 κ₁ q₁ γ₁ b₁ o₁ ! tt (named 2) us δ₁ (ws .1 .1 .1 .0) k₁ $
-      move ! (5 ∷ 8 ∷ 4 ∷ []) $ lft-end ! tt $ use3 W (later (‵ (Arr (mem R.the-row) (length some-rows) .lies (ws .1 .1 .1 .1 .0) (l ls 8) 0))) (slice-back 𝓤 H A W R.the-row (ν₂ ∷ []) δ₂ (ws .1 .1 .1 .1 .0) (length some-rows) (l ls 8) 0) $ await ! tt $ fsplit ! $ drop ! $
+      use1 W (‵ (flft κ₄ q₄) ⊛ (‵ (flft κ₀ q₀) ⊛ (‵ (flft (ν₁ ∷ []) fullShare) ⊛ (‵ (flft (ν₂ ∷ []) fullShare) ⊛ (‵ (flft (ν₃ ∷ []) fullShare) ⊛ ‵ ftrue))))) (id⊢ 𝓤 _) $
+      split ! $ move ! (1 ∷ []) $ split ! $ move ! (1 ∷ []) $ split ! $ move ! (1 ∷ []) $ split ! $ move ! (1 ∷ []) $ split ! $ move ! (1 ∷ []) $
+      drop ! $ move ! (5 ∷ []) $
+      fsplit ! $ drop ! $ fsplit ! $ drop ! $ fsplit ! $ drop ! $ fsplit ! $ fsplit ! $ move ! (1 ∷ []) $ feqL ! (λ k₁. move ! (1 ∷ []) $ fsplit ! $
+      fsplit ! $ move ! (1 ∷ []) $ feqL ! (λ k₂. move ! (1 ∷ []) $ fsplit ! $ fsplit ! $ move ! (1 ∷ []) $ feqL ! (λ k₃. move ! (1 ∷ []) $ drop ! $
+      move ! (3 ∷ 10 ∷ 0 ∷ []) $ back u8 κ₃ q₃ γ₃ b₃ o₃ ! tt (named 3) ms δ₃ (ws .1 .1 .1 .1 .1 .0) k₃ $ move ! (5 ∷ 10 ∷ 3 ∷ []) $
+      back u32 κ₁ q₁ γ₁ b₁ o₁ ! tt (named 2) us δ₁ (ws .1 .1 .1 .0) k₁ $
+      move ! (5 ∷ 8 ∷ 4 ∷ []) $ lft-end ! tt $
+      use3 W (later (‵ (Arr (mem R.the-row) (length some-rows) .lies (ws .1 .1 .1 .1 .0) (l ls 8) 0))) (slice-back 𝓤 H A W R.the-row (ν₂ ∷ []) δ₂ (ws .1 .1 .1 .1 .0) (length some-rows) (l ls 8) 0) $
+      await ! tt $ fsplit ! $ drop ! $
       move ! (0 ∷ 7 ∷ []) $ use2 W (‵ (froom (ty 8) (l ls 8) 0)) (freed (l ls 8) (ws .1 .1 .1 .1 .0) k₂) $
       land ! (from ! (stop !)) (init ! 34 refl (answer-typed W r _ is-r)) $ returns ! (look ! 34 refl) $
       move ! (7 ∷ 8 ∷ 9 ∷ 10 ∷ 11 ∷ 12 ∷ 13 ∷ 14 ∷ 15 ∷ 16 ∷ 17 ∷ 18 ∷ 0 ∷ 19 ∷ 20 ∷ 21 ∷ 22 ∷ 23 ∷ 24 ∷ 25 ∷ 26 ∷ 27 ∷ 28 ∷ 29 ∷ 30 ∷ 31 ∷ 32 ∷ 33 ∷ 34 ∷ 35 ∷ []) $

@@ -160,8 +160,10 @@ module _ {M : Type 1} (𝓤 : URA M) (H : Heap 𝓤) (A : Atoms 𝓤) (W : Given
       rewrite ! 2 (λ (k : ℕ). ‵ (MutSlice (named 2) κ₁ u32 .own (at-list b₁ o₁ γ₁ xs) (sliceVal (b₁, o₁) k ∷ []))) e₁ refl $
       rewrite ! 4 (λ (k : ℕ). ‵ (MutSlice (named 3) κ₂ R.the-row .own (at-list b₂ o₂ γ₂ zs) (sliceVal (b₂, o₂) k ∷ []))) e₂ refl $
       rewrite ! 6 (λ (k : ℕ). ‵ (MutSlice (named 4) κ₃ u8 .own (at-list b₃ o₃ γ₃ vs) (sliceVal (b₃, o₃) k ∷ []))) e₃ refl $
-      nothing ! $ move ! (8 ∷ 0 ∷ []) $ join ! $ move ! (6 ∷ 0 ∷ []) $ join ! $ move ! (4 ∷ 0 ∷ []) $ join ! $ move ! (2 ∷ 0 ∷ []) $ join ! $ move ! (1 ∷ 0 ∷ []) $ join ! $ frame ! $
-      nothing ! $ move ! (3 ∷ 0 ∷ []) $ fjoin ! $ move ! (2 ∷ 0 ∷ []) $ fjoin ! $ move ! (1 ∷ 0 ∷ []) $ fjoin ! $ nothing ! $ fjoin ! $ nothing ! $ fjoin ! $ nothing ! $ fjoin ! $
+      nothing ! $ move ! (8 ∷ 0 ∷ []) $ join ! $ move ! (6 ∷ 0 ∷ []) $ join ! $ move ! (4 ∷ 0 ∷ []) $ join ! $ move ! (2 ∷ 0 ∷ []) $ join ! $
+      move ! (1 ∷ 0 ∷ []) $ join ! $ frame ! $
+      nothing ! $ move ! (3 ∷ 0 ∷ []) $ fjoin ! $ move ! (2 ∷ 0 ∷ []) $ fjoin ! $ move ! (1 ∷ 0 ∷ []) $ fjoin ! $ nothing ! $ fjoin ! $ nothing ! $
+      fjoin ! $ nothing ! $ fjoin ! $
       owned ! S.the-row (Is S.the-row) ((EL.makes S.the-type S′.the-plain) 𝓤 H A) r _ is $ move ! (1 ∷ 0 ∷ []) $ done !
 
   -- the calls: what each is passed, and what it asks
@@ -174,7 +176,9 @@ module _ {M : Type 1} (𝓤 : URA M) (H : Heap 𝓤) (A : Atoms 𝓤) (W : Given
   goes-prepare : (ν₁ : ℕ) (δ₁ : GName) (ν₃ : ℕ) (δ₃ : GName) → length ys < 2 ^ 64 → ent 𝓤 (⋆ 𝓤 H A (Preparing ν₁ δ₁ ν₃ δ₃)) (prepare-to 𝓤 H A mem run .pre (to-prepare ν₁ δ₁ ν₃ δ₃))
   goes-prepare ν₁ δ₁ ν₃ δ₃ fits =
       qed W (Preparing ν₁ δ₁ ν₃ δ₃) ∵ nothing ! $ move ! (3 ∷ 0 ∷ []) $ join ! $ move ! (2 ∷ 0 ∷ []) $ join ! $ move ! (1 ∷ 0 ∷ []) $ join ! $
-      nothing ! $ move ! (4 ∷ 0 ∷ []) $ fjoin ! $ owned ! usize (Is usize) (uint-makes 𝓤 H A W w64) (length ys) _ (refl, fits) $ fjoin ! $ move ! (3 ∷ 0 ∷ []) $ fjoin ! $ owned ! u64 (Is u64) (uint-makes 𝓤 H A W w64) bound _ (refl, bound-fits) $ fjoin ! $ move ! (2 ∷ 0 ∷ []) $ fjoin ! $ move ! (1 ∷ 0 ∷ []) $ join ! $ frame ! $ done !
+      nothing ! $ move ! (4 ∷ 0 ∷ []) $ fjoin ! $ owned ! usize (Is usize) (uint-makes 𝓤 H A W w64) (length ys) _ (refl, fits) $ fjoin ! $
+      move ! (3 ∷ 0 ∷ []) $ fjoin ! $ owned ! u64 (Is u64) (uint-makes 𝓤 H A W w64) bound _ (refl, bound-fits) $ fjoin ! $ move ! (2 ∷ 0 ∷ []) $
+      fjoin ! $ move ! (1 ∷ 0 ∷ []) $ join ! $ frame ! $ done !
 
   abbrev to-follow : Ready → List ℕ → List ℕ → ℕ → GName → ℕ → GName → ℕ → GName → follow-to 𝓤 H A mem run .Ghost
   to-follow d xs vs ν₁ δ₁ ν₂ δ₂ ν₃ δ₃ =
@@ -188,37 +192,47 @@ module _ {M : Type 1} (𝓤 : URA M) (H : Heap 𝓤) (A : Atoms 𝓤) (W : Given
   goes-follow : (d : Ready) (xs vs : List ℕ) (ν₁ : ℕ) (δ₁ : GName) (ν₂ : ℕ) (δ₂ : GName) (ν₃ : ℕ) (δ₃ : GName) → IsReady d (Y′.lowered d)
       → ent 𝓤 (⋆ 𝓤 H A (Following xs vs ν₁ δ₁ ν₂ δ₂ ν₃ δ₃)) (follow-to 𝓤 H A mem run .pre (to-follow d xs vs ν₁ δ₁ ν₂ δ₂ ν₃ δ₃))
   goes-follow d xs vs ν₁ δ₁ ν₂ δ₂ ν₃ δ₃ is =
-      qed W (Following xs vs ν₁ δ₁ ν₂ δ₂ ν₃ δ₃) ∵ nothing ! $ move ! (4 ∷ 0 ∷ []) $ join ! $ move ! (3 ∷ 0 ∷ []) $ join ! $ move ! (2 ∷ 0 ∷ []) $ join ! $ move ! (1 ∷ 0 ∷ []) $ join ! $
-      nothing ! $ move ! (5 ∷ 0 ∷ []) $ fjoin ! $ move ! (4 ∷ 0 ∷ []) $ fjoin ! $ move ! (3 ∷ 0 ∷ []) $ fjoin ! $ move ! (2 ∷ 0 ∷ []) $ fjoin ! $ owned ! Y.the-row (Is Y.the-row) ((EL.makes Y.the-type Y′.the-plain) 𝓤 H A) d _ is $ fjoin ! $ move ! (1 ∷ 0 ∷ []) $ join ! $ frame ! $ done !
+      qed W (Following xs vs ν₁ δ₁ ν₂ δ₂ ν₃ δ₃) ∵ nothing ! $ move ! (4 ∷ 0 ∷ []) $ join ! $ move ! (3 ∷ 0 ∷ []) $ join ! $ move ! (2 ∷ 0 ∷ []) $
+      join ! $ move ! (1 ∷ 0 ∷ []) $ join ! $
+      nothing ! $ move ! (5 ∷ 0 ∷ []) $ fjoin ! $ move ! (4 ∷ 0 ∷ []) $ fjoin ! $ move ! (3 ∷ 0 ∷ []) $ fjoin ! $ move ! (2 ∷ 0 ∷ []) $ fjoin ! $
+      owned ! Y.the-row (Is Y.the-row) ((EL.makes Y.the-type Y′.the-plain) 𝓤 H A) d _ is $ fjoin ! $ move ! (1 ∷ 0 ∷ []) $ join ! $ frame ! $ done !
 
   abbrev to-clear-words : List ℕ → ℕ → GName → clear-words-to 𝓤 H A mem run .Ghost
   to-clear-words xs ν δ = (((ν ∷ [], tt), (fullShare, tt), tt, (at-list b₁ o₁ δ xs, tt), (s₁ xs ∷ [], tt)), tt)
 
   goes-clear-words : (xs : List ℕ) (ν : ℕ) (δ : GName) → ent 𝓤 (sep 𝓤 (sem 𝓤 H A (MutSlice (named 2) (ν ∷ []) u32 .own (at-list b₁ o₁ δ xs) (s₁ xs ∷ []))) (A .lft (ν ∷ []) fullShare)) (clear-words-to 𝓤 H A mem run .pre (to-clear-words xs ν δ))
-  goes-clear-words xs ν δ = qed W (‵ (MutSlice (named 2) (ν ∷ []) u32 .own (at-list b₁ o₁ δ xs) (s₁ xs ∷ [])) ∷ ‵ (flft (ν ∷ []) fullShare) ∷ []) ∵ nothing ! $ move ! (2 ∷ 0 ∷ []) $ join ! $ nothing ! $ move ! (2 ∷ 0 ∷ []) $ fjoin ! $ move ! (1 ∷ 0 ∷ []) $ join ! $ frame ! $ done !
+  goes-clear-words xs ν δ = qed W (‵ (MutSlice (named 2) (ν ∷ []) u32 .own (at-list b₁ o₁ δ xs) (s₁ xs ∷ [])) ∷ ‵ (flft (ν ∷ []) fullShare) ∷ []) ∵ nothing ! $
+      move ! (2 ∷ 0 ∷ []) $ join ! $ nothing ! $ move ! (2 ∷ 0 ∷ []) $ fjoin ! $ move ! (1 ∷ 0 ∷ []) $ join ! $ frame ! $ done !
 
   abbrev to-clear-rows : List Row → ℕ → GName → clear-rows-to 𝓤 H A mem run .Ghost
   to-clear-rows xs ν δ = (((ν ∷ [], tt), (fullShare, tt), tt, (at-list b₂ o₂ δ xs, tt), (s₂ xs ∷ [], tt)), tt)
 
   goes-clear-rows : (xs : List Row) (ν : ℕ) (δ : GName) → ent 𝓤 (sep 𝓤 (sem 𝓤 H A (MutSlice (named 3) (ν ∷ []) R.the-row .own (at-list b₂ o₂ δ xs) (s₂ xs ∷ []))) (A .lft (ν ∷ []) fullShare)) (clear-rows-to 𝓤 H A mem run .pre (to-clear-rows xs ν δ))
-  goes-clear-rows xs ν δ = qed W (‵ (MutSlice (named 3) (ν ∷ []) R.the-row .own (at-list b₂ o₂ δ xs) (s₂ xs ∷ [])) ∷ ‵ (flft (ν ∷ []) fullShare) ∷ []) ∵ nothing ! $ move ! (2 ∷ 0 ∷ []) $ join ! $ nothing ! $ move ! (2 ∷ 0 ∷ []) $ fjoin ! $ move ! (1 ∷ 0 ∷ []) $ join ! $ frame ! $ done !
+  goes-clear-rows xs ν δ = qed W (‵ (MutSlice (named 3) (ν ∷ []) R.the-row .own (at-list b₂ o₂ δ xs) (s₂ xs ∷ [])) ∷ ‵ (flft (ν ∷ []) fullShare) ∷ []) ∵ nothing ! $
+      move ! (2 ∷ 0 ∷ []) $ join ! $ nothing ! $ move ! (2 ∷ 0 ∷ []) $ fjoin ! $ move ! (1 ∷ 0 ∷ []) $ join ! $ frame ! $ done !
 
   abbrev to-clear-bytes : List ℕ → ℕ → GName → clear-bytes-to 𝓤 H A mem run .Ghost
   to-clear-bytes xs ν δ = (((ν ∷ [], tt), (fullShare, tt), tt, (at-list b₃ o₃ δ xs, tt), (s₃ xs ∷ [], tt)), tt)
 
   goes-clear-bytes : (xs : List ℕ) (ν : ℕ) (δ : GName) → ent 𝓤 (sep 𝓤 (sem 𝓤 H A (MutSlice (named 4) (ν ∷ []) u8 .own (at-list b₃ o₃ δ xs) (s₃ xs ∷ []))) (A .lft (ν ∷ []) fullShare)) (clear-bytes-to 𝓤 H A mem run .pre (to-clear-bytes xs ν δ))
-  goes-clear-bytes xs ν δ = qed W (‵ (MutSlice (named 4) (ν ∷ []) u8 .own (at-list b₃ o₃ δ xs) (s₃ xs ∷ [])) ∷ ‵ (flft (ν ∷ []) fullShare) ∷ []) ∵ nothing ! $ move ! (2 ∷ 0 ∷ []) $ join ! $ nothing ! $ move ! (2 ∷ 0 ∷ []) $ fjoin ! $ move ! (1 ∷ 0 ∷ []) $ join ! $ frame ! $ done !
+  goes-clear-bytes xs ν δ = qed W (‵ (MutSlice (named 4) (ν ∷ []) u8 .own (at-list b₃ o₃ δ xs) (s₃ xs ∷ [])) ∷ ‵ (flft (ν ∷ []) fullShare) ∷ []) ∵ nothing ! $
+      move ! (2 ∷ 0 ∷ []) $ join ! $ nothing ! $ move ! (2 ∷ 0 ∷ []) $ fjoin ! $ move ! (1 ∷ 0 ∷ []) $ join ! $ frame ! $ done !
 
   walk : (𝓣 : Tables 𝓤 H) → FmC 𝓤 H (W .laws) (𝓣 .C) → Known 𝓤 H A mem run (𝓣 .C) → Room u8 (length fs) → Room u8 (length ps) → Room u32 (length us) → Room R.the-row (length ys) → Room u8 (length ms)
       → ent 𝓤 (onEntry 𝓤 H A f.signature (κ₄, (κ₀, (κ₁, (κ₂, (κ₃, tt))))) (q₄, (q₀, (q₁, (q₂, (q₃, tt))))) a at) (WpFn 𝓤 H (𝓣 .C) (𝓣 .Λ) code.function (s₄ ∷ vint w64 bound ∷ s₀ ∷ s₁ us ∷ s₂ ys ∷ s₃ ms ∷ []) Post)
   walk 𝓣 fm known room₄ room₀ room₁ room₂ room₃ =
       qed W ((‵ (flft κ₄ q₄) ⊛ (‵ (flft κ₀ q₀) ⊛ (‵ (flft κ₁ q₁) ⊛ (‵ (flft κ₂ q₂) ⊛ (‵ (flft κ₃ q₃) ⊛ ‵ ftrue))))) ∷ ‵ (owns (ShrSlice (named 0) κ₄ u8 ∷ u64 ∷ ShrSlice (named 1) κ₀ u8 ∷ MutSlice (named 2) κ₁ u32 ∷ MutSlice (named 3) κ₂ R.the-row ∷ MutSlice (named 4) κ₃ u8 ∷ []) a at) ∷ []) ∵
       split ! $ move ! (1 ∷ []) $ split ! $ move ! (1 ∷ []) $ split ! $ move ! (1 ∷ []) $ split ! $ move ! (1 ∷ []) $ split ! $ move ! (6 ∷ []) $
-      fsplit ! $ move ! (1 ∷ []) $ fsplit ! $ drop ! $ fsplit ! $ move ! (1 ∷ []) $ fsplit ! $ move ! (1 ∷ []) $ fsplit ! $ move ! (1 ∷ []) $ fsplit ! $
+      fsplit ! $ move ! (1 ∷ []) $ fsplit ! $ drop ! $ fsplit ! $ move ! (1 ∷ []) $ fsplit ! $ move ! (1 ∷ []) $ fsplit ! $ move ! (1 ∷ []) $
+      fsplit ! $
       -- [the marks; no other parameter; the rows; the words; the proof; the file; the tokens, the last one first]
       keep ! (5 ∷ 11 ∷ 4 ∷ 10 ∷ 3 ∷ 9 ∷ 2 ∷ 8 ∷ 0 ∷ 6 ∷ []) $
       enter ! (𝓣 .C) (𝓣 .Λ) code.function (s₄ ∷ vint w64 bound ∷ s₀ ∷ s₁ us ∷ s₂ ys ∷ s₃ ms ∷ []) _ $ allocs-all ! body.locals (λ ls. params1 ! $
-      pass1 ! (init ! 50 refl (tt, (tt, (record { fits = room₄ .0 }, tt)))) $ pass1 ! (init ! 48 refl (tt, record { fits = bound-fits })) $ pass1 ! (init ! 46 refl (tt, (tt, (record { fits = room₀ .0 }, tt)))) $ pass1 ! (init ! 44 refl (tt, (tt, (record { fits = room₁ .0 }, tt)))) $ pass1 ! (init ! 42 refl (tt, (tt, (record { fits = room₂ .0 }, tt)))) $ pass1 ! (init ! 40 refl (tt, (tt, (record { fits = room₃ .0 }, tt)))) $ pass0 ! $
+      pass1 ! (init ! 50 refl (tt, (tt, (record { fits = room₄ .0 }, tt)))) $ pass1 ! (init ! 48 refl (tt, record { fits = bound-fits })) $
+      pass1 ! (init ! 46 refl (tt, (tt, (record { fits = room₀ .0 }, tt)))) $
+      pass1 ! (init ! 44 refl (tt, (tt, (record { fits = room₁ .0 }, tt)))) $
+      pass1 ! (init ! 42 refl (tt, (tt, (record { fits = room₂ .0 }, tt)))) $
+      pass1 ! (init ! 40 refl (tt, (tt, (record { fits = room₃ .0 }, tt)))) $ pass0 ! $
       -- what is ready
       fills ! 34 (addr ! (from ! (fld ! refl (hop ! (look-in ! 44 (sub ! 0 refl (whole !))) (stop !))))) refl (tt, tt) $
       fills ! 32 (agg ! (and-then ! (var ! 34 refl) (and-then ! (part ! 44 refl (sub ! 1 refl (whole !))) (no-more !)))) refl (tt, (tt, (record { fits = room₁ .0 }, tt))) $
@@ -227,14 +241,19 @@ module _ {M : Type 1} (𝓤 : URA M) (H : Heap 𝓤) (A : Atoms 𝓤) (W : Given
       fills ! 26 (agg ! (and-then ! (var ! 28 refl) (and-then ! (part ! 40 refl (sub ! 1 refl (whole !))) (no-more !)))) refl (tt, (tt, (record { fits = room₃ .0 }, tt))) $
       move ! (58 ∷ 59 ∷ []) $ lent u32 κ₁ q₁ γ₁ b₁ o₁ ! tt (named 2) us (λ ν₁ δ₁.
       move ! (63 ∷ 64 ∷ []) $ lent u8 κ₃ q₃ γ₃ b₃ o₃ ! tt (named 4) ms (λ ν₃ δ₃.
-      move ! (61 ∷ 4 ∷ 1 ∷ 60 ∷ 3 ∷ 0 ∷ []) $ cut (Preparing ν₁ δ₁ ν₃ δ₃) (raw (prepare-to 𝓤 H A mem run .pre (to-prepare ν₁ δ₁ ν₃ δ₃)) ∷ []) _ (goes-prepare ν₁ δ₁ ν₃ δ₃ (room₂ .0)) $
+      move ! (61 ∷ 4 ∷ 1 ∷ 60 ∷ 3 ∷ 0 ∷ []) $
+      cut (Preparing ν₁ δ₁ ν₃ δ₃) (raw (prepare-to 𝓤 H A mem run .pre (to-prepare ν₁ δ₁ ν₃ δ₃)) ∷ []) _ (goes-prepare ν₁ δ₁ ν₃ δ₃ (room₂ .0)) $
       calls-to prepare.ended (prepare.clauses 𝓤 H A mem run) (to-prepare ν₁ δ₁ ν₃ δ₃) (λ r ws. Prepared fs bound (stores (length us) (length ys) (length ms)) (ws .1 .1 .0) r × (ws .1 .1 .1 .1 .0 ≡ replicate (length ms) 0)) (λ r ws. both-said 𝓤 _ _) Y′.lowered ready-same ! fm (known .prepare)
       (and-then ! (var ! 53 refl) (and-then ! (var ! 51 refl) (and-then ! (var ! 35 refl) (and-then ! (var ! 33 refl) (and-then ! (var ! 29 refl) (no-more !)))))) (λ d ws prepared is-d.
-      use1 W (‵ (flft κ₄ q₄) ⊛ (‵ (flft (ν₁ ∷ []) fullShare) ⊛ (‵ (flft (ν₃ ∷ []) fullShare) ⊛ ‵ ftrue))) (id⊢ 𝓤 _) $ split ! $ move ! (1 ∷ []) $ split ! $ move ! (1 ∷ []) $ split ! $ move ! (1 ∷ []) $ drop ! $ move ! (3 ∷ []) $
-      fsplit ! $ drop ! $ fsplit ! $ drop ! $ fsplit ! $ fsplit ! $ move ! (1 ∷ []) $ feqL ! (λ k₁. move ! (1 ∷ []) $ fsplit ! $ drop ! $ fsplit ! $ fsplit ! $ move ! (1 ∷ []) $ feqL ! (λ k₃. move ! (1 ∷ []) $ drop ! $
-      move ! (2 ∷ 5 ∷ 0 ∷ []) $ back u8 κ₃ q₃ γ₃ b₃ o₃ ! tt (named 4) ms δ₃ (ws .1 .1 .1 .1 .0) k₃ $ move ! (3 ∷ 5 ∷ 2 ∷ []) $ back u32 κ₁ q₁ γ₁ b₁ o₁ ! tt (named 2) us δ₁ (ws .1 .1 .0) k₁ $
+      use1 W (‵ (flft κ₄ q₄) ⊛ (‵ (flft (ν₁ ∷ []) fullShare) ⊛ (‵ (flft (ν₃ ∷ []) fullShare) ⊛ ‵ ftrue))) (id⊢ 𝓤 _) $ split ! $ move ! (1 ∷ []) $
+      split ! $ move ! (1 ∷ []) $ split ! $ move ! (1 ∷ []) $ drop ! $ move ! (3 ∷ []) $
+      fsplit ! $ drop ! $ fsplit ! $ drop ! $ fsplit ! $ fsplit ! $ move ! (1 ∷ []) $ feqL ! (λ k₁. move ! (1 ∷ []) $ fsplit ! $ drop ! $ fsplit ! $
+      fsplit ! $ move ! (1 ∷ []) $ feqL ! (λ k₃. move ! (1 ∷ []) $ drop ! $
+      move ! (2 ∷ 5 ∷ 0 ∷ []) $ back u8 κ₃ q₃ γ₃ b₃ o₃ ! tt (named 4) ms δ₃ (ws .1 .1 .1 .1 .0) k₃ $ move ! (3 ∷ 5 ∷ 2 ∷ []) $
+      back u32 κ₁ q₁ γ₁ b₁ o₁ ! tt (named 2) us δ₁ (ws .1 .1 .0) k₁ $
       land ! (from ! (stop !)) (init ! 43 refl (ready-typed W d _ is-d)) $ rotate ! 5 $
-      rewrite ! 44 (λ (k : ℕ). ‵ (fat fullShare (ty 4) (l ls 4) 0 (sliceVal (b₁, o₁) k))) (sym k₁) refl $ rewrite ! 40 (λ (k : ℕ). ‵ (fat fullShare (ty 6) (l ls 6) 0 (sliceVal (b₃, o₃) k))) (sym k₃) refl $
+      rewrite ! 44 (λ (k : ℕ). ‵ (fat fullShare (ty 4) (l ls 4) 0 (sliceVal (b₁, o₁) k))) (sym k₁) refl $
+      rewrite ! 40 (λ (k : ℕ). ‵ (fat fullShare (ty 6) (l ls 6) 0 (sliceVal (b₃, o₃) k))) (sym k₃) refl $
       -- it is followed
       fills ! 24 (addr ! (from ! (fld ! refl (hop ! (look-in ! 44 (sub ! 0 refl (whole !))) (stop !))))) refl (tt, tt) $
       fills ! 22 (agg ! (and-then ! (var ! 24 refl) (and-then ! (part ! 44 refl (sub ! 1 refl (whole !))) (no-more !)))) refl (tt, (tt, (record { fits = omega (arith, room₁ .0, k₁) }, tt))) $
@@ -245,22 +264,29 @@ module _ {M : Type 1} (𝓤 : URA M) (H : Heap 𝓤) (A : Atoms 𝓤) (W : Given
       move ! (58 ∷ 59 ∷ []) $ lent u32 κ₁ q₁ γ₁ b₁ o₁ ! tt (named 2) (ws .1 .1 .0) (λ μ₁ ε₁.
       move ! (59 ∷ 60 ∷ []) $ lent R.the-row κ₂ q₂ γ₂ b₂ o₂ ! tt (named 3) ys (λ μ₂ ε₂.
       move ! (62 ∷ 63 ∷ []) $ lent u8 κ₃ q₃ γ₃ b₃ o₃ ! tt (named 4) (ws .1 .1 .1 .1 .0) (λ μ₃ ε₃.
-      move ! (64 ∷ 7 ∷ 4 ∷ 1 ∷ 63 ∷ 6 ∷ 3 ∷ 0 ∷ []) $ cut (Following (ws .1 .1 .0) (ws .1 .1 .1 .1 .0) μ₁ ε₁ μ₂ ε₂ μ₃ ε₃) (raw (follow-to 𝓤 H A mem run .pre (to-follow d (ws .1 .1 .0) (ws .1 .1 .1 .1 .0) μ₁ ε₁ μ₂ ε₂ μ₃ ε₃)) ∷ []) _ (goes-follow d (ws .1 .1 .0) (ws .1 .1 .1 .1 .0) μ₁ ε₁ μ₂ ε₂ μ₃ ε₃ is-d) $
+      move ! (64 ∷ 7 ∷ 4 ∷ 1 ∷ 63 ∷ 6 ∷ 3 ∷ 0 ∷ []) $
+      cut (Following (ws .1 .1 .0) (ws .1 .1 .1 .1 .0) μ₁ ε₁ μ₂ ε₂ μ₃ ε₃) (raw (follow-to 𝓤 H A mem run .pre (to-follow d (ws .1 .1 .0) (ws .1 .1 .1 .1 .0) μ₁ ε₁ μ₂ ε₂ μ₃ ε₃)) ∷ []) _ (goes-follow d (ws .1 .1 .0) (ws .1 .1 .1 .1 .0) μ₁ ε₁ μ₂ ε₂ μ₃ ε₃ is-d) $
       calls-to follow.ended (follow.clauses 𝓤 H A mem run) (to-follow d (ws .1 .1 .0) (ws .1 .1 .1 .1 .0) μ₁ ε₁ μ₂ ε₂ μ₃ ε₃) (λ r ws′. Follows ps (ws .1 .1 .0) (length ys) (ws .1 .1 .1 .1 .0) d r) (λ r ws′. id⊢ 𝓤 _) S′.lowered answer-same ! fm (known .follow)
       (and-then ! (var ! 42 refl) (and-then ! (var ! 50 refl) (and-then ! (var ! 26 refl) (and-then ! (var ! 22 refl) (and-then ! (var ! 18 refl) (no-more !)))))) (λ r ws′ followed is-r.
-      use1 W (‵ (flft κ₀ q₀) ⊛ (‵ (flft (μ₁ ∷ []) fullShare) ⊛ (‵ (flft (μ₂ ∷ []) fullShare) ⊛ (‵ (flft (μ₃ ∷ []) fullShare) ⊛ ‵ ftrue)))) (id⊢ 𝓤 _) $ split ! $ move ! (1 ∷ []) $ split ! $ move ! (1 ∷ []) $ split ! $ move ! (1 ∷ []) $ split ! $ move ! (1 ∷ []) $ drop ! $ move ! (4 ∷ []) $
-      fsplit ! $ drop ! $ fsplit ! $ drop ! $ fsplit ! $ fsplit ! $ move ! (1 ∷ []) $ feqL ! (λ k₁′. move ! (1 ∷ []) $ fsplit ! $ fsplit ! $ move ! (1 ∷ []) $ feqL ! (λ k₂′. move ! (1 ∷ []) $ fsplit ! $ fsplit ! $ move ! (1 ∷ []) $ feqL ! (λ k₃′. move ! (1 ∷ []) $ drop ! $
-      move ! (3 ∷ 7 ∷ 0 ∷ []) $ back u8 κ₃ q₃ γ₃ b₃ o₃ ! tt (named 4) (ws .1 .1 .1 .1 .0) ε₃ (ws′ .1 .1 .1 .1 .0) k₃′ $ move ! (4 ∷ 7 ∷ 2 ∷ []) $ back R.the-row κ₂ q₂ γ₂ b₂ o₂ ! tt (named 3) ys ε₂ (ws′ .1 .1 .1 .0) k₂′ $
+      use1 W (‵ (flft κ₀ q₀) ⊛ (‵ (flft (μ₁ ∷ []) fullShare) ⊛ (‵ (flft (μ₂ ∷ []) fullShare) ⊛ (‵ (flft (μ₃ ∷ []) fullShare) ⊛ ‵ ftrue)))) (id⊢ 𝓤 _) $
+      split ! $ move ! (1 ∷ []) $ split ! $ move ! (1 ∷ []) $ split ! $ move ! (1 ∷ []) $ split ! $ move ! (1 ∷ []) $ drop ! $ move ! (4 ∷ []) $
+      fsplit ! $ drop ! $ fsplit ! $ drop ! $ fsplit ! $ fsplit ! $ move ! (1 ∷ []) $ feqL ! (λ k₁′. move ! (1 ∷ []) $ fsplit ! $ fsplit ! $
+      move ! (1 ∷ []) $ feqL ! (λ k₂′. move ! (1 ∷ []) $ fsplit ! $ fsplit ! $ move ! (1 ∷ []) $ feqL ! (λ k₃′. move ! (1 ∷ []) $ drop ! $
+      move ! (3 ∷ 7 ∷ 0 ∷ []) $ back u8 κ₃ q₃ γ₃ b₃ o₃ ! tt (named 4) (ws .1 .1 .1 .1 .0) ε₃ (ws′ .1 .1 .1 .1 .0) k₃′ $ move ! (4 ∷ 7 ∷ 2 ∷ []) $
+      back R.the-row κ₂ q₂ γ₂ b₂ o₂ ! tt (named 3) ys ε₂ (ws′ .1 .1 .1 .0) k₂′ $
       move ! (5 ∷ 7 ∷ 4 ∷ []) $ back u32 κ₁ q₁ γ₁ b₁ o₁ ! tt (named 2) (ws .1 .1 .0) ε₁ (ws′ .1 .1 .0) k₁′ $
       land ! (from ! (stop !)) (init ! 43 refl (answer-typed W r _ is-r)) $ rotate ! 7 $
-      rewrite ! 44 (λ (k : ℕ). ‵ (fat fullShare (ty 4) (l ls 4) 0 (sliceVal (b₁, o₁) k))) (sym k₁′) refl $ rewrite ! 42 (λ (k : ℕ). ‵ (fat fullShare (ty 5) (l ls 5) 0 (sliceVal (b₂, o₂) k))) (sym k₂′) refl $ rewrite ! 40 (λ (k : ℕ). ‵ (fat fullShare (ty 6) (l ls 6) 0 (sliceVal (b₃, o₃) k))) (sym k₃′) refl $
+      rewrite ! 44 (λ (k : ℕ). ‵ (fat fullShare (ty 4) (l ls 4) 0 (sliceVal (b₁, o₁) k))) (sym k₁′) refl $
+      rewrite ! 42 (λ (k : ℕ). ‵ (fat fullShare (ty 5) (l ls 5) 0 (sliceVal (b₂, o₂) k))) (sym k₂′) refl $
+      rewrite ! 40 (λ (k : ℕ). ‵ (fat fullShare (ty 6) (l ls 6) 0 (sliceVal (b₃, o₃) k))) (sym k₃′) refl $
       -- the stores are cleared
       fills ! 10 (addr ! (from ! (fld ! refl (hop ! (look-in ! 44 (sub ! 0 refl (whole !))) (stop !))))) refl (tt, tt) $
       fills ! 8 (agg ! (and-then ! (var ! 10 refl) (and-then ! (part ! 44 refl (sub ! 1 refl (whole !))) (no-more !)))) refl (tt, (tt, (record { fits = omega (arith, room₁ .0, k₁, k₁′) }, tt))) $
       move ! (55 ∷ 56 ∷ []) $ lent u32 κ₁ q₁ γ₁ b₁ o₁ ! tt (named 2) (ws′ .1 .1 .0) (λ ρ₁ ζ₁.
       use2 W (raw (clear-words-to 𝓤 H A mem run .pre (to-clear-words (ws′ .1 .1 .0) ρ₁ ζ₁))) (goes-clear-words (ws′ .1 .1 .0) ρ₁ ζ₁) $
       calls-to clear-words.ended (clear-words.clauses 𝓤 H A mem run) (to-clear-words (ws′ .1 .1 .0) ρ₁ ζ₁) (λ r ws. ws .0 ≡ replicate (length (ws′ .1 .1 .0)) 0) (λ r ws. id⊢ 𝓤 _) (λ _. vunit) unit-same ! fm (known .clear-words) (and-then ! (var ! 10 refl) (no-more !)) (λ unit-1 vs₁ z₁ is-1.
-      use1 W (‵ (flft (ρ₁ ∷ []) fullShare) ⊛ ‵ ftrue) (id⊢ 𝓤 _) $ split ! $ move ! (1 ∷ []) $ drop ! $ move ! (1 ∷ []) $ fsplit ! $ fsplit ! $ move ! (1 ∷ []) $ feqL ! (λ c₁.
+      use1 W (‵ (flft (ρ₁ ∷ []) fullShare) ⊛ ‵ ftrue) (id⊢ 𝓤 _) $ split ! $ move ! (1 ∷ []) $ drop ! $ move ! (1 ∷ []) $ fsplit ! $ fsplit ! $
+      move ! (1 ∷ []) $ feqL ! (λ c₁.
       move ! (1 ∷ []) $ drop ! $ move ! (1 ∷ 2 ∷ 0 ∷ []) $ back u32 κ₁ q₁ γ₁ b₁ o₁ ! tt (named 2) (ws′ .1 .1 .0) ζ₁ (vs₁ .0) c₁ $
       land ! (from ! (stop !)) (init ! 14 refl (tt, tt)) $ rotate ! 2 $ forget ! 12 refl $
       fills ! 6 (addr ! (from ! (fld ! refl (hop ! (look-in ! 42 (sub ! 0 refl (whole !))) (stop !))))) refl (tt, tt) $
@@ -268,7 +294,8 @@ module _ {M : Type 1} (𝓤 : URA M) (H : Heap 𝓤) (A : Atoms 𝓤) (W : Given
       move ! (55 ∷ 56 ∷ []) $ lent R.the-row κ₂ q₂ γ₂ b₂ o₂ ! tt (named 3) (ws′ .1 .1 .1 .0) (λ ρ₂ ζ₂.
       use2 W (raw (clear-rows-to 𝓤 H A mem run .pre (to-clear-rows (ws′ .1 .1 .1 .0) ρ₂ ζ₂))) (goes-clear-rows (ws′ .1 .1 .1 .0) ρ₂ ζ₂) $
       calls-to clear-rows.ended (clear-rows.clauses 𝓤 H A mem run) (to-clear-rows (ws′ .1 .1 .1 .0) ρ₂ ζ₂) (λ r ws. ws .0 ≡ replicate (length (ws′ .1 .1 .1 .0)) noRow) (λ r ws. id⊢ 𝓤 _) (λ _. vunit) unit-same ! fm (known .clear-rows) (and-then ! (var ! 6 refl) (no-more !)) (λ unit-2 vs₂ z₂ is-2.
-      use1 W (‵ (flft (ρ₂ ∷ []) fullShare) ⊛ ‵ ftrue) (id⊢ 𝓤 _) $ split ! $ move ! (1 ∷ []) $ drop ! $ move ! (1 ∷ []) $ fsplit ! $ fsplit ! $ move ! (1 ∷ []) $ feqL ! (λ c₂.
+      use1 W (‵ (flft (ρ₂ ∷ []) fullShare) ⊛ ‵ ftrue) (id⊢ 𝓤 _) $ split ! $ move ! (1 ∷ []) $ drop ! $ move ! (1 ∷ []) $ fsplit ! $ fsplit ! $
+      move ! (1 ∷ []) $ feqL ! (λ c₂.
       move ! (1 ∷ []) $ drop ! $ move ! (1 ∷ 2 ∷ 0 ∷ []) $ back R.the-row κ₂ q₂ γ₂ b₂ o₂ ! tt (named 3) (ws′ .1 .1 .1 .0) ζ₂ (vs₂ .0) c₂ $
       land ! (from ! (stop !)) (init ! 14 refl (tt, tt)) $ rotate ! 2 $ forget ! 12 refl $
       fills ! 2 (addr ! (from ! (fld ! refl (hop ! (look-in ! 40 (sub ! 0 refl (whole !))) (stop !))))) refl (tt, tt) $
@@ -276,7 +303,8 @@ module _ {M : Type 1} (𝓤 : URA M) (H : Heap 𝓤) (A : Atoms 𝓤) (W : Given
       move ! (55 ∷ 56 ∷ []) $ lent u8 κ₃ q₃ γ₃ b₃ o₃ ! tt (named 4) (ws′ .1 .1 .1 .1 .0) (λ ρ₃ ζ₃.
       use2 W (raw (clear-bytes-to 𝓤 H A mem run .pre (to-clear-bytes (ws′ .1 .1 .1 .1 .0) ρ₃ ζ₃))) (goes-clear-bytes (ws′ .1 .1 .1 .1 .0) ρ₃ ζ₃) $
       calls-to clear-bytes.ended (clear-bytes.clauses 𝓤 H A mem run) (to-clear-bytes (ws′ .1 .1 .1 .1 .0) ρ₃ ζ₃) (λ r ws. ws .0 ≡ replicate (length (ws′ .1 .1 .1 .1 .0)) 0) (λ r ws. id⊢ 𝓤 _) (λ _. vunit) unit-same ! fm (known .clear-bytes) (and-then ! (var ! 2 refl) (no-more !)) (λ unit-3 vs₃ z₃ is-3.
-      use1 W (‵ (flft (ρ₃ ∷ []) fullShare) ⊛ ‵ ftrue) (id⊢ 𝓤 _) $ split ! $ move ! (1 ∷ []) $ drop ! $ move ! (1 ∷ []) $ fsplit ! $ fsplit ! $ move ! (1 ∷ []) $ feqL ! (λ c₃.
+      use1 W (‵ (flft (ρ₃ ∷ []) fullShare) ⊛ ‵ ftrue) (id⊢ 𝓤 _) $ split ! $ move ! (1 ∷ []) $ drop ! $ move ! (1 ∷ []) $ fsplit ! $ fsplit ! $
+      move ! (1 ∷ []) $ feqL ! (λ c₃.
       move ! (1 ∷ []) $ drop ! $ move ! (1 ∷ 2 ∷ 0 ∷ []) $ back u8 κ₃ q₃ γ₃ b₃ o₃ ! tt (named 4) (ws′ .1 .1 .1 .1 .0) ζ₃ (vs₃ .0) c₃ $
       land ! (from ! (stop !)) (init ! 14 refl (tt, tt)) $ rotate ! 2 $
       fills ! 52 (of-opd ! (var ! 36 refl)) refl (answer-typed W r _ is-r) $ returns ! (look ! 52 refl) $

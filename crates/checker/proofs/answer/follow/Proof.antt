@@ -159,12 +159,15 @@ module _ {M : Type 1} (𝓤 : URA M) (H : Heap 𝓤) (A : Atoms 𝓤) (W : Given
       → ent 𝓤 (⋆ 𝓤 H A (Had xs zs vs)) (Post d (S′.lowered r))
   exits d r is xs zs vs e₁ e₂ e₃ z =
       qed W (Had xs zs vs) ∵
-      suffices ! _ (ends-at 𝓤 H A f.ended stayed (f.clauses 𝓤 H A mem run) W (((κ₀, (κ₁, (κ₂, (κ₃, tt)))), (q₀, (q₁, (q₂, (q₃, tt)))), tt, a d, at d), tt) (S′.lowered r) r (tt, (tt, (xs, (zs, (vs, tt))))) (tt, (tt, (e₁, (e₂, (e₃, tt)))))) $ says ! z $
+      suffices ! _ (ends-at 𝓤 H A f.ended stayed (f.clauses 𝓤 H A mem run) W (((κ₀, (κ₁, (κ₂, (κ₃, tt)))), (q₀, (q₁, (q₂, (q₃, tt)))), tt, a d, at d), tt) (S′.lowered r) r (tt, (tt, (xs, (zs, (vs, tt))))) (tt, (tt, (e₁, (e₂, (e₃, tt)))))) $
+      says ! z $
       rewrite ! 1 (λ (k : ℕ). ‵ (MutSlice (named 1) κ₁ u32 .own (at-list b₁ o₁ γ₁ xs) (sliceVal (b₁, o₁) k ∷ []))) e₁ refl $
       rewrite ! 3 (λ (k : ℕ). ‵ (MutSlice (named 2) κ₂ R.the-row .own (at-list b₂ o₂ γ₂ zs) (sliceVal (b₂, o₂) k ∷ []))) e₂ refl $
       rewrite ! 5 (λ (k : ℕ). ‵ (MutSlice (named 3) κ₃ u8 .own (at-list b₃ o₃ γ₃ vs) (sliceVal (b₃, o₃) k ∷ []))) e₃ refl $
-      nothing ! $ move ! (7 ∷ 0 ∷ []) $ join ! $ move ! (5 ∷ 0 ∷ []) $ join ! $ move ! (3 ∷ 0 ∷ []) $ join ! $ move ! (1 ∷ 0 ∷ []) $ join ! $ frame ! $
-      nothing ! $ move ! (3 ∷ 0 ∷ []) $ fjoin ! $ move ! (2 ∷ 0 ∷ []) $ fjoin ! $ move ! (1 ∷ 0 ∷ []) $ fjoin ! $ nothing ! $ fjoin ! $ nothing ! $ fjoin ! $
+      nothing ! $ move ! (7 ∷ 0 ∷ []) $ join ! $ move ! (5 ∷ 0 ∷ []) $ join ! $ move ! (3 ∷ 0 ∷ []) $ join ! $ move ! (1 ∷ 0 ∷ []) $ join ! $
+      frame ! $
+      nothing ! $ move ! (3 ∷ 0 ∷ []) $ fjoin ! $ move ! (2 ∷ 0 ∷ []) $ fjoin ! $ move ! (1 ∷ 0 ∷ []) $ fjoin ! $ nothing ! $ fjoin ! $ nothing ! $
+      fjoin ! $
       owned ! S.the-row (Is S.the-row) ((EL.makes S.the-type S′.the-plain) 𝓤 H A) r _ is $ move ! (1 ∷ 0 ∷ []) $ done !
 
   -- the calls: what each is passed, and what it asks
@@ -177,7 +180,8 @@ module _ {M : Type 1} (𝓤 : URA M) (H : Heap 𝓤) (A : Atoms 𝓤) (W : Given
   goes-build : (used ν₁ : ℕ) (δ₁ : GName) (ν₂ : ℕ) (δ₂ : GName) → used < 2 ^ 64 → ent 𝓤 (⋆ 𝓤 H A (Building ν₁ δ₁ ν₂ δ₂)) (build-to 𝓤 H A mem run .pre (to-build used ν₁ δ₁ ν₂ δ₂))
   goes-build used ν₁ δ₁ ν₂ δ₂ fits =
       qed W (Building ν₁ δ₁ ν₂ δ₂) ∵ nothing ! $ move ! (2 ∷ 0 ∷ []) $ join ! $ move ! (1 ∷ 0 ∷ []) $ join ! $
-      nothing ! $ owned ! usize (Is usize) (uint-makes 𝓤 H A W w64) used _ (refl, fits) $ fjoin ! $ move ! (3 ∷ 0 ∷ []) $ fjoin ! $ move ! (2 ∷ 0 ∷ []) $ fjoin ! $ move ! (1 ∷ 0 ∷ []) $ join ! $ frame ! $ done !
+      nothing ! $ owned ! usize (Is usize) (uint-makes 𝓤 H A W w64) used _ (refl, fits) $ fjoin ! $ move ! (3 ∷ 0 ∷ []) $ fjoin ! $
+      move ! (2 ∷ 0 ∷ []) $ fjoin ! $ move ! (1 ∷ 0 ∷ []) $ join ! $ frame ! $ done !
 
   abbrev to-drive : List ℕ → List Row → ℕ → ℕ → ℕ → ℕ → GName → ℕ → GName → ℕ → GName → drive-to 𝓤 H A mem run .Ghost
   to-drive xs zs last n used ν₁ δ₁ ν₂ δ₂ ν₃ δ₃ = (
@@ -199,9 +203,13 @@ module _ {M : Type 1} (𝓤 : URA M) (H : Heap 𝓤) (A : Atoms 𝓤) (W : Given
   goes-drive : (xs : List ℕ) (zs : List Row) (last n used ν₁ : ℕ) (δ₁ : GName) (ν₂ : ℕ) (δ₂ : GName) (ν₃ : ℕ) (δ₃ : GName) → last < 2 ^ 64 → n < 2 ^ 64 → used < 2 ^ 64
       → ent 𝓤 (⋆ 𝓤 H A (Driving xs zs ν₁ δ₁ ν₂ δ₂ ν₃ δ₃)) (drive-to 𝓤 H A mem run .pre (to-drive xs zs last n used ν₁ δ₁ ν₂ δ₂ ν₃ δ₃))
   goes-drive xs zs last n used ν₁ δ₁ ν₂ δ₂ ν₃ δ₃ last-fits n-fits used-fits =
-      qed W (Driving xs zs ν₁ δ₁ ν₂ δ₂ ν₃ δ₃) ∵ nothing ! $ move ! (4 ∷ 0 ∷ []) $ join ! $ move ! (3 ∷ 0 ∷ []) $ join ! $ move ! (2 ∷ 0 ∷ []) $ join ! $ move ! (1 ∷ 0 ∷ []) $ join ! $
-      nothing ! $ owned ! usize (Is usize) (uint-makes 𝓤 H A W w64) used _ (refl, used-fits) $ fjoin ! $ owned ! usize (Is usize) (uint-makes 𝓤 H A W w64) n _ (refl, n-fits) $ fjoin ! $ owned ! usize (Is usize) (uint-makes 𝓤 H A W w64) last _ (refl, last-fits) $ fjoin ! $
-      move ! (5 ∷ 0 ∷ []) $ fjoin ! $ move ! (4 ∷ 0 ∷ []) $ fjoin ! $ move ! (3 ∷ 0 ∷ []) $ fjoin ! $ move ! (2 ∷ 0 ∷ []) $ fjoin ! $ move ! (1 ∷ 0 ∷ []) $ join ! $ frame ! $ done !
+      qed W (Driving xs zs ν₁ δ₁ ν₂ δ₂ ν₃ δ₃) ∵ nothing ! $ move ! (4 ∷ 0 ∷ []) $ join ! $ move ! (3 ∷ 0 ∷ []) $ join ! $ move ! (2 ∷ 0 ∷ []) $
+      join ! $ move ! (1 ∷ 0 ∷ []) $ join ! $
+      nothing ! $ owned ! usize (Is usize) (uint-makes 𝓤 H A W w64) used _ (refl, used-fits) $ fjoin ! $
+      owned ! usize (Is usize) (uint-makes 𝓤 H A W w64) n _ (refl, n-fits) $ fjoin ! $
+      owned ! usize (Is usize) (uint-makes 𝓤 H A W w64) last _ (refl, last-fits) $ fjoin ! $
+      move ! (5 ∷ 0 ∷ []) $ fjoin ! $ move ! (4 ∷ 0 ∷ []) $ fjoin ! $ move ! (3 ∷ 0 ∷ []) $ fjoin ! $ move ! (2 ∷ 0 ∷ []) $ fjoin ! $
+      move ! (1 ∷ 0 ∷ []) $ join ! $ frame ! $ done !
 
   module _ (𝓣 : Tables 𝓤 H) (fm : FmC 𝓤 H (W .laws) (𝓣 .C)) (known : Known 𝓤 H A mem run (𝓣 .C)) (room₁ : Room u32 (length us)) (room₂ : Room R.the-row (length ys)) (room₃ : Room u8 (length ms)) (ls : Addrs body.locals) where
     abbrev C : Calls 𝓤 H
@@ -224,7 +232,8 @@ module _ {M : Type 1} (𝓤 : URA M) (H : Heap 𝓤) (A : Atoms 𝓤) (W : Given
     matched (Ready.Formula used last) is =
         let used-fits : used < 2 ^ 64 = EL.owed Y.the-type Y′.the-laws (Ready.Formula used last) _ is .0 .1 in
         let last-fits : last < 2 ^ 64 = EL.owed Y.the-type Y′.the-laws (Ready.Formula used last) _ is .1 .0 .1 in
-        switches-on ! (load ! (from ! (vrt ! refl (fld ! refl (stop !)))) (look-tag ! 38 (whole !))) $ exec ! C Λ En on-formula (Then (Ready.Formula used last)) $
+        switches-on ! (load ! (from ! (vrt ! refl (fld ! refl (stop !)))) (look-tag ! 38 (whole !))) $
+        exec ! C Λ En on-formula (Then (Ready.Formula used last)) $
         fills ! 28 (of-opd ! (load ! (from ! (vrt ! refl (fld ! refl (stop !)))) (look-in ! 38 (in-variant ! 0 0 refl refl (whole !))))) refl (tt, record { fits = used-fits }) $
         fills ! 26 (of-opd ! (load ! (from ! (vrt ! refl (fld ! refl (stop !)))) (look-in ! 38 (in-variant ! 0 1 refl refl (whole !))))) refl (tt, record { fits = last-fits }) $
         fills ! 18 (addr ! (from ! (fld ! refl (hop ! (look-in ! 34 (sub ! 0 refl (whole !))) (stop !))))) refl (tt, tt) $
@@ -233,13 +242,18 @@ module _ {M : Type 1} (𝓤 : URA M) (H : Heap 𝓤) (A : Atoms 𝓤) (W : Given
         fills ! 12 (agg ! (and-then ! (var ! 14 refl) (and-then ! (part ! 32 refl (sub ! 1 refl (whole !))) (no-more !)))) refl (tt, (tt, (record { fits = room₂ .0 }, tt))) $
         move ! (44 ∷ 45 ∷ []) $ lent u32 κ₁ q₁ γ₁ b₁ o₁ ! tt (named 1) us (λ ν₁ δ₁.
         move ! (47 ∷ 48 ∷ []) $ lent R.the-row κ₂ q₂ γ₂ b₂ o₂ ! tt (named 2) ys (λ ν₂ δ₂.
-        move ! (4 ∷ 1 ∷ 3 ∷ 0 ∷ []) $ cut (Building ν₁ δ₁ ν₂ δ₂) (raw (build-to 𝓤 H A mem run .pre (to-build used ν₁ δ₁ ν₂ δ₂)) ∷ []) _ (goes-build used ν₁ δ₁ ν₂ δ₂ used-fits) $
+        move ! (4 ∷ 1 ∷ 3 ∷ 0 ∷ []) $
+        cut (Building ν₁ δ₁ ν₂ δ₂) (raw (build-to 𝓤 H A mem run .pre (to-build used ν₁ δ₁ ν₂ δ₂)) ∷ []) _ (goes-build used ν₁ δ₁ ν₂ δ₂ used-fits) $
         calls-to build.ended (build.clauses 𝓤 H A mem run) (to-build used ν₁ δ₁ ν₂ δ₂) (λ r ws. Built us (ws .0) (length ys) (rowsOf (ws .1 .0)) used r) (λ r ws. id⊢ 𝓤 _) (vint w64) (uint-same w64) ! fm (known .build) (and-then ! (var ! 19 refl) (and-then ! (var ! 15 refl) (and-then ! (var ! 31 refl) (no-more !)))) (λ n ws built is-n.
-        use1 W (‵ (flft (ν₁ ∷ []) fullShare) ⊛ (‵ (flft (ν₂ ∷ []) fullShare) ⊛ ‵ ftrue)) (id⊢ 𝓤 _) $ split ! $ move ! (1 ∷ []) $ split ! $ move ! (1 ∷ []) $ drop ! $ move ! (2 ∷ []) $
-        fsplit ! $ fsplit ! $ move ! (1 ∷ []) $ feqL ! (λ kept-us. move ! (1 ∷ []) $ fsplit ! $ fsplit ! $ move ! (1 ∷ []) $ feqL ! (λ kept-ys. move ! (1 ∷ []) $ drop ! $
-        move ! (2 ∷ 4 ∷ 0 ∷ []) $ back R.the-row κ₂ q₂ γ₂ b₂ o₂ ! tt (named 2) ys δ₂ (ws .1 .0) kept-ys $ move ! (3 ∷ 4 ∷ 2 ∷ []) $ back u32 κ₁ q₁ γ₁ b₁ o₁ ! tt (named 1) us δ₁ (ws .0) kept-us $
+        use1 W (‵ (flft (ν₁ ∷ []) fullShare) ⊛ (‵ (flft (ν₂ ∷ []) fullShare) ⊛ ‵ ftrue)) (id⊢ 𝓤 _) $ split ! $ move ! (1 ∷ []) $ split ! $
+        move ! (1 ∷ []) $ drop ! $ move ! (2 ∷ []) $
+        fsplit ! $ fsplit ! $ move ! (1 ∷ []) $ feqL ! (λ kept-us. move ! (1 ∷ []) $ fsplit ! $ fsplit ! $ move ! (1 ∷ []) $
+        feqL ! (λ kept-ys. move ! (1 ∷ []) $ drop ! $
+        move ! (2 ∷ 4 ∷ 0 ∷ []) $ back R.the-row κ₂ q₂ γ₂ b₂ o₂ ! tt (named 2) ys δ₂ (ws .1 .0) kept-ys $ move ! (3 ∷ 4 ∷ 2 ∷ []) $
+        back u32 κ₁ q₁ γ₁ b₁ o₁ ! tt (named 1) us δ₁ (ws .0) kept-us $
         land ! (from ! (stop !)) (init ! 28 refl (tt, record { fits = is-n .1 })) $ rotate ! 4 $
-        rewrite ! 34 (λ (k : ℕ). ‵ (fat fullShare (ty 3) (l ls 3) 0 (sliceVal (b₁, o₁) k))) (sym kept-us) refl $ rewrite ! 32 (λ (k : ℕ). ‵ (fat fullShare (ty 4) (l ls 4) 0 (sliceVal (b₂, o₂) k))) (sym kept-ys) refl $
+        rewrite ! 34 (λ (k : ℕ). ‵ (fat fullShare (ty 3) (l ls 3) 0 (sliceVal (b₁, o₁) k))) (sym kept-us) refl $
+        rewrite ! 32 (λ (k : ℕ). ‵ (fat fullShare (ty 4) (l ls 4) 0 (sliceVal (b₂, o₂) k))) (sym kept-ys) refl $
         fills ! 10 (addr ! (from ! (fld ! refl (hop ! (look-in ! 34 (sub ! 0 refl (whole !))) (stop !))))) refl (tt, tt) $
         fills ! 8 (agg ! (and-then ! (var ! 10 refl) (and-then ! (part ! 34 refl (sub ! 1 refl (whole !))) (no-more !)))) refl (tt, (tt, (record { fits = omega (arith, room₁ .0, kept-us) }, tt))) $
         fills ! 6 (addr ! (from ! (fld ! refl (hop ! (look-in ! 32 (sub ! 0 refl (whole !))) (stop !))))) refl (tt, tt) $
@@ -253,22 +267,28 @@ module _ {M : Type 1} (𝓤 : URA M) (H : Heap 𝓤) (A : Atoms 𝓤) (W : Given
         cut (Driving (ws .0) (ws .1 .0) μ₁ ε₁ μ₂ ε₂ μ₃ ε₃) (raw (drive-to 𝓤 H A mem run .pre (to-drive (ws .0) (ws .1 .0) last n used μ₁ ε₁ μ₂ ε₂ μ₃ ε₃)) ∷ []) _ (goes-drive (ws .0) (ws .1 .0) last n used μ₁ ε₁ μ₂ ε₂ μ₃ ε₃ last-fits (is-n .1) used-fits) $
         calls-to-last drive.ended (drive.clauses 𝓤 H A mem run) (to-drive (ws .0) (ws .1 .0) last n used μ₁ ε₁ μ₂ ε₂ μ₃ ε₃) (λ r ws′. Driven ps last (length (ws .1 .0)) n used (rowsOf (ws .1 .0)) (ws .0) ms r) (λ r ws′. id⊢ 𝓤 _) S′.lowered answer-same ! fm (known .drive)
         (and-then ! (var ! 40 refl) (and-then ! (var ! 12 refl) (and-then ! (var ! 8 refl) (and-then ! (var ! 4 refl) (and-then ! (var ! 30 refl) (and-then ! (var ! 28 refl) (and-then ! (var ! 32 refl) (no-more !)))))))) (λ r ws′ driven is-r.
-        use1 W (‵ (flft κ₀ q₀) ⊛ (‵ (flft (μ₁ ∷ []) fullShare) ⊛ (‵ (flft (μ₂ ∷ []) fullShare) ⊛ (‵ (flft (μ₃ ∷ []) fullShare) ⊛ ‵ ftrue)))) (id⊢ 𝓤 _) $ split ! $ move ! (1 ∷ []) $ split ! $ move ! (1 ∷ []) $ split ! $ move ! (1 ∷ []) $ split ! $ move ! (1 ∷ []) $ drop ! $ move ! (4 ∷ []) $
-        fsplit ! $ drop ! $ fsplit ! $ fsplit ! $ move ! (1 ∷ []) $ feqL ! (λ k₁. move ! (1 ∷ []) $ fsplit ! $ fsplit ! $ move ! (1 ∷ []) $ feqL ! (λ k₂. move ! (1 ∷ []) $ fsplit ! $ fsplit ! $ move ! (1 ∷ []) $ feqL ! (λ k₃. move ! (1 ∷ []) $ drop ! $
-        move ! (3 ∷ 7 ∷ 0 ∷ []) $ back u8 κ₃ q₃ γ₃ b₃ o₃ ! tt (named 3) ms ε₃ (ws′ .1 .1 .1 .0) k₃ $ move ! (4 ∷ 7 ∷ 2 ∷ []) $ back R.the-row κ₂ q₂ γ₂ b₂ o₂ ! tt (named 2) (ws .1 .0) ε₂ (ws′ .1 .1 .0) k₂ $
+        use1 W (‵ (flft κ₀ q₀) ⊛ (‵ (flft (μ₁ ∷ []) fullShare) ⊛ (‵ (flft (μ₂ ∷ []) fullShare) ⊛ (‵ (flft (μ₃ ∷ []) fullShare) ⊛ ‵ ftrue)))) (id⊢ 𝓤 _) $
+        split ! $ move ! (1 ∷ []) $ split ! $ move ! (1 ∷ []) $ split ! $ move ! (1 ∷ []) $ split ! $ move ! (1 ∷ []) $ drop ! $ move ! (4 ∷ []) $
+        fsplit ! $ drop ! $ fsplit ! $ fsplit ! $ move ! (1 ∷ []) $ feqL ! (λ k₁. move ! (1 ∷ []) $ fsplit ! $ fsplit ! $ move ! (1 ∷ []) $
+        feqL ! (λ k₂. move ! (1 ∷ []) $ fsplit ! $ fsplit ! $ move ! (1 ∷ []) $ feqL ! (λ k₃. move ! (1 ∷ []) $ drop ! $
+        move ! (3 ∷ 7 ∷ 0 ∷ []) $ back u8 κ₃ q₃ γ₃ b₃ o₃ ! tt (named 3) ms ε₃ (ws′ .1 .1 .1 .0) k₃ $ move ! (4 ∷ 7 ∷ 2 ∷ []) $
+        back R.the-row κ₂ q₂ γ₂ b₂ o₂ ! tt (named 2) (ws .1 .0) ε₂ (ws′ .1 .1 .0) k₂ $
         move ! (5 ∷ 7 ∷ 4 ∷ []) $ back u32 κ₁ q₁ γ₁ b₁ o₁ ! tt (named 1) (ws .0) ε₁ (ws′ .1 .0) k₁ $
         land-last ! (from ! (stop !)) (init ! 27 refl (answer-typed W r _ is-r)) $ move ! (6 ∷ []) $ rotate ! 7 $
-        exec ! C Λ En body.t-2 (atRet En (Post (Ready.Formula used last))) $ fills ! 40 (of-opd ! (var ! 20 refl)) refl (answer-typed W r _ is-r) $ returns ! (look ! 40 refl) $
+        exec ! C Λ En body.t-2 (atRet En (Post (Ready.Formula used last))) $ fills ! 40 (of-opd ! (var ! 20 refl)) refl (answer-typed W r _ is-r) $
+        returns ! (look ! 40 refl) $
         frees-all ! body.locals ls (some _ ∷ some _ ∷ some _ ∷ some _ ∷ some _ ∷ some _ ∷ some _ ∷ some _ ∷ some _ ∷ none ∷ some _ ∷ some _ ∷ some _ ∷ some _ ∷ some _ ∷ some _ ∷ some _ ∷ some _ ∷ some _ ∷ some _ ∷ some _ ∷ []) $
         by ! (exits (Ready.Formula used last) r is-r (ws′ .1 .0) (ws′ .1 .1 .0) (ws′ .1 .1 .1 .0) (k₁ ∙ kept-us) (k₂ ∙ kept-ys) k₃ (follows-formula refl kept-us kept-ys built driven))))))))))))))
     matched (Ready.Refused x) is =
         let is-x : Is F.the-row x (F′.lowered x ∷ []) = EL.owed Y.the-type Y′.the-laws (Ready.Refused x) _ is .0 in
         let is-r : IsAnswer (CheckAnswer.Refused x) (S′.lowered (CheckAnswer.Refused x)) = EL.owes S.the-type S′.the-laws (CheckAnswer.Refused x) (is-x, tt) in
-        switches-on ! (load ! (from ! (vrt ! refl (fld ! refl (stop !)))) (look-tag ! 38 (whole !))) $ exec ! C Λ En on-refusal (Then (Ready.Refused x)) $
+        switches-on ! (load ! (from ! (vrt ! refl (fld ! refl (stop !)))) (look-tag ! 38 (whole !))) $
+        exec ! C Λ En on-refusal (Then (Ready.Refused x)) $
         fills ! 22 (of-opd ! (load ! (from ! (vrt ! refl (fld ! refl (stop !)))) (look-in ! 38 (in-variant ! 1 0 refl refl (whole !))))) refl (LL.lawful F.the-type F′.the-laws 𝓤 H A W .typed x (F′.lowered x ∷ []) is-x .0) $
         assigns-last ! (agg ! (and-then ! (lit ! tt) (and-then ! (var ! 22 refl) (no-more !)))) (from ! (stop !)) (init ! 20 refl (answer-typed W (CheckAnswer.Refused x) _ is-r)) $
         move ! (42 ∷ []) $ drop ! $
-        exec ! C Λ En body.t-2 (atRet En (Post (Ready.Refused x))) $ fills ! 40 (of-opd ! (var ! 20 refl)) refl (answer-typed W (CheckAnswer.Refused x) _ is-r) $ returns ! (look ! 40 refl) $
+        exec ! C Λ En body.t-2 (atRet En (Post (Ready.Refused x))) $
+        fills ! 40 (of-opd ! (var ! 20 refl)) refl (answer-typed W (CheckAnswer.Refused x) _ is-r) $ returns ! (look ! 40 refl) $
         frees-all ! body.locals ls (some _ ∷ some _ ∷ some _ ∷ some _ ∷ some _ ∷ some _ ∷ none ∷ none ∷ none ∷ some _ ∷ some _ ∷ []) $
         by ! (exits (Ready.Refused x) (CheckAnswer.Refused x) is-r us ys ms refl refl refl (follows-refused refl))
 
@@ -276,11 +296,14 @@ module _ {M : Type 1} (𝓤 : URA M) (H : Heap 𝓤) (A : Atoms 𝓤) (W : Given
       → ent 𝓤 (onEntry 𝓤 H A f.signature (κ₀, (κ₁, (κ₂, (κ₃, tt)))) (q₀, (q₁, (q₂, (q₃, tt)))) (a d) (at d)) (WpFn 𝓤 H (𝓣 .C) (𝓣 .Λ) code.function (Y′.lowered d ∷ s₀ ∷ s₁ us ∷ s₂ ys ∷ s₃ ms ∷ []) (Post d))
   walk d is 𝓣 fm known room₀ room₁ room₂ room₃ =
       qed W ((‵ (flft κ₀ q₀) ⊛ (‵ (flft κ₁ q₁) ⊛ (‵ (flft κ₂ q₂) ⊛ (‵ (flft κ₃ q₃) ⊛ ‵ ftrue)))) ∷ ‵ (owns (Y.the-row ∷ ShrSlice (named 0) κ₀ u8 ∷ MutSlice (named 1) κ₁ u32 ∷ MutSlice (named 2) κ₂ R.the-row ∷ MutSlice (named 3) κ₃ u8 ∷ []) (a d) (at d)) ∷ []) ∵
-      split ! $ move ! (1 ∷ []) $ split ! $ move ! (1 ∷ []) $ split ! $ move ! (1 ∷ []) $ split ! $ move ! (5 ∷ []) $ fsplit ! $ drop ! $ fsplit ! $ move ! (1 ∷ []) $ fsplit ! $ move ! (1 ∷ []) $ fsplit ! $ move ! (1 ∷ []) $ fsplit ! $
+      split ! $ move ! (1 ∷ []) $ split ! $ move ! (1 ∷ []) $ split ! $ move ! (1 ∷ []) $ split ! $ move ! (5 ∷ []) $ fsplit ! $ drop ! $ fsplit ! $
+      move ! (1 ∷ []) $ fsplit ! $ move ! (1 ∷ []) $ fsplit ! $ move ! (1 ∷ []) $ fsplit ! $
       keep ! (4 ∷ 9 ∷ 3 ∷ 8 ∷ 2 ∷ 7 ∷ 0 ∷ 5 ∷ []) $
       enter ! (𝓣 .C) (𝓣 .Λ) code.function (Y′.lowered d ∷ s₀ ∷ s₁ us ∷ s₂ ys ∷ s₃ ms ∷ []) _ $ allocs-all ! body.locals (λ ls. params1 ! $
       -- [the locals, the last one first; what the slices own, each with its token]
-      pass1 ! (init ! 38 refl (ready-typed W d _ is)) $ pass1 ! (init ! 36 refl (tt, (tt, (record { fits = room₀ .0 }, tt)))) $ pass1 ! (init ! 34 refl (tt, (tt, (record { fits = room₁ .0 }, tt)))) $ pass1 ! (init ! 32 refl (tt, (tt, (record { fits = room₂ .0 }, tt)))) $ pass1 ! (init ! 30 refl (tt, (tt, (record { fits = room₃ .0 }, tt)))) $ pass0 ! $
+      pass1 ! (init ! 38 refl (ready-typed W d _ is)) $ pass1 ! (init ! 36 refl (tt, (tt, (record { fits = room₀ .0 }, tt)))) $
+      pass1 ! (init ! 34 refl (tt, (tt, (record { fits = room₁ .0 }, tt)))) $ pass1 ! (init ! 32 refl (tt, (tt, (record { fits = room₂ .0 }, tt)))) $
+      pass1 ! (init ! 30 refl (tt, (tt, (record { fits = room₃ .0 }, tt)))) $ pass0 ! $
       first ! $ matched 𝓣 fm known room₁ room₂ room₃ ls d is)
 
 meets : {M : Type 1} (𝓤 : URA M) (H : Heap 𝓤) (A : Atoms 𝓤) → Given 𝓤 H A → (mem : Memory → SProp 𝓤) (run : Routine → Fun 𝓤) (𝓣 : Tables 𝓤 H) → Known 𝓤 H A mem run (𝓣 .C)

@@ -77,7 +77,8 @@ module _ {M : Type 1} (𝓤 : URA M) (H : Heap 𝓤) (A : Atoms 𝓤) (W : Given
   exits : (zs : List Row) → length zs ≡ length ys → Appends (length ys) (rowsOf ys) (rowsOf zs) i r → ent 𝓤 (⋆ 𝓤 H A (‵ (Whole R.the-row κ q γ b o (named 0) zs) ∷ ‵ (flft κ q) ∷ [])) (Post vunit)
   exits zs e z =
       qed W (‵ (Whole R.the-row κ q γ b o (named 0) zs) ∷ ‵ (flft κ q) ∷ []) ∵
-      suffices ! _ (ends-at 𝓤 H A f.ended stayed (f.clauses 𝓤 H A mem run) W (((κ, tt), (q, tt), tt, a, at), tt) vunit tt (zs, (tt, (tt, tt))) (e, (tt, (tt, tt)))) $ says ! z $
+      suffices ! _ (ends-at 𝓤 H A f.ended stayed (f.clauses 𝓤 H A mem run) W (((κ, tt), (q, tt), tt, a, at), tt) vunit tt (zs, (tt, (tt, tt))) (e, (tt, (tt, tt)))) $
+      says ! z $
       rewrite ! 0 (λ (m : ℕ). ‵ (MutSlice (named 0) κ R.the-row .own (at-list b o γ zs) (sliceVal (b, o) m ∷ []))) e refl $
       nothing ! $ move ! (2 ∷ 0 ∷ []) $ join ! $ frame ! $
       dropped ! 2 $ move ! (1 ∷ 0 ∷ []) $ fjoin ! $ feqI ! (List Val) (vunit ∷ []) (vunit ∷ []) refl $ move ! (1 ∷ 0 ∷ []) $ done !
@@ -88,16 +89,19 @@ module _ {M : Type 1} (𝓤 : URA M) (H : Heap 𝓤) (A : Atoms 𝓤) (W : Given
 
     walk : Room R.the-row (length ys) → i < 2 ^ 64 → IsRow r (R′.lowered r) → ent 𝓤 (onEntry 𝓤 H A f.signature (κ, tt) (q, tt) a at) (WpFn 𝓤 H C Λ code.function (s ∷ vint w64 i ∷ R′.lowered r ∷ []) Post)
     walk room fits is =
-        qed W ((‵ (flft κ q) ⊛ ‵ ftrue) ∷ ‵ (owns (MutSlice (named 0) κ R.the-row ∷ usize ∷ R.the-row ∷ []) a at) ∷ []) ∵ split ! $ move ! (2 ∷ []) $ fsplit ! $ keep ! (0 ∷ 2 ∷ []) $
+        qed W ((‵ (flft κ q) ⊛ ‵ ftrue) ∷ ‵ (owns (MutSlice (named 0) κ R.the-row ∷ usize ∷ R.the-row ∷ []) a at) ∷ []) ∵ split ! $ move ! (2 ∷ []) $
+        fsplit ! $ keep ! (0 ∷ 2 ∷ []) $
         enter ! C Λ code.function (s ∷ vint w64 i ∷ R′.lowered r ∷ []) _ $ allocs-all ! body.locals (λ ls. params1 ! $
         -- [the locals, the last one first; what rows owns; the token]
-        pass1 ! (init ! 10 refl (tt, (tt, (record { fits = room .0 }, tt)))) $ pass1 ! (init ! 8 refl (tt, record { fits = fits })) $ pass1 ! (init ! 6 refl (row-typed W r _ is)) $ pass0 ! $
+        pass1 ! (init ! 10 refl (tt, (tt, (record { fits = room .0 }, tt)))) $ pass1 ! (init ! 8 refl (tt, record { fits = fits })) $
+        pass1 ! (init ! 6 refl (row-typed W r _ is)) $ pass0 ! $
         fills ! 4 (of-opd ! (part ! 10 refl (sub ! 1 refl (whole !)))) refl (tt, record { fits = room .0 }) $
         fills ! 2 (bin ! (var ! 4 refl) (var ! 8 refl) tt) refl (tt, tt) $
         first ! $ branches ! (var ! 2 refl)
         (λ out.
         fills ! 12 (of-opd ! (unit-lit !)) refl (tt, tt) $ returns-within ! Post refl (look ! 12 refl) $
-        frees-all ! body.locals ls (some _ ∷ some _ ∷ some _ ∷ some _ ∷ some _ ∷ some _ ∷ []) $ by ! (exits ys refl (record { appends = λ h. absurd (omega (arith, leb→le (length ys) i out)) })))
+        frees-all ! body.locals ls (some _ ∷ some _ ∷ some _ ∷ some _ ∷ some _ ∷ some _ ∷ []) $
+        by ! (exits ys refl (record { appends = λ h. absurd (omega (arith, leb→le (length ys) i out)) })))
         (λ held. let within = nleb→lt (length ys) i held in
         skips ! $ exec ! C Λ (En ls) body.t-4 (atRet (En ls) Post) $
         assigns ! (bin ! (var ! 8 refl) (lit ! tt) (record { fits = omega (arith, room .1) })) (from ! (stop !)) (store ! 4 refl (tt, record { fits = omega (arith, room .1) })) $

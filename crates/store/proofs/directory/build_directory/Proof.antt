@@ -160,18 +160,21 @@ module _ {M : Type 1} (𝓤 : URA M) (H : Heap 𝓤) (A : Atoms 𝓤) (W : Given
   exits : (n : ℕ) → n < 2 ^ 64 → (xs : List ℕ) (zs : List Row) → length xs ≡ length us → length zs ≡ length ys → Built us xs (length ys) (rowsOf zs) total n → ent 𝓤 (⋆ 𝓤 H A (Had xs zs)) (Post (vint w64 n))
   exits n fits xs zs e e′ z =
       qed W (Had xs zs) ∵
-      suffices ! _ (ends-at 𝓤 H A f.ended stayed (f.clauses 𝓤 H A mem run) W (((κ₁, (κ₂, tt)), (q₁, (q₂, tt)), tt, a, at), tt) (vint w64 n) n (xs, (zs, (tt, tt))) (e, (e′, (tt, tt)))) $ says ! z $
+      suffices ! _ (ends-at 𝓤 H A f.ended stayed (f.clauses 𝓤 H A mem run) W (((κ₁, (κ₂, tt)), (q₁, (q₂, tt)), tt, a, at), tt) (vint w64 n) n (xs, (zs, (tt, tt))) (e, (e′, (tt, tt)))) $
+      says ! z $
       rewrite ! 0 (λ (m : ℕ). ‵ (MutSlice (named 0) κ₁ u32 .own (at-list b₁ o₁ γ₁ xs) (sliceVal (b₁, o₁) m ∷ []))) e refl $
       rewrite ! 2 (λ (m : ℕ). ‵ (MutSlice (named 1) κ₂ R.the-row .own (at-list b₂ o₂ γ₂ zs) (sliceVal (b₂, o₂) m ∷ []))) e′ refl $
       nothing ! $ move ! (4 ∷ 0 ∷ []) $ join ! $ move ! (2 ∷ 0 ∷ []) $ join ! $ frame ! $
-      dropped ! 1 $ move ! (2 ∷ 0 ∷ []) $ fjoin ! $ move ! (1 ∷ 0 ∷ []) $ fjoin ! $ owned ! usize (Is usize) (uint-makes 𝓤 H A W w64) n _ (refl, fits) $ move ! (1 ∷ 0 ∷ []) $ done !
+      dropped ! 1 $ move ! (2 ∷ 0 ∷ []) $ fjoin ! $ move ! (1 ∷ 0 ∷ []) $ fjoin ! $
+      owned ! usize (Is usize) (uint-makes 𝓤 H A W w64) n _ (refl, fits) $ move ! (1 ∷ 0 ∷ []) $ done !
 
   -- the calls: what each is passed, and what it asks
   abbrev to-least : least-to 𝓤 H A mem run .Ghost
   to-least = ((tt, tt, tt, (total, (length us, tt)), (vint w64 total ∷ [], (vint w64 (length us) ∷ [], tt))), tt)
 
   goes-least : length us < 2 ^ 64 → ent 𝓤 (sem 𝓤 H A ftrue) (least-to 𝓤 H A mem run .pre to-least)
-  goes-least fits = qed W (‵ ftrue ∷ []) ∵ owned ! usize (Is usize) (uint-makes 𝓤 H A W w64) (length us) _ (refl, fits) $ fjoin ! $ owned ! usize (Is usize) (uint-makes 𝓤 H A W w64) total _ (refl, total-fits) $ fjoin ! $ nothing ! $ join ! $ frame ! $ done !
+  goes-least fits = qed W (‵ ftrue ∷ []) ∵ owned ! usize (Is usize) (uint-makes 𝓤 H A W w64) (length us) _ (refl, fits) $ fjoin ! $
+      owned ! usize (Is usize) (uint-makes 𝓤 H A W w64) total _ (refl, total-fits) $ fjoin ! $ nothing ! $ join ! $ frame ! $ done !
 
   abbrev to-unmark : ℕ → List ℕ → ℕ → ℕ → GName → unmark-to 𝓤 H A mem run .Ghost
   to-unmark end xs first ν δ = (((ν ∷ [], tt), (fullShare, tt), tt, (at-list b₁ o₁ δ xs, (first, (end, tt))), (s₁ xs ∷ [], (vint w64 first ∷ [], (vint w64 end ∷ [], tt)))), tt)
@@ -179,14 +182,19 @@ module _ {M : Type 1} (𝓤 : URA M) (H : Heap 𝓤) (A : Atoms 𝓤) (W : Given
   goes-unmark : (end : ℕ) (xs : List ℕ) (first ν : ℕ) (δ : GName) → end < 2 ^ 64 → first < 2 ^ 64 → end ≤ length xs
       → ent 𝓤 (sep 𝓤 (sem 𝓤 H A (MutSlice (named 0) (ν ∷ []) u32 .own (at-list b₁ o₁ δ xs) (s₁ xs ∷ []))) (A .lft (ν ∷ []) fullShare)) (unmark-to 𝓤 H A mem run .pre (to-unmark end xs first ν δ))
   goes-unmark end xs first ν δ end-fits first-fits e =
-      qed W (‵ (MutSlice (named 0) (ν ∷ []) u32 .own (at-list b₁ o₁ δ xs) (s₁ xs ∷ [])) ∷ ‵ (flft (ν ∷ []) fullShare) ∷ []) ∵ says ! e $ nothing ! $ move ! (2 ∷ 0 ∷ []) $ join ! $ frame ! $
-      nothing ! $ owned ! usize (Is usize) (uint-makes 𝓤 H A W w64) end _ (refl, end-fits) $ fjoin ! $ owned ! usize (Is usize) (uint-makes 𝓤 H A W w64) first _ (refl, first-fits) $ fjoin ! $ move ! (1 ∷ 0 ∷ []) $ fjoin ! $ done !
+      qed W (‵ (MutSlice (named 0) (ν ∷ []) u32 .own (at-list b₁ o₁ δ xs) (s₁ xs ∷ [])) ∷ ‵ (flft (ν ∷ []) fullShare) ∷ []) ∵ says ! e $ nothing ! $
+      move ! (2 ∷ 0 ∷ []) $ join ! $ frame ! $
+      nothing ! $ owned ! usize (Is usize) (uint-makes 𝓤 H A W w64) end _ (refl, end-fits) $ fjoin ! $
+      owned ! usize (Is usize) (uint-makes 𝓤 H A W w64) first _ (refl, first-fits) $ fjoin ! $ move ! (1 ∷ 0 ∷ []) $ fjoin ! $ done !
 
   abbrev to-row-between : ℕ → ℕ → ℕ → row-between-to 𝓤 H A mem run .Ghost
   to-row-between n first next = ((tt, tt, tt, (n, (first, (next, tt))), (vint w64 n ∷ [], (vint w64 first ∷ [], (vint w64 next ∷ [], tt)))), tt)
 
   goes-row-between : (n first next : ℕ) → n ≤ first → first < next → next < 2 ^ 64 → ent 𝓤 (sem 𝓤 H A ftrue) (row-between-to 𝓤 H A mem run .pre (to-row-between n first next))
-  goes-row-between n first next few less fits = qed W (‵ ftrue ∷ []) ∵ says ! (few, less) $ owned ! usize (Is usize) (uint-makes 𝓤 H A W w64) next _ (refl, fits) $ fjoin ! $ owned ! usize (Is usize) (uint-makes 𝓤 H A W w64) first _ (refl, omega arith) $ fjoin ! $ owned ! usize (Is usize) (uint-makes 𝓤 H A W w64) n _ (refl, omega arith) $ fjoin ! $ nothing ! $ frame ! $ done !
+  goes-row-between n first next few less fits = qed W (‵ ftrue ∷ []) ∵ says ! (few, less) $
+      owned ! usize (Is usize) (uint-makes 𝓤 H A W w64) next _ (refl, fits) $ fjoin ! $
+      owned ! usize (Is usize) (uint-makes 𝓤 H A W w64) first _ (refl, omega arith) $ fjoin ! $
+      owned ! usize (Is usize) (uint-makes 𝓤 H A W w64) n _ (refl, omega arith) $ fjoin ! $ nothing ! $ frame ! $ done !
 
   abbrev to-append : List Row → ℕ → Row → ℕ → GName → append-to 𝓤 H A mem run .Ghost
   to-append zs n row ν δ = (((ν ∷ [], tt), (fullShare, tt), tt, (at-list b₂ o₂ δ zs, (n, (row, tt))), (s₂ zs ∷ [], (vint w64 n ∷ [], (R′.lowered row ∷ [], tt)))), tt)
@@ -194,8 +202,11 @@ module _ {M : Type 1} (𝓤 : URA M) (H : Heap 𝓤) (A : Atoms 𝓤) (W : Given
   goes-append : (zs : List Row) (n : ℕ) (row : Row) (ν : ℕ) (δ : GName) → n < 2 ^ 64 → IsRow row (R′.lowered row)
       → ent 𝓤 (sep 𝓤 (sem 𝓤 H A (MutSlice (named 1) (ν ∷ []) R.the-row .own (at-list b₂ o₂ δ zs) (s₂ zs ∷ []))) (A .lft (ν ∷ []) fullShare)) (append-to 𝓤 H A mem run .pre (to-append zs n row ν δ))
   goes-append zs n row ν δ fits is =
-      qed W (‵ (MutSlice (named 1) (ν ∷ []) R.the-row .own (at-list b₂ o₂ δ zs) (s₂ zs ∷ [])) ∷ ‵ (flft (ν ∷ []) fullShare) ∷ []) ∵ nothing ! $ move ! (2 ∷ 0 ∷ []) $ join ! $
-      nothing ! $ owned ! R.the-row (Is R.the-row) ((LL.makes R.the-type R′.the-plain) 𝓤 H A) row _ is $ fjoin ! $ owned ! usize (Is usize) (uint-makes 𝓤 H A W w64) n _ (refl, fits) $ fjoin ! $ move ! (2 ∷ 0 ∷ []) $ fjoin ! $ move ! (1 ∷ 0 ∷ []) $ join ! $ frame ! $ done !
+      qed W (‵ (MutSlice (named 1) (ν ∷ []) R.the-row .own (at-list b₂ o₂ δ zs) (s₂ zs ∷ [])) ∷ ‵ (flft (ν ∷ []) fullShare) ∷ []) ∵ nothing ! $
+      move ! (2 ∷ 0 ∷ []) $ join ! $
+      nothing ! $ owned ! R.the-row (Is R.the-row) ((LL.makes R.the-type R′.the-plain) 𝓤 H A) row _ is $ fjoin ! $
+      owned ! usize (Is usize) (uint-makes 𝓤 H A W w64) n _ (refl, fits) $ fjoin ! $ move ! (2 ∷ 0 ∷ []) $ fjoin ! $ move ! (1 ∷ 0 ∷ []) $ join ! $
+      frame ! $ done !
 
   module _ (𝓣 : Tables 𝓤 H) (fm : FmC 𝓤 H (W .laws) (𝓣 .C)) (known-unmark : Triple 𝓤 (𝓣 .C #unmark) (unmark-to 𝓤 H A mem run)) (known-row-between : Triple 𝓤 (𝓣 .C #row-between) (row-between-to 𝓤 H A mem run)) (known-append : Triple 𝓤 (𝓣 .C #append) (append-to 𝓤 H A mem run))
       (room-w : Room u32 (length us)) (room-r : Room R.the-row (length ys)) (end : ℕ) (few : (end ≤ total) × (end ≤ length us) × (total ≤ length us → end ≡ total)) (end-fits : end < 2 ^ 64) (ls : Addrs body.locals) where
@@ -243,7 +254,8 @@ module _ {M : Type 1} (𝓤 : URA M) (H : Heap 𝓤) (A : Atoms 𝓤) (W : Given
         assigns ! (bin ! (var ! 24 refl) (lit ! tt) (record { fits = omega (arith, t .few) })) (from ! (stop !)) (store ! 24 refl (tt, record { fits = omega (arith, t .few) })) $
         assigns-last ! (of-opd ! (var ! 20 refl)) (from ! (stop !)) (store ! 22 refl (tt, record { fits = is .1 })) $
         forget ! 20 refl $ forget ! 14 refl $ forget ! 12 refl $ forget ! 10 refl $ forget ! 8 refl $ forget ! 6 refl $ forget ! 4 refl $
-        rewrite ! 32 (λ (k : ℕ). ‵ (fat fullShare (ty 1) (l ls 1) 0 (sliceVal (b₁, o₁) k))) (sym kept) refl $ rewrite ! 30 (λ (k : ℕ). ‵ (fat fullShare (ty 2) (l ls 2) 0 (sliceVal (b₂, o₂) k))) (sym kept′) refl $
+        rewrite ! 32 (λ (k : ℕ). ‵ (fat fullShare (ty 1) (l ls 1) 0 (sliceVal (b₁, o₁) k))) (sym kept) refl $
+        rewrite ! 30 (λ (k : ℕ). ‵ (fat fullShare (ty 2) (l ls 2) 0 (sliceVal (b₂, o₂) k))) (sym kept′) refl $
         move ! (2 ∷ 3 ∷ 0 ∷ 1 ∷ []) $
         rotate ! 4 $ again ! (Nearer end) At t (turned (λ z. few .2 z) t h next (ws .0) (ws″ .0) row u e put kept kept′) (omega (arith, u .onward h .0)))))))))
 
@@ -254,9 +266,11 @@ module _ {M : Type 1} (𝓤 : URA M) (H : Heap 𝓤) (A : Atoms 𝓤) (W : Given
         first ! $ branches ! (var ! 12 refl)
         (λ taken. skips ! $ forget ! 12 refl $ exec ! C Λ En (rest (rest body.turn-1)) (anyQ (After t)) $ adding t (ltb→lt (t .first) end taken))
         (λ over.
-        jumps ! $ exec ! C Λ En body.t-6 (atRet En Post) $ fills ! 30 (of-opd ! (var ! 20 refl)) refl (tt, record { fits = omega (arith, t .few, t .near) }) $
+        jumps ! $ exec ! C Λ En body.t-6 (atRet En Post) $
+        fills ! 30 (of-opd ! (var ! 20 refl)) refl (tt, record { fits = omega (arith, t .few, t .near) }) $
         returns ! (look ! 30 refl) $
-        frees-all ! body.locals ls (some _ ∷ some _ ∷ some _ ∷ some _ ∷ some _ ∷ some _ ∷ some _ ∷ none ∷ none ∷ some _ ∷ []) $ by ! (exits (t .n) (omega (arith, t .few, t .near)) (t .us) (t .zs) (t .long-us) (t .long-zs) (build-end us (t .us) (length ys) (rowsOf (t .zs)) total end (t .n) (t .first) (t .built) (few .2) (nltb→le (t .first) end over))))
+        frees-all ! body.locals ls (some _ ∷ some _ ∷ some _ ∷ some _ ∷ some _ ∷ some _ ∷ some _ ∷ none ∷ none ∷ some _ ∷ []) $
+        by ! (exits (t .n) (omega (arith, t .few, t .near)) (t .us) (t .zs) (t .long-us) (t .long-zs) (build-end us (t .us) (length ys) (rowsOf (t .zs)) total end (t .n) (t .first) (t .built) (few .2) (nltb→le (t .first) end over))))
 
   walk : (𝓣 : Tables 𝓤 H) → FmC 𝓤 H (W .laws) (𝓣 .C) → Triple 𝓤 (𝓣 .C #least) (least-to 𝓤 H A mem run) → Triple 𝓤 (𝓣 .C #unmark) (unmark-to 𝓤 H A mem run) → Triple 𝓤 (𝓣 .C #row-between) (row-between-to 𝓤 H A mem run) → Triple 𝓤 (𝓣 .C #append) (append-to 𝓤 H A mem run) → Room u32 (length us) → Room R.the-row (length ys)
       → ent 𝓤 (onEntry 𝓤 H A f.signature (κ₁, (κ₂, tt)) (q₁, (q₂, tt)) a at) (WpFn 𝓤 H (𝓣 .C) (𝓣 .Λ) code.function (s₁ us ∷ s₂ ys ∷ vint w64 total ∷ []) Post)
@@ -265,7 +279,9 @@ module _ {M : Type 1} (𝓤 : URA M) (H : Heap 𝓤) (A : Atoms 𝓤) (W : Given
       split ! $ move ! (1 ∷ []) $ split ! $ move ! (3 ∷ []) $ fsplit ! $ move ! (1 ∷ []) $ fsplit ! $ keep ! (2 ∷ 5 ∷ 0 ∷ 3 ∷ []) $
       enter ! (𝓣 .C) (𝓣 .Λ) code.function (s₁ us ∷ s₂ ys ∷ vint w64 total ∷ []) _ $ allocs-all ! body.locals (λ ls. params1 ! $
       -- [the locals, the last one first; what the words own; their token; what the rows own; theirs]
-      pass1 ! (init ! 28 refl (tt, (tt, (record { fits = room-w .0 }, tt)))) $ pass1 ! (init ! 26 refl (tt, (tt, (record { fits = room-r .0 }, tt)))) $ pass1 ! (init ! 24 refl (tt, record { fits = total-fits })) $ pass0 ! $
+      pass1 ! (init ! 28 refl (tt, (tt, (record { fits = room-w .0 }, tt)))) $
+      pass1 ! (init ! 26 refl (tt, (tt, (record { fits = room-r .0 }, tt)))) $ pass1 ! (init ! 24 refl (tt, record { fits = total-fits })) $
+      pass0 ! $
       fills ! 14 (of-opd ! (part ! 28 refl (sub ! 1 refl (whole !)))) refl (tt, record { fits = room-w .0 }) $
       nothing ! $ use1 W (raw (least-to 𝓤 H A mem run .pre to-least)) (goes-least (room-w .0)) $
       calls-to least.ended (least.clauses 𝓤 H A mem run) to-least (λ r ws. (r ≤ total) × (r ≤ length us) × (total ≤ length us → r ≡ total)) (λ r ws. id⊢ 𝓤 _) (vint w64) (uint-same w64) ! fm known-least (and-then ! (var ! 25 refl) (and-then ! (var ! 15 refl) (no-more !))) (λ end ws few is.

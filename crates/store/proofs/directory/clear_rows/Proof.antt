@@ -99,7 +99,8 @@ module _ {M : Type 1} (𝓤 : URA M) (H : Heap 𝓤) (A : Atoms 𝓤) (W : Given
   exits : (zs : List Row) → length zs ≡ length ys → zs ≡ replicate (length ys) noRow → ent 𝓤 (⋆ 𝓤 H A (‵ (Whole R.the-row κ q γ b o (named 0) zs) ∷ ‵ (flft κ q) ∷ [])) (Post vunit)
   exits zs e z =
       qed W (‵ (Whole R.the-row κ q γ b o (named 0) zs) ∷ ‵ (flft κ q) ∷ []) ∵
-      suffices ! _ (ends-at 𝓤 H A f.ended stayed (f.clauses 𝓤 H A mem run) W (((κ, tt), (q, tt), tt, a, at), tt) vunit tt (zs, tt) (e, tt)) $ says ! z $
+      suffices ! _ (ends-at 𝓤 H A f.ended stayed (f.clauses 𝓤 H A mem run) W (((κ, tt), (q, tt), tt, a, at), tt) vunit tt (zs, tt) (e, tt)) $
+      says ! z $
       rewrite ! 0 (λ (m : ℕ). ‵ (MutSlice (named 0) κ R.the-row .own (at-list b o γ zs) (sliceVal (b, o) m ∷ []))) e refl $
       nothing ! $ move ! (2 ∷ 0 ∷ []) $ join ! $ frame ! $
       dropped ! 0 $ move ! (1 ∷ 0 ∷ []) $ fjoin ! $ feqI ! (List Val) (vunit ∷ []) (vunit ∷ []) refl $ move ! (1 ∷ 0 ∷ []) $ done !
@@ -141,16 +142,19 @@ module _ {M : Type 1} (𝓤 : URA M) (H : Heap 𝓤) (A : Atoms 𝓤) (W : Given
         (λ over.
         jumps ! $ exec ! C Λ En body.t-4 (atRet En Post) $ move ! (15 ∷ 14 ∷ []) $ closed R.the-row κ q γ b o ! tt (named 0) ys (t .zs) (long t) $
         fills ! 14 (of-opd ! (unit-lit !)) refl (tt, tt) $ returns ! (look ! 14 refl) $ rotate ! 2 $
-        frees-all ! body.locals ls (some _ ∷ some _ ∷ some _ ∷ some _ ∷ some _ ∷ some _ ∷ []) $ by ! (exits (t .zs) (long t) (clear-end noRow ys (t .zs) (t .i) (t .near) (nltb→le (t .i) (length ys) over) (t .clear))))
+        frees-all ! body.locals ls (some _ ∷ some _ ∷ some _ ∷ some _ ∷ some _ ∷ some _ ∷ []) $
+        by ! (exits (t .zs) (long t) (clear-end noRow ys (t .zs) (t .i) (t .near) (nltb→le (t .i) (length ys) over) (t .clear))))
 
   walk : (𝓣 : Tables 𝓤 H) → Room R.the-row (length ys) → ent 𝓤 (onEntry 𝓤 H A f.signature (κ, tt) (q, tt) a at) (WpFn 𝓤 H (𝓣 .C) (𝓣 .Λ) code.function (s ∷ []) Post)
   walk 𝓣 room =
-      qed W ((‵ (flft κ q) ⊛ ‵ ftrue) ∷ ‵ (owns (MutSlice (named 0) κ R.the-row ∷ []) a at) ∷ []) ∵ split ! $ move ! (2 ∷ []) $ fsplit ! $ keep ! (0 ∷ 2 ∷ []) $
+      qed W ((‵ (flft κ q) ⊛ ‵ ftrue) ∷ ‵ (owns (MutSlice (named 0) κ R.the-row ∷ []) a at) ∷ []) ∵ split ! $ move ! (2 ∷ []) $ fsplit ! $
+      keep ! (0 ∷ 2 ∷ []) $
       enter ! (𝓣 .C) (𝓣 .Λ) code.function (s ∷ []) _ $ allocs-all ! body.locals (λ ls. params1 ! $
       -- [the locals, the last one first; what rows owns; the token]
       pass1 ! (init ! 10 refl (tt, (tt, (record { fits = room .0 }, tt)))) $ pass0 ! $
       fills ! 8 (agg ! (and-then ! (lit ! tt) (and-then ! (lit ! tt) (and-then ! (lit ! tt) (and-then ! (lit ! tt) (no-more !)))))) refl (row-typed W noRow _ no-row-is) $
-      fills ! 6 (of-opd ! (lit ! tt)) refl (tt, record { fits = lit< tt }) $ move ! (14 ∷ 15 ∷ []) $ opened R.the-row κ q γ b o ! tt (named 0) ys (λ room.
+      fills ! 6 (of-opd ! (lit ! tt)) refl (tt, record { fits = lit< tt }) $ move ! (14 ∷ 15 ∷ []) $
+      opened R.the-row κ q γ b o ! tt (named 0) ys (λ room.
       move ! (1 ∷ 0 ∷ []) $ rotate ! 2 $ first ! $ blocks ! $
       loops ! 𝓣 Nearer Nearer-wf (At 𝓣 room ls) (turns 𝓣 room ls) (record { i = 0; zs = ys; near = omega arith; clear = refl })))
 

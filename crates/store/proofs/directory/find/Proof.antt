@@ -144,7 +144,8 @@ module _ {M : Type 1} (𝓤 : URA M) (H : Heap 𝓤) (A : Atoms 𝓤) (W : Given
   exits : (p : Probe) → IsProbe p (P′.lowered p) → Finds (length ys) (rowsOf ys) n id p → ent 𝓤 (⋆ 𝓤 H A (‵ (flft κ q) ∷ [])) (Post (P′.lowered p))
   exits p is e =
       qed W (‵ (flft κ q) ∷ []) ∵
-      suffices ! _ (ends-at 𝓤 H A f.ended stayed (f.clauses 𝓤 H A mem run) W (((κ, tt), (q, tt), tt, a, at), tt) (P′.lowered p) p (tt, (tt, (tt, tt))) (tt, (tt, (tt, tt)))) $ says ! e $
+      suffices ! _ (ends-at 𝓤 H A f.ended stayed (f.clauses 𝓤 H A mem run) W (((κ, tt), (q, tt), tt, a, at), tt) (P′.lowered p) p (tt, (tt, (tt, tt))) (tt, (tt, (tt, tt)))) $
+      says ! e $
       nothing ! $ move ! (1 ∷ 0 ∷ []) $ join ! $ frame ! $
       dropped ! 3 $ owned ! P.the-row (Is P.the-row) ((LL.makes P.the-type P′.the-plain) 𝓤 H A) p _ is $ move ! (1 ∷ 0 ∷ []) $ done !
 
@@ -153,13 +154,15 @@ module _ {M : Type 1} (𝓤 : URA M) (H : Heap 𝓤) (A : Atoms 𝓤) (W : Given
   to-least = ((tt, tt, tt, (n, (length ys, tt)), (vint w64 n ∷ [], (vint w64 (length ys) ∷ [], tt))), tt)
 
   goes-least : length ys < 2 ^ 64 → ent 𝓤 (sem 𝓤 H A ftrue) (Least 𝓤 H A mem run .pre to-least)
-  goes-least fits = qed W (‵ ftrue ∷ []) ∵ owned ! usize (Is usize) (uint-makes 𝓤 H A W w64) (length ys) _ (refl, fits) $ fjoin ! $ owned ! usize (Is usize) (uint-makes 𝓤 H A W w64) n _ (refl, n-fits) $ fjoin ! $ nothing ! $ join ! $ frame ! $ done !
+  goes-least fits = qed W (‵ ftrue ∷ []) ∵ owned ! usize (Is usize) (uint-makes 𝓤 H A W w64) (length ys) _ (refl, fits) $ fjoin ! $
+      owned ! usize (Is usize) (uint-makes 𝓤 H A W w64) n _ (refl, n-fits) $ fjoin ! $ nothing ! $ join ! $ frame ! $ done !
 
   abbrev to-start : ℕ → Start 𝓤 H A mem run .Ghost
   to-start m = ((tt, tt, tt, (m, (id, tt)), (vint w64 m ∷ [], (vint w64 id ∷ [], tt))), tt)
 
   goes-start : (m : ℕ) → m < 2 ^ 64 → ent 𝓤 (sem 𝓤 H A ftrue) (Start 𝓤 H A mem run .pre (to-start m))
-  goes-start m fits = qed W (‵ ftrue ∷ []) ∵ owned ! usize (Is usize) (uint-makes 𝓤 H A W w64) id _ (refl, id-fits) $ fjoin ! $ owned ! usize (Is usize) (uint-makes 𝓤 H A W w64) m _ (refl, fits) $ fjoin ! $ nothing ! $ join ! $ frame ! $ done !
+  goes-start m fits = qed W (‵ ftrue ∷ []) ∵ owned ! usize (Is usize) (uint-makes 𝓤 H A W w64) id _ (refl, id-fits) $ fjoin ! $
+      owned ! usize (Is usize) (uint-makes 𝓤 H A W w64) m _ (refl, fits) $ fjoin ! $ nothing ! $ join ! $ frame ! $ done !
 
   abbrev to-narrow : Probe → Row → Narrow 𝓤 H A mem run .Ghost
   to-narrow p h = ((tt, tt, tt, (p, (h, (id, tt))), (P′.lowered p ∷ [], (R′.lowered h ∷ [], (vint w64 id ∷ [], tt)))), tt)
@@ -167,7 +170,8 @@ module _ {M : Type 1} (𝓤 : URA M) (H : Heap 𝓤) (A : Atoms 𝓤) (W : Given
   goes-narrow : (p : Probe) (h : Row) → IsProbe p (P′.lowered p) → IsRow h (R′.lowered h) → (p .lo ≤ p .at) × (p .at < p .hi) → ent 𝓤 (sem 𝓤 H A ftrue) (Narrow 𝓤 H A mem run .pre (to-narrow p h))
   goes-narrow p h is is′ e =
       qed W (‵ ftrue ∷ []) ∵ says ! e $ owned ! usize (Is usize) (uint-makes 𝓤 H A W w64) id _ (refl, id-fits) $ fjoin ! $
-      owned ! R.the-row (Is R.the-row) ((LL.makes R.the-type R′.the-plain) 𝓤 H A) h _ is′ $ fjoin ! $ owned ! P.the-row (Is P.the-row) ((LL.makes P.the-type P′.the-plain) 𝓤 H A) p _ is $ fjoin ! $
+      owned ! R.the-row (Is R.the-row) ((LL.makes R.the-type R′.the-plain) 𝓤 H A) h _ is′ $ fjoin ! $
+      owned ! P.the-row (Is P.the-row) ((LL.makes P.the-type P′.the-plain) 𝓤 H A) p _ is $ fjoin ! $
       nothing ! $ frame ! $ done !
 
   module _ (𝓣 : Tables 𝓤 H) (fm : FmC 𝓤 H (W .laws) (𝓣 .C)) (known-narrow : Triple 𝓤 (𝓣 .C #narrow) (Narrow 𝓤 H A mem run)) (room : Room R.the-row (length ys)) (ls : Addrs body.locals) where
@@ -207,28 +211,34 @@ module _ {M : Type 1} (𝓤 : URA M) (H : Heap 𝓤) (A : Atoms 𝓤) (W : Given
         fills ! 17 (of-opd ! (var ! 5 refl)) refl (row-typed W (h t) _ was) $
         elem-back ! R.the-row q′ ys (t .p .at) noRow (R′.lowered (h t) ∷ []) b o within $ shuts-slice ! tt R.the-row q′ ys b o $
         nothing ! $ use1 W (raw (Narrow 𝓤 H A mem run .pre (to-narrow (t .p) (h t)))) (goes-narrow (t .p) (h t) (t .is) was inside) $
-        calls-to-last narrow.ended (narrow.clauses 𝓤 H A mem run) (to-narrow (t .p) (h t)) (λ r ws. Narrowed (t .p) (h t) id r) (λ r ws. id⊢ 𝓤 _) P′.lowered probe-same ! fm known-narrow (and-then ! (var ! 17 refl) (and-then ! (var ! 15 refl) (and-then ! (var ! 19 refl) (no-more !)))) (λ r ws e is. drop ! $ drop ! $
+        calls-to-last narrow.ended (narrow.clauses 𝓤 H A mem run) (to-narrow (t .p) (h t)) (λ r ws. Narrowed (t .p) (h t) id r) (λ r ws. id⊢ 𝓤 _) P′.lowered probe-same ! fm known-narrow (and-then ! (var ! 17 refl) (and-then ! (var ! 15 refl) (and-then ! (var ! 19 refl) (no-more !)))) (λ r ws e is. drop ! $
+        drop ! $
         land-last ! (from ! (stop !)) (store ! 16 refl (probe-typed W r _ is)) $
         forget ! 14 refl $ forget ! 8 refl $ forget ! 6 refl $ forget ! 4 refl $ forget ! 2 refl $
         rotate ! 2 $ again ! (Nearer ys n id) At t (next t r is less e) (nearer (t .p) (h t) id r (inside .0) (inside .1) e)))))
         (λ over.
         jumps ! $ exec ! C Λ En body.t-5 (atRet En Post) $ fills ! 22 (of-opd ! (var ! 14 refl)) refl (probe-typed W (t .p) _ (t .is)) $
         returns ! (look ! 22 refl) $
-        frees-all ! body.locals ls (some _ ∷ some _ ∷ some _ ∷ some _ ∷ some _ ∷ none ∷ none ∷ none ∷ some _ ∷ []) $ keep ! (0 ∷ []) $ by ! (exits (t .p) (t .is) (record { found = λ h up. ends (rowsOf ys) n id (t .p) (t .seek h up) (nltb→le (t .p .lo) (t .p .hi) over) })))
+        frees-all ! body.locals ls (some _ ∷ some _ ∷ some _ ∷ some _ ∷ some _ ∷ none ∷ none ∷ none ∷ some _ ∷ []) $ keep ! (0 ∷ []) $
+        by ! (exits (t .p) (t .is) (record { found = λ h up. ends (rowsOf ys) n id (t .p) (t .seek h up) (nltb→le (t .p .lo) (t .p .hi) over) })))
 
   walk : (𝓣 : Tables 𝓤 H) → FmC 𝓤 H (W .laws) (𝓣 .C) → Triple 𝓤 (𝓣 .C #least) (Least 𝓤 H A mem run) → Triple 𝓤 (𝓣 .C #start) (Start 𝓤 H A mem run) → Triple 𝓤 (𝓣 .C #narrow) (Narrow 𝓤 H A mem run) → Room R.the-row (length ys)
       → ent 𝓤 (onEntry 𝓤 H A f.signature (κ, tt) (q, tt) a at) (WpFn 𝓤 H (𝓣 .C) (𝓣 .Λ) code.function (s ∷ vint w64 n ∷ vint w64 id ∷ []) Post)
   walk 𝓣 fm known-least known-start known-narrow room =
-      qed W ((‵ (flft κ q) ⊛ ‵ ftrue) ∷ ‵ (owns (ShrSlice (named 0) κ R.the-row ∷ usize ∷ usize ∷ []) a at) ∷ []) ∵ split ! $ move ! (2 ∷ []) $ fsplit ! $ fsplit ! $ drop ! $ fsplit ! $ keep ! (3 ∷ 1 ∷ []) $
+      qed W ((‵ (flft κ q) ⊛ ‵ ftrue) ∷ ‵ (owns (ShrSlice (named 0) κ R.the-row ∷ usize ∷ usize ∷ []) a at) ∷ []) ∵ split ! $ move ! (2 ∷ []) $
+      fsplit ! $ fsplit ! $ drop ! $ fsplit ! $ keep ! (3 ∷ 1 ∷ []) $
       enter ! (𝓣 .C) (𝓣 .Λ) code.function (s ∷ vint w64 n ∷ vint w64 id ∷ []) _ $ allocs-all ! body.locals (λ ls. params1 ! $
       -- [the locals, the last one first; the token; the slice]
-      pass1 ! (init ! 20 refl (tt, (tt, (record { fits = room .0 }, tt)))) $ pass1 ! (init ! 18 refl (tt, record { fits = n-fits })) $ pass1 ! (init ! 16 refl (tt, record { fits = id-fits })) $ pass0 ! $
+      pass1 ! (init ! 20 refl (tt, (tt, (record { fits = room .0 }, tt)))) $ pass1 ! (init ! 18 refl (tt, record { fits = n-fits })) $
+      pass1 ! (init ! 16 refl (tt, record { fits = id-fits })) $ pass0 ! $
       fills ! 8 (of-opd ! (part ! 20 refl (sub ! 1 refl (whole !)))) refl (tt, record { fits = room .0 }) $
       nothing ! $ use1 W (raw (Least 𝓤 H A mem run .pre to-least)) (goes-least (room .0)) $
-      calls-to least.ended (least.clauses 𝓤 H A mem run) to-least (λ r ws. (r ≤ n) × (r ≤ length ys) × (n ≤ length ys → r ≡ n)) (λ r ws. id⊢ 𝓤 _) (vint w64) (uint-same w64) ! fm known-least (and-then ! (var ! 19 refl) (and-then ! (var ! 9 refl) (no-more !))) (λ m ws few is-m. drop ! $ drop ! $
+      calls-to least.ended (least.clauses 𝓤 H A mem run) to-least (λ r ws. (r ≤ n) × (r ≤ length ys) × (n ≤ length ys → r ≡ n)) (λ r ws. id⊢ 𝓤 _) (vint w64) (uint-same w64) ! fm known-least (and-then ! (var ! 19 refl) (and-then ! (var ! 9 refl) (no-more !))) (λ m ws few is-m. drop ! $
+      drop ! $
       land ! (from ! (stop !)) (init ! 10 refl (tt, record { fits = is-m .1 })) $
       nothing ! $ use1 W (raw (Start 𝓤 H A mem run .pre (to-start m))) (goes-start m (is-m .1)) $
-      calls-to start.ended (start.clauses 𝓤 H A mem run) (to-start m) (λ r ws. Started m r) (λ r ws. id⊢ 𝓤 _) P′.lowered probe-same ! fm known-start (and-then ! (var ! 11 refl) (and-then ! (var ! 17 refl) (no-more !))) (λ p ws e is. drop ! $ drop ! $
+      calls-to start.ended (start.clauses 𝓤 H A mem run) (to-start m) (λ r ws. Started m r) (λ r ws. id⊢ 𝓤 _) P′.lowered probe-same ! fm known-start (and-then ! (var ! 11 refl) (and-then ! (var ! 17 refl) (no-more !))) (λ p ws e is. drop ! $
+      drop ! $
       land ! (from ! (stop !)) (init ! 14 refl (probe-typed W p _ is)) $ forget ! 10 refl $ forget ! 8 refl $
       first ! $ blocks ! $ loops ! 𝓣 (Nearer ys n id) (Nearer-wf ys n id) (At 𝓣 fm known-narrow room ls) (turns 𝓣 fm known-narrow room ls)
       (record { p = p; is = is; bound = starts-bounded (length ys) p e (few .1); seek = λ h up. starts (rowsOf ys) n id p (subst (λ (k : ℕ). Started k p) (few .2 h) e) }))))

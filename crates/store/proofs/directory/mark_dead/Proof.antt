@@ -86,7 +86,8 @@ module _ {M : Type 1} (𝓤 : URA M) (H : Heap 𝓤) (A : Atoms 𝓤) (W : Given
   exits : (zs : List Row) → length zs ≡ length ys → Dies (length ys) (rowsOf ys) (rowsOf zs) i → ent 𝓤 (⋆ 𝓤 H A (‵ (Whole R.the-row κ q γ b o (named 0) zs) ∷ ‵ (flft κ q) ∷ [])) (Post vunit)
   exits zs e z =
       qed W (‵ (Whole R.the-row κ q γ b o (named 0) zs) ∷ ‵ (flft κ q) ∷ []) ∵
-      suffices ! _ (ends-at 𝓤 H A f.ended stayed (f.clauses 𝓤 H A mem run) W (((κ, tt), (q, tt), tt, a, at), tt) vunit tt (zs, (tt, tt)) (e, (tt, tt))) $ says ! z $
+      suffices ! _ (ends-at 𝓤 H A f.ended stayed (f.clauses 𝓤 H A mem run) W (((κ, tt), (q, tt), tt, a, at), tt) vunit tt (zs, (tt, tt)) (e, (tt, tt))) $
+      says ! z $
       rewrite ! 0 (λ (m : ℕ). ‵ (MutSlice (named 0) κ R.the-row .own (at-list b o γ zs) (sliceVal (b, o) m ∷ []))) e refl $
       nothing ! $ move ! (2 ∷ 0 ∷ []) $ join ! $ frame ! $
       dropped ! 1 $ move ! (1 ∷ 0 ∷ []) $ fjoin ! $ feqI ! (List Val) (vunit ∷ []) (vunit ∷ []) refl $ move ! (1 ∷ 0 ∷ []) $ done !
@@ -97,7 +98,8 @@ module _ {M : Type 1} (𝓤 : URA M) (H : Heap 𝓤) (A : Atoms 𝓤) (W : Given
 
     walk : Room R.the-row (length ys) → i < 2 ^ 64 → ent 𝓤 (onEntry 𝓤 H A f.signature (κ, tt) (q, tt) a at) (WpFn 𝓤 H C Λ code.function (s ∷ vint w64 i ∷ []) Post)
     walk room fits =
-        qed W ((‵ (flft κ q) ⊛ ‵ ftrue) ∷ ‵ (owns (MutSlice (named 0) κ R.the-row ∷ usize ∷ []) a at) ∷ []) ∵ split ! $ move ! (2 ∷ []) $ fsplit ! $ keep ! (0 ∷ 2 ∷ []) $
+        qed W ((‵ (flft κ q) ⊛ ‵ ftrue) ∷ ‵ (owns (MutSlice (named 0) κ R.the-row ∷ usize ∷ []) a at) ∷ []) ∵ split ! $ move ! (2 ∷ []) $ fsplit ! $
+        keep ! (0 ∷ 2 ∷ []) $
         enter ! C Λ code.function (s ∷ vint w64 i ∷ []) _ $ allocs-all ! body.locals (λ ls. params1 ! $
         -- [the locals, the last one first; what rows owns; the token]
         pass1 ! (init ! 8 refl (tt, (tt, (record { fits = room .0 }, tt)))) $ pass1 ! (init ! 6 refl (tt, record { fits = fits })) $ pass0 ! $
@@ -106,7 +108,8 @@ module _ {M : Type 1} (𝓤 : URA M) (H : Heap 𝓤) (A : Atoms 𝓤) (W : Given
         first ! $ branches ! (var ! 2 refl)
         (λ out.
         fills ! 10 (of-opd ! (unit-lit !)) refl (tt, tt) $ returns-within ! Post refl (look ! 10 refl) $
-        frees-all ! body.locals ls (some _ ∷ some _ ∷ some _ ∷ some _ ∷ some _ ∷ []) $ by ! (exits ys refl (record { dies = λ h. absurd (omega (arith, leb→le (length ys) i out)) })))
+        frees-all ! body.locals ls (some _ ∷ some _ ∷ some _ ∷ some _ ∷ some _ ∷ []) $
+        by ! (exits ys refl (record { dies = λ h. absurd (omega (arith, leb→le (length ys) i out)) })))
         (λ held. let within = nleb→lt (length ys) i held in
         skips ! $ exec ! C Λ (En ls) body.t-4 (atRet (En ls) Post) $
         assigns ! (bin ! (var ! 6 refl) (lit ! tt) (record { fits = omega (arith, room .1) })) (from ! (stop !)) (store ! 4 refl (tt, record { fits = omega (arith, room .1) })) $
@@ -117,7 +120,8 @@ module _ {M : Type 1} (𝓤 : URA M) (H : Heap 𝓤) (A : Atoms 𝓤) (W : Given
         -- [rows[i]; what it owns; the other rows; what is kept of the slice; the locals]
         assigns ! (of-opd ! (lit ! tt)) (from ! (hop ! (look ! 4 refl) (fld ! refl (stop !)))) (store-in ! 0 (sub ! 3 refl (whole !)) (tt, record { fits = lit< tt })) $
         row-in ! ys i (gone _) b o within (gone-is _ (lit< tt) was) $
-        closed R.the-row κ q γ b o ! tt (named 0) ys (set ys i (gone _)) (length-set ys i (gone _)) $ fills ! 12 (of-opd ! (unit-lit !)) refl (tt, tt) $
+        closed R.the-row κ q γ b o ! tt (named 0) ys (set ys i (gone _)) (length-set ys i (gone _)) $
+        fills ! 12 (of-opd ! (unit-lit !)) refl (tt, tt) $
         returns ! (look ! 12 refl) $ rotate ! 2 $ frees-all ! body.locals ls (some _ ∷ some _ ∷ some _ ∷ some _ ∷ some _ ∷ some _ ∷ []) $
         by ! (exits (set ys i (gone _)) (length-set ys i (gone _)) (record { dies = row-put ys i (gone _) }))))))
 
