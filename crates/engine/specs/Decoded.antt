@@ -2,11 +2,10 @@
 use Prim.Native.Nat.{ℕ}
 use mathlib.Core.Path.{_≡_, sym, ap, _∙_}
 use mathlib.Core.List.{List}
-use lib.ListN.{length}
 use lib.Seq.{length-take-le}
 use Rattle.scope.specs.declared.Objective.{Objective}
 use Rattle.scope.specs.declared.Refusal.{Refusal}
-use Rattle.model.specs.Answers.{Decoded, EvaluatedAs}
+use Rattle.model.specs.Answers.{EvaluatedAs}
 use Rattle.model.specs.declared.operations.Evaluation.{Evaluation}
 use Rattle.engine.specs.Call.{call, called}
 use Rattle.engine.specs.Operations.{decodeCall, decodedOf}
