@@ -1,5 +1,6 @@
 // Lines of text for answers.
 use libc::STDOUT_FILENO;
+use scope::DecodeAnswer;
 use scope::ScoreAnswer;
 
 fn put(text: &[u8]) {
@@ -28,16 +29,25 @@ fn put_score(file: &[u8], part: &[u8]) {
     }
 }
 
+// The cost of a decoded model and what its part scores, or the refusal.
+fn put_decoded(file: &[u8], part: &[u8], answer: DecodeAnswer) {
+    match answer {
+        DecodeAnswer::Decoded(cost) => {
+            put_pair(b"decoded ", part.len() as u64, cost.0);
+            put_score(file, part);
+        }
+        DecodeAnswer::Refused(f) => put_pair(b"refused ", f.number as u64, f.value),
+    }
+}
+
+// The operation on a file and a model.
+fn put_answer(file: &[u8], bytes: &[u8]) {
+    let d = model::decode(file, bytes);
+    put_decoded(file, d.part, d.answer)
+}
+
 pub fn decode_line(name: &[u8], file: &[u8], bytes: &[u8]) {
     put(name);
-    let mut number: u8 = 0;
-    let mut value: u64 = 0;
-    let part = model::decode(file, bytes, &mut number, &mut value);
-    if number == 0 {
-        put_pair(b"decoded ", part.len() as u64, value);
-        put_score(file, part);
-    } else {
-        put_pair(b"refused ", number as u64, value);
-    }
+    put_answer(file, bytes);
     put(b"\n");
 }

@@ -6,7 +6,8 @@
 // but good pointers. specs/Numbers.antt shows that 0 is returned for an accepted call alone.
 use checker::check;
 use instance::read_instance;
-use model::decode;
+use model::Evaluation;
+use model::evaluate;
 use scope::CheckAnswer;
 use scope::ReadAnswer;
 use scope::Refusal;
@@ -180,16 +181,15 @@ pub extern "C" fn timetable_decode(
     ensures { λ r. ⌜ call r (now (value .exit)) (now (objective .exit))
         ≡ decodeCall (now (file .entry)) (now (model .entry)) (now (objective .entry)) ⌝ }
 {
-    let mut number: u8 = 0;
-    let mut given: u64 = 0;
-    let part = decode(file, model, &mut number, &mut given);
-    if number == 0 {
-        *objective = given;
-        *value = part.len() as u64;
-        return 0;
+    let answer = evaluate(file, model);
+    match answer {
+        Evaluation::Refused(f) => refuse(f, value),
+        Evaluation::Holds(bytes, cost) => {
+            *objective = cost.0;
+            *value = bytes as u64;
+            0
+        }
     }
-    *value = given;
-    number as u32
 }
 
 // What a check answers: the number of steps or a refusal's value goes to *value, and its number is returned.

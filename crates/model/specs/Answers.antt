@@ -79,20 +79,19 @@ pub record EvaluatedAs (s m : List ℕ) (e : Evaluation) : Type 0 where
   pub answer : decodeMeans (partOf e m) (answerOf e) ≡ decodeOf s m
   pub inside : partLength e ≤ length m
 
--- what decoding leaves: the part, 0 and the cost; or an empty part, the number and the value of the refusal
-abbrev pub returned : Answer Decoded → List ℕ × ℕ × ℕ
-returned (answered x) = (x .0, 0, x .1 .0)
-returned (refusal k v) = ([], k, v)
+-- what decoding gives: the part and the cost; or an empty part and the refusal
+abbrev pub returned : Answer Decoded → List ℕ × DecodeAnswer
+returned (answered x) = (x .0, DecodeAnswer.Decoded (x .1))
+returned (refusal k v) = ([], DecodeAnswer.Refused (record { number = k; value = v }))
 
-module _ {s m : List ℕ} {e : Evaluation} (a : EvaluatedAs s m e) where
-  pub decoded-inside : {n : ℕ} {o : Objective} → e ≡ Evaluation.Holds n o → n ≤ length m
-  decoded-inside t = rw t at (a .inside)
+-- the part and the answer of an evaluation are what decoding gives
+as-returned : {s m : List ℕ} (e : Evaluation) → EvaluatedAs s m e → (partOf e m, answerOf e) ≡ returned (decodeOf s m)
+as-returned (Evaluation.Holds n o) h = ap returned (h .answer)
+as-returned (Evaluation.Refused f) h = ap returned (h .answer)
 
-  pub decoded-holds : {n : ℕ} {o : Objective} → e ≡ Evaluation.Holds n o → (take n m, 0, o .0) ≡ returned (decodeOf s m)
-  decoded-holds t = ap returned (rw t at (a .answer))
-
-  pub decoded-refused : {f : Refusal} → e ≡ Evaluation.Refused f → ([], f .number, f .value) ≡ returned (decodeOf s m)
-  decoded-refused t = ap returned (rw t at (a .answer))
+pub decoded-as : {s m : List ℕ} {e : Evaluation} {p : List ℕ} {a : DecodeAnswer} → EvaluatedAs s m e → p ≡ partOf e m → a ≡ answerOf e
+    → (p, a) ≡ returned (decodeOf s m)
+decoded-as {e = e} h f g = rw (f, g) (as-returned e h)
 
 -- what is asked of a model once the file is sized
 abbrev ofModel : List ℕ → Instance → Answer Decoded

@@ -1,34 +1,29 @@
--- Demand 2 of the operation: of what it leaves, as its contract says it.
+-- Demand 2 of the operation: of what it gives, as its contract says it.
 use Prim.Native.Nat.{ℕ, _≤_}
 use mathlib.Core.Path.{_≡_, sym, ap, _∙_}
-use mathlib.Core.Bool.{Bool, true, false}
 use mathlib.Core.List.{List, []}
-use mathlib.Core.Option.{Option, none, some}
 use native.Mathlib.Omega.{arith}
-use lib.Dec.{eqb}
-use lib.ListN.{length}
-use borrow.Author.Tests.{le-leb}
-use Rattle.scope.specs.Parsed.{Answer, answered, refusal, provided}
+use Rattle.scope.specs.Parsed.{Answer, answered, refusal}
 use Rattle.scope.specs.Instance.{Instance}
-use Rattle.scope.specs.Cnf.{bit}
-use Rattle.scope.specs.Score.{firstAbove, unlessFound}
-use Rattle.scope.specs.Formula.{variables, hardOf, mostVariables}
-use Rattle.scope.specs.Operations.{scoreOf, lowestFalse, part, falsifiedSoft, decodeOf}
+use Rattle.scope.specs.Formula.{variables, mostVariables}
+use Rattle.scope.specs.Operations.{scoreOf, part, falsifiedSoft, decodeOf}
 use Rattle.scope.specs.Answers.{scoreMeans}
 use Rattle.scope.specs.Demands.{Accepted, KeepsHard, Model, OneToOne}
 use Rattle.scope.specs.declared.Infeasibility.{Infeasibility}
 use Rattle.scope.specs.declared.Objective.{Objective}
+use Rattle.scope.specs.declared.Refusal.{Refusal}
 use Rattle.scope.specs.declared.ScoreAnswer.{ScoreAnswer}
+use Rattle.scope.specs.declared.DecodeAnswer.{DecodeAnswer}
 use Rattle.theory.specs.Demands.{demand2}
 use Rattle.model.specs.Answers.{Decoded, returned}
 
--- what the contract of decode says: the part that it returns, and what it leaves in *number and *value
-abbrev pub Leaves : (file m p : List ℕ) (number value : ℕ) → Type 0
-Leaves file m p number value = (p, number, value) ≡ returned (decodeOf file m)
+-- what the contract of decode says: the part that it returns, and the answer beside it
+abbrev pub Leaves : (file m p : List ℕ) (answer : DecodeAnswer) → Type 0
+Leaves file m p answer = (p, answer) ≡ returned (decodeOf file m)
 
 -- a model that is decoded: a part p at a cost
 abbrev pub Decodes : List ℕ → List ℕ → List ℕ → Objective → Type 0
-Decodes file m p cost = Leaves file m p 0 (cost .0)
+Decodes file m p cost = Leaves file m p (DecodeAnswer.Decoded cost)
 
 -- demand 2, for an accepted file within the limit of variables
 pub record Matches (file : List ℕ) (i : Instance) : Type 0 where
@@ -40,34 +35,28 @@ pub record Matches (file : List ℕ) (i : Instance) : Type 0 where
   -- each timetable of infeasibility 0 has a model that is decoded to it, at its objective
   pub every : (t : List ℕ) (cost : Objective) → KeepsHard file t cost → (m : List ℕ) × Decodes file m t cost
   -- a model that is refused is none, and its part is empty
-  pub refused : (m p : List ℕ) (number value : ℕ) → Leaves file m p number value → (number ≡ 0 → ⊥) → (Model i m → ⊥) × (p ≡ [])
+  pub refused : (m p : List ℕ) (f : Refusal) → Leaves file m p (DecodeAnswer.Refused f) → (Model i m → ⊥) × (p ≡ [])
 
 answered-same : {A : Type 0} {x y : A} → answered x ≡ answered y → x ≡ y
 answered-same e = cc
 
--- 0 in *number says that the model was decoded
-number-of : {a : Answer Decoded} {p : List ℕ} {number value : ℕ} → (p, number, value) ≡ returned a → (x : Decoded) → a ≡ answered x → number ≡ 0
-number-of e x t = ap (λ (z : List ℕ × ℕ × ℕ). z .1) (e ∙ ap returned t)
+-- the cost of an answer, 0 if there is none
+abbrev costOf : DecodeAnswer → Objective
+costOf (DecodeAnswer.Decoded cost) = cost
+costOf (DecodeAnswer.Refused f) = record { 0 = 0 }
 
-empty-of : (a : Answer Decoded) {p : List ℕ} {number value : ℕ} → (p, number, value) ≡ returned a → (number ≡ 0 → ⊥) → p ≡ []
-empty-of (answered x) e h = absurd (h (ap (λ (z : List ℕ × ℕ × ℕ). z .1) e))
-empty-of (refusal k v) e h = ap (λ (z : List ℕ × ℕ × ℕ). z .0) e
+-- which answer of the definitions is given
+was-answered : (a : Answer Decoded) {p : List ℕ} {cost : Objective} → (p, DecodeAnswer.Decoded cost) ≡ returned a → a ≡ answered (p, cost)
+was-answered (answered x) e = ap (λ (z : List ℕ × DecodeAnswer). answered (z .0, costOf (z .1))) (sym e)
+was-answered (refusal k v) e = cc (ap (λ (z : List ℕ × DecodeAnswer). z .1) e)
 
-checked : (x : Bool) (o q : Option ℕ) (n : ℕ) (y : Decoded) {p : List ℕ} {cost : Objective}
-    → (p, 0, cost .0) ≡ returned (provided x 10 n (unlessFound 11 o (unlessFound 13 q (answered y))))
-    → provided x 10 n (unlessFound 11 o (unlessFound 13 q (answered y))) ≡ answered (p, cost)
-checked true none none n y e = ap (λ (z : List ℕ × ℕ × ℕ). answered (z .0, record { 0 = z .2 })) (sym e)
-checked true none (some v) n y e = let z : _≡_ {A = ℕ} 0 13 = ap (λ (z : List ℕ × ℕ × ℕ). z .1) e in let f : ⊥ = omega arith in absurd f
-checked true (some v) q n y e = let z : _≡_ {A = ℕ} 0 11 = ap (λ (z : List ℕ × ℕ × ℕ). z .1) e in let f : ⊥ = omega arith in absurd f
-checked false o q n y e = let z : _≡_ {A = ℕ} 0 10 = ap (λ (z : List ℕ × ℕ × ℕ). z .1) e in let f : ⊥ = omega arith in absurd f
+was-refused : (a : Answer Decoded) {p : List ℕ} {f : Refusal} → (p, DecodeAnswer.Refused f) ≡ returned a → ((x : Decoded) → a ≡ answered x → ⊥) × (p ≡ [])
+was-refused (answered x) e = let z : _≡_ {A = ℕ} 0 1 = cc (ap (λ (z : List ℕ × DecodeAnswer). z .1) e) in let f : ⊥ = omega arith in absurd f
+was-refused (refusal k v) e = (λ x t. let z : _≡_ {A = ℕ} 0 1 = cc t in omega arith, ap (λ (z : List ℕ × DecodeAnswer). z .0) e)
 
 module _ (file : List ℕ) (i : Instance) (a : Accepted file i) (l : variables i ≤ mostVariables) where
   decoded : (m p : List ℕ) (cost : Objective) → Decodes file m p cost → decodeOf file m ≡ answered (p, cost)
-  unfolding decodeOf
-  decoded m p cost d =
-      let e = rw (a .parsed, le-leb (variables i) mostVariables l) at d in
-      rw (a .parsed, le-leb (variables i) mostVariables l)
-      (checked (eqb (length m) (variables i)) (firstAbove 0 m) (lowestFalse (bit m) 1 (hardOf i)) (variables i) (part i m, falsifiedSoft i m) e)
+  decoded m p cost d = was-answered (decodeOf file m) d
 
   one : OneToOne file i
   one = demand2 file i a l
@@ -95,9 +84,10 @@ module _ (file : List ℕ) (i : Instance) (a : Accepted file i) (l : variables i
             let o = one .one-model t cost k in
             let c = rw (o .2) at (one .cost (o .0) (o .1)) in
             let f : falsifiedSoft i (o .0) ≡ cost = ap (λ (x : Infeasibility × Objective). x .1) (answered-same (sym c ∙ k)) in
-            (o .0, sym (ap returned (one .decodes (o .0) (o .1)) ∙ rw (o .2, ap (λ (c : Objective). c .0) f)));
-        refused = λ m p number value d h.
-            (λ k. h (number-of d (part i m, falsifiedSoft i m) (one .decodes m k)), empty-of (decodeOf file m) d h);
+            (o .0, sym (ap returned (one .decodes (o .0) (o .1)) ∙ rw (o .2, f)));
+        refused = λ m p f d.
+            let r = was-refused (decodeOf file m) d in
+            (λ k. r .0 (part i m, falsifiedSoft i m) (one .decodes m k), r .1);
       }
 
   -- whoever scores the part gets the same objective

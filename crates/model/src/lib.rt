@@ -4,6 +4,7 @@ mod operations;
 mod run;
 mod size;
 
+pub use operations::Decoding;
 pub use operations::Evaluation;
 pub use operations::decode;
 pub use operations::evaluate;

@@ -3,6 +3,7 @@ use crate::run::truth_of;
 use crate::size::Form;
 use crate::size::form_of;
 use constraint::Head;
+use scope::DecodeAnswer;
 use scope::Objective;
 use scope::Refusal;
 use sink::Sink;
@@ -11,11 +12,12 @@ use sizes::measure;
 use sizing::Size;
 ghost use mathlib.Core.Path.{_≡_};
 ghost use Prim.Native.Nat.{_*_, _≤_};
+ghost use lib.ListN.{length};
 ghost use Rattle.instance.specs.Start.{SizesIn};
 ghost use Rattle.instance.specs.Stores.{Stores};
 ghost use Rattle.sizes.specs.Measured.{SizedBy};
 ghost use Rattle.scope.specs.Operations.{decodeOf};
-ghost use Rattle.model.specs.Answers.{judgedOf, EvaluatedAs, returned};
+ghost use Rattle.model.specs.Answers.{judgedOf, EvaluatedAs, partOf, partLength, answerOf, returned};
 
 // "a hard clause is false"
 const CLAUSE_FALSE: u8 = 13;
@@ -102,22 +104,39 @@ pub fn evaluate(file: &[u8], model: &[u8]) -> Evaluation
     }
 }
 
-// The part of the model that holds Y and S, its first 2 × E × T bytes, with 0 in *number and the cost in *value; or an empty
-// part, with the number and the value of the refusal.
-pub fn decode<'a>(file: &[u8], model: &'a [u8], number: &mut u8, value: &mut u64) -> &'a [u8]
-    ensures { λ r. ⌜ (now r, now (number .exit), now (value .exit)) ≡ returned (decodeOf (now (file .entry)) (now (model .entry))) ⌝ }
+// What decoding gives: the part of the model that holds Y and S, with its cost; or an empty part, with the refusal.
+pub struct Decoding<'a> {
+    pub part: &'a [u8],
+    pub answer: DecodeAnswer,
+}
+
+// The first 2 × E × T bytes of the model, or none.
+fn part_of<'a>(model: &'a [u8], e: Evaluation) -> &'a [u8]
+    requires { ⌜ partLength e ≤ length (now model) ⌝ }
+    ensures { λ r. ⌜ now r ≡ partOf e (now (model .entry)) ⌝ }
+{
+    match e {
+        Evaluation::Holds(n, _) => &model[..n],
+        Evaluation::Refused(_) => &model[..0],
+    }
+}
+
+// The cost, or the refusal.
+fn answer_of(e: Evaluation) -> DecodeAnswer
+    ensures { λ r. ⌜ r ≡ answerOf e ⌝ }
+{
+    match e {
+        Evaluation::Holds(_, cost) => DecodeAnswer::Decoded(cost),
+        Evaluation::Refused(f) => DecodeAnswer::Refused(f),
+    }
+}
+
+// The part of the model that holds Y and S with the cost, or refusals 1 to 6, 8, 10, 11 and 13.
+pub fn decode<'a>(file: &[u8], model: &'a [u8]) -> Decoding<'a>
+    ensures { λ r. ⌜ (now (r .part), r .answer) ≡ returned (decodeOf (now (file .entry)) (now (model .entry))) ⌝ }
 {
     let e = evaluate(file, model);
-    match e {
-        Evaluation::Holds(n, cost) => {
-            *number = 0;
-            *value = cost.0;
-            &model[..n]
-        }
-        Evaluation::Refused(f) => {
-            *number = f.number;
-            *value = f.value;
-            &model[..0]
-        }
-    }
+    let part = part_of(model, e);
+    let answer = answer_of(e);
+    Decoding { part, answer }
 }

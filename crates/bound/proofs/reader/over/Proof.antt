@@ -37,9 +37,9 @@ use denote.Enum.Laws as EL
 use Rattle.number.proofs.Number as S
 use Rattle.number.proofs.Number.Laws as S′
 use Rattle.store.proofs.Walk.{dropped, allocs-all, frees-all, var, fills}
-use Rattle.store.proofs.Slices.{at-list}
+use Rattle.store.proofs.Slices.{at-list, Bytes}
 use Rattle.bound.specs.declared.reader.Reader.{Reader}
-use Rattle.bound.proofs.Readers.{Bytes, together}
+use Rattle.bound.proofs.Readers.{together}
 use Rattle.bound.proofs.reader.Reader as D
 use Rattle.bound.proofs.reader.Reader.Laws as D′
 use Rattle.bound.proofs.reader.over.Key.{name as #over}
