@@ -1,0 +1,20 @@
+//! The engine's operations.
+//!
+//! Each function takes the bytes of the instance file first, lends the engine
+//! what it asks for, and answers its result or the first refusal. `call` has
+//! the C functions themselves, for callers that lend their own buffers. Without
+//! the feature `engine` there are the types of the answers alone.
+
+mod answers;
+#[cfg(feature = "engine")]
+pub mod call;
+#[cfg(feature = "engine")]
+mod operations;
+#[cfg(feature = "engine")]
+mod store;
+
+pub use answers::{FormulaSize, Infeasibility, Objective, Refusal, Score, Summary};
+#[cfg(feature = "engine")]
+pub use operations::{check, decode, read, same_sheet, score, sizes, text, text_size};
+#[cfg(feature = "engine")]
+pub use store::Store;

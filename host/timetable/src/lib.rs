@@ -1,0 +1,7 @@
+//! The timetable engine behind safe functions, and the command over it.
+
+#[cfg(feature = "engine")]
+pub mod command;
+pub mod engine;
+pub mod number;
+pub mod proof;
