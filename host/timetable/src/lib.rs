@@ -6,3 +6,4 @@ pub mod engine;
 pub mod instance;
 pub mod number;
 pub mod proof;
+pub mod school;
