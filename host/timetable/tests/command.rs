@@ -4,7 +4,7 @@ use std::fs;
 use std::io::Write;
 use std::path::{Path, PathBuf};
 use std::process::{Command, Stdio};
-use timetable::command::refusals;
+use timetable::command::frame::refusals;
 use timetable::engine::Refusal;
 use timetable::number::write_number;
 
@@ -234,13 +234,13 @@ fn same_compares_the_taken_bytes() {
     let instance = file("two-times", &hex("02 01 00 01 00 00 00"));
     let early = file("early", &[1, 0, 1, 0]);
     let late = file("late", &[0, 1, 0, 1]);
-    for (words, printed) in [
-        ([&early, &early], "same\n"),
-        ([&early, &late], "different\n"),
+    for (words, printed, status) in [
+        ([&early, &early], "same\n", 0),
+        ([&early, &late], "different\n", 1),
     ] {
         let found = run(&["same", &instance, words[0], words[1]]);
         assert_eq!(found.printed, printed);
-        assert_eq!((found.said.as_str(), found.status), ("", 0));
+        assert_eq!((found.said.as_str(), found.status), ("", status));
     }
     let bad = file("bad", &[0, 1, 0, 7]);
     for (words, name) in [([&bad, &early], "bad"), ([&early, &bad], "bad")] {
@@ -326,8 +326,8 @@ fn a_timetable_that_cannot_be_written_is_told() {
 #[test]
 fn check_says_no_timetable_for_a_refutation() {
     for (name, bound, printed) in [
-        ("toy", "3", "no timetable\nsteps 136\n"),
-        ("small", "10", "no timetable\nsteps 539\n"),
+        ("toy", "3", "no timetable\nbound 3\nsteps 136\n"),
+        ("small", "10", "no timetable\nbound 10\nsteps 539\n"),
     ] {
         let [instance, proof] = ["instance", "proof"].map(|kind| school(&format!("{name}.{kind}")));
         let found = run(&["check", &instance, bound, &proof]);
@@ -397,7 +397,7 @@ fn the_five_days_end_with_a_price_that_no_timetable_undercuts() {
     assert!(output.status.success(), "{printed}");
     for line in [
         "    objective 11\n",
-        "    no timetable\n    steps 539\n",
+        "    no timetable\n    bound 10\n    steps 539\n",
         "    refused 14 539\n",
         "costs 11, and every other that keeps the hard constraints costs 11 or more.\n",
     ] {
@@ -410,7 +410,7 @@ fn every_refusal_is_told_in_words_with_its_numbers() {
     let mut told = Vec::new();
     for number in 1..=18 {
         let value = 1_000 + u64::from(number);
-        let message = refusals::message(Refusal { number, value }, &[]);
+        let message = refusals::in_words(Refusal { number, value }, &[]);
         assert!(message.starts_with(&format!("refusal {number} {value}: ")));
         assert!(message.contains(refusals::words(number)), "{message}");
         assert!(!message.contains("{}"), "{message}");
@@ -463,11 +463,13 @@ fn help_lists_the_refusals_of_an_operation() {
 #[test]
 fn wrong_usage_is_told_and_prints_nothing() {
     let twice = "timetable same: standard input can be read once only\n";
-    let missing = school("no.instance");
     let toy = school("toy.instance");
     for (words, said) in [
         (vec![], "timetable: a subcommand is missing\n"),
-        (vec!["solve"], "timetable: there is no subcommand 'solve'\n"),
+        (
+            vec!["solved"],
+            "timetable: there is no subcommand 'solved'\n",
+        ),
         (
             vec!["read"],
             "timetable read: 1 operand is wanted, 0 given\n",
@@ -480,19 +482,38 @@ fn wrong_usage_is_told_and_prints_nothing() {
             vec!["read", "--fast", &toy],
             "timetable read: there is no option '--fast'\n",
         ),
-        (vec!["read", &missing], "timetable read: "),
         (vec!["same", &toy, "-", "-"], twice),
         (
             vec!["decode", &toy, &toy, "--out"],
-            "timetable decode: the option '--out' wants a file\n",
+            "timetable decode: the option '--out' wants a FILE\n",
         ),
         (
-            vec!["decode", &toy, &toy, "--out", "-"],
-            "timetable decode: the option '--out' wants a file\n",
+            vec!["decode", &toy, &toy, "-o"],
+            "timetable decode: the option '-o' wants a FILE\n",
         ),
         (
-            vec!["text", &toy, "--out", "text"],
-            "timetable text: there is no option '--out'\n",
+            vec!["decode", "-o", "a", &toy, "--out=b", &toy],
+            "timetable decode: the option '--out' is given twice\n",
+        ),
+        (
+            vec!["read", "--json", "--json", &toy],
+            "timetable read: the option '--json' is given twice\n",
+        ),
+        (
+            vec!["read", "--json=yes", &toy],
+            "timetable read: the option '--json' has no value\n",
+        ),
+        (
+            vec!["read", &toy, "--out", "text"],
+            "timetable read: there is no option '--out'\n",
+        ),
+        (
+            vec!["completion", "csh"],
+            "timetable completion: 'csh' is none of: ",
+        ),
+        (
+            vec!["help", "solved"],
+            "timetable help: there is no subcommand 'solved'\n",
         ),
         (
             vec!["sizes", &toy, "-1"],
@@ -512,7 +533,34 @@ fn wrong_usage_is_told_and_prints_nothing() {
         assert!(found.said.starts_with(said), "{}", found.said);
         assert!(found.said.contains("Usage: timetable "), "{}", found.said);
     }
-    assert!(run(&["read", &missing]).said.contains(&missing));
+}
+
+#[test]
+fn a_file_that_cannot_be_read_is_told_without_the_usage() {
+    let missing = school("no.instance");
+    let found = run(&["read", &missing]);
+    assert_eq!((found.printed.as_str(), found.status), ("", 2));
+    let said = format!("timetable read: {missing}: ");
+    assert!(found.said.starts_with(&said), "{}", found.said);
+    assert_eq!(found.said.lines().count(), 1);
+}
+
+#[test]
+fn no_more_is_read_than_can_be_meant() {
+    for (words, said) in [
+        (
+            vec!["read", "/dev/zero"],
+            "timetable read: /dev/zero: longer than 16777216 bytes",
+        ),
+        (
+            vec!["decode", &school("toy.instance"), "/dev/zero"],
+            "timetable decode: /dev/zero: longer than 268435456 bytes",
+        ),
+    ] {
+        let found = run(&words);
+        assert_eq!((found.printed.as_str(), found.status), ("", 2));
+        assert!(found.said.starts_with(said), "{}", found.said);
+    }
 }
 
 #[test]
