@@ -1,10 +1,9 @@
 //! A timetable as one HTML page that needs no other file and no script.
 
 use super::charges::{Charge, Totals};
-use super::grid::{Cell, Grid, Row};
+use super::grid::{Cell, Grid, Mark, Row};
 use super::text::{amount, others, weight};
 use super::View;
-use crate::school::constraint_line;
 
 const STYLE: &str = include_str!("page.css");
 
@@ -55,9 +54,13 @@ fn section(view: &View, grid: &Grid, at: usize) -> String {
     let rows: String = (0..grid.rows.len())
         .map(|row| table_row(view, grid, row))
         .collect();
-    let broken = grid.broken.iter().map(|&number| {
-        let mark = mark(view, number);
-        format!("<li>{mark} {}</li>\n", escaped(&line(view, number)))
+    let broken = grid.broken.iter().map(|&constraint| {
+        let first = true;
+        let mark = mark(view, Mark { constraint, first });
+        format!(
+            "<li>{mark} {}</li>\n",
+            escaped(&view.constraint_line(constraint))
+        )
     });
     let broken: String = broken.collect();
     let broken = match broken.is_empty() {
@@ -110,50 +113,53 @@ fn table_cell(view: &View, grid: &Grid, cell: &Cell, row: usize, column: usize) 
         1 => "<td>".to_string(),
         _ => format!("<td rowspan=\"{span}\">"),
     };
+    // What the resource breaks stands with the last lesson, or alone.
+    let of_resource = all_marks(view, cells.iter().flat_map(|cell| &cell.marks));
     for (at, placed) in cell.lessons.iter().enumerate() {
-        let marks = cells.iter().flat_map(|cell| &cell.lessons[at].broken);
+        let marks = cells.iter().flat_map(|cell| &cell.lessons[at].marks);
+        let is_last = at + 1 == cell.lessons.len();
         let others = others(view, grid, placed.lesson).join(", ");
         // Hues a golden angle apart stay apart, however many there are.
         let hue = placed.lesson * 137 % 360;
         text += &format!(
-            "<div class=\"lesson\" style=\"--hue:{hue}\"><b>{}</b><span>{}</span>{}</div>",
+            "<div class=\"lesson\" style=\"--hue:{hue}\"><b>{}</b><span>{}</span>{}{}</div>",
             escaped(&view.school.names.lessons[placed.lesson]),
             escaped(&others),
             all_marks(view, marks),
+            if is_last { &of_resource } else { "" },
         );
     }
-    text += &all_marks(view, cells.iter().flat_map(|cell| &cell.broken));
+    if cell.lessons.is_empty() {
+        text += &of_resource;
+    }
     text + "</td>"
 }
 
-/// A mark for each constraint, each once.
-fn all_marks<'a>(view: &View, numbers: impl Iterator<Item = &'a usize>) -> String {
-    let mut numbers: Vec<usize> = numbers.copied().collect();
-    numbers.sort_unstable();
-    numbers.dedup();
-    numbers.iter().map(|&number| mark(view, number)).collect()
+/// The marks of a cell, each constraint once.
+fn all_marks<'a>(view: &View, marks: impl Iterator<Item = &'a Mark>) -> String {
+    let mut marks: Vec<Mark> = marks.copied().collect();
+    // The first mark of a constraint, which shows its cost, before the others.
+    marks.sort_unstable_by_key(|mark| (mark.constraint, !mark.first));
+    marks.dedup_by_key(|mark| mark.constraint);
+    marks.iter().map(|&one| mark(view, one)).collect()
 }
 
 /// The number of a broken constraint and what it costs, linked to its row.
-fn mark(view: &View, number: usize) -> String {
-    let charge = &view.charges[number];
+fn mark(view: &View, mark: Mark) -> String {
+    let charge = &view.charges[mark.constraint];
     let class = if charge.is_hard() {
         "mark hard"
     } else {
         "mark"
     };
+    let cost = match mark.first {
+        true => format!(": {}", amount(charge)),
+        false => String::new(),
+    };
     format!(
-        "<a class=\"{class}\" href=\"#c{0}\" title=\"{1}\">{0}: {2}</a>",
-        number + 1,
-        escaped(&line(view, number)),
-        amount(charge),
-    )
-}
-
-fn line(view: &View, number: usize) -> String {
-    constraint_line(
-        &view.school.names,
-        &view.school.instance.constraints[number],
+        "<a class=\"{class}\" href=\"#c{0}\" title=\"{1}\">{0}{cost}</a>",
+        mark.constraint + 1,
+        escaped(&view.constraint_line(mark.constraint)),
     )
 }
 
@@ -194,7 +200,7 @@ fn charge_row(view: &View, number: usize, charge: &Charge) -> String {
     format!(
         "<tr id=\"c{0}\"><th scope=\"row\">{0}</th><td>{1}</td><td>{2}</td><td>{3}</td><td>{4}</td></tr>\n",
         number + 1,
-        escaped(&line(view, number)),
+        escaped(&view.constraint_line(number)),
         charge.deviation,
         weight(charge),
         charge.amount(),

@@ -12,12 +12,12 @@ mod text;
 pub use charges::{charges, Charge, Place, Subject, Totals};
 pub use csv::{charges_csv, lessons_csv};
 pub use diff::{diff, Diff, Moved};
-pub use grid::{grids, Cell, Grid, Placed, Row};
+pub use grid::{grids, Cell, Grid, Mark, Placed, Row};
 pub use html::page;
 pub use sheet::Sheet;
 pub use text::{charges_text, diff_text, grids_text};
 
-use crate::school::School;
+use crate::school::{constraint_line, School};
 
 /// A school with one of its timetables.
 pub struct View<'a> {
@@ -47,5 +47,11 @@ impl<'a> View<'a> {
     pub fn broken(&self) -> impl Iterator<Item = (usize, &Charge)> {
         let all = self.charges.iter().enumerate();
         all.filter(|(_, charge)| charge.deviation > 0)
+    }
+
+    /// The constraint `number`, from 0, in the text form.
+    pub fn constraint_line(&self, number: usize) -> String {
+        let School { instance, names } = self.school;
+        constraint_line(names, &instance.constraints[number])
     }
 }
