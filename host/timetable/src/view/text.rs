@@ -161,14 +161,6 @@ pub fn diff_text(first: &View, second: &View, diff: &Diff) -> String {
         return "nothing moved\n".to_string();
     }
     let names = &first.school.names;
-    let times = names.times();
-    let list = |blocks: &[std::ops::Range<usize>]| {
-        let block = |block: &std::ops::Range<usize>| match block.len() {
-            1 => times[block.start].clone(),
-            _ => format!("{} to {}", times[block.start], times[block.end - 1]),
-        };
-        blocks.iter().map(block).collect::<Vec<_>>().join(", ")
-    };
     let mut text = format!("moved {}\n", diff.moved.len());
     for Moved {
         lesson,
@@ -177,7 +169,8 @@ pub fn diff_text(first: &View, second: &View, diff: &Diff) -> String {
     } in &diff.moved
     {
         let name = &names.lessons[*lesson];
-        text += &format!("  {name}: {} -> {}\n", list(left), list(entered));
+        let [from, to] = [left, entered].map(|blocks| first.blocks_line(blocks));
+        text += &format!("  {name}: {from} -> {to}\n");
     }
     text += &format!("charged otherwise {}\n", diff.charged.len());
     for &number in &diff.charged {
