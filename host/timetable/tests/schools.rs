@@ -264,16 +264,8 @@ fn diff_says_what_moved() {
     let diff = |second: &str| run(&folder, &["diff", "a.instance", "a.timetable", second]);
     let same = diff("a.timetable");
     assert_eq!((same.text().as_str(), same.status), ("nothing moved\n", 0));
-    let mut table = fs::read(folder.join("a.timetable")).expect("a timetable");
-    // Nature-Upper, the sixth lesson, moves from Mon.4 to Thu.3.
-    const TIMES: usize = 20;
-    const LESSONS: usize = 9;
-    for half in [0, LESSONS * TIMES] {
-        table[half + 5 * TIMES + 3] = 0;
-        table[half + 5 * TIMES + 14] = 1;
-    }
-    fs::write(folder.join("b.timetable"), table).expect("a file");
-    let moved = diff("b.timetable");
+    let second = examples().join("village-moved.timetable");
+    let moved = diff(&second.to_string_lossy());
     assert_eq!((moved.text(), moved.status), (expected("moved.txt"), 1));
     fs::write(folder.join("c.timetable"), [1; 3]).expect("a file");
     let refused = diff("c.timetable");
@@ -302,12 +294,23 @@ fn tags(page: &str) -> Vec<String> {
     tags
 }
 
-/// What a reader sees of a page: the text between the tags, a line each.
+/// What a reader sees of a page: the text between the tags, a row of a table on
+/// a line.
 fn visible(page: &str) -> String {
     let body = page.split_once("<body>").expect("a body").1;
-    let parts = body.split('<').filter_map(|part| part.split_once('>'));
-    let lines = parts
-        .map(|(_, text)| text.trim())
-        .filter(|text| !text.is_empty());
-    lines.map(|line| format!("{line}\n")).collect()
+    let mut text = String::new();
+    for (tag, after) in body.split('<').filter_map(|part| part.split_once('>')) {
+        let name = tag.split(' ').next().expect("a tag's name");
+        text += match name {
+            "/td" | "/th" => " | ",
+            "/tr" | "/p" | "/li" | "/h1" | "/h2" | "/caption" | "/summary" => "\n",
+            "span" | "/b" | "/a" | "/em" => " ",
+            _ => "",
+        };
+        text += after.trim_matches('\n');
+    }
+    let lines = text
+        .lines()
+        .map(|line| line.split_whitespace().collect::<Vec<_>>().join(" "));
+    lines.map(|line| line + "\n").collect()
 }
