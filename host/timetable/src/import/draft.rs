@@ -97,7 +97,6 @@ impl Draft {
         self.resource_of.entry(events.to_vec()).or_insert(resource);
     }
 
-
     /// Adds all the wishes, or none of them and says why.
     pub fn add(&mut self, weight: Weight, wishes: &[Wish]) -> Result<(), String> {
         let mark = Mark {
@@ -105,7 +104,9 @@ impl Draft {
             constraints: self.instance.constraints.len(),
             resources: self.instance.resources,
         };
-        let added = wishes.iter().try_for_each(|wish| self.add_one(weight, wish));
+        let added = wishes
+            .iter()
+            .try_for_each(|wish| self.add_one(weight, wish));
         if added.is_err() {
             self.back_to(mark);
         }
@@ -113,13 +114,18 @@ impl Draft {
     }
 
     fn back_to(&mut self, mark: Mark) {
-        let Mark { groups, constraints, resources } = mark;
+        let Mark {
+            groups,
+            constraints,
+            resources,
+        } = mark;
         self.instance.groups.truncate(groups);
         self.instance.constraints.truncate(constraints);
         self.instance.resources = resources;
         self.labels.resources.truncate(resources);
         self.group_of.retain(|_, &mut group| group < groups);
-        self.resource_of.retain(|_, &mut resource| resource < resources);
+        self.resource_of
+            .retain(|_, &mut resource| resource < resources);
         for event in &mut self.instance.events {
             event.resources.retain(|&resource| resource < resources);
         }
@@ -158,31 +164,60 @@ impl Draft {
     fn kind(&mut self, wish: &Wish) -> Result<Kind, String> {
         let most = |hi: &usize| (*hi).min(LARGEST_BOUND_OF_COUNT as usize);
         Ok(match wish {
-            Wish::Clash(who) => Kind::Clash { resource: self.who(who)? },
+            Wish::Clash(who) => Kind::Clash {
+                resource: self.who(who)?,
+            },
             Wish::Unavailable(who, times) => {
                 let (resource, group) = (self.who(who)?, self.group(*times)?);
                 Kind::Unavailable { resource, group }
             }
             Wish::Preferred(event, times) => {
                 let group = self.group(*times)?;
-                Kind::PreferredTimes { event: *event, group }
+                Kind::PreferredTimes {
+                    event: *event,
+                    group,
+                }
             }
-            Wish::Split(event, lo, hi) => Kind::Split { event: *event, lo: *lo, hi: most(hi) },
+            Wish::Split(event, lo, hi) => Kind::Split {
+                event: *event,
+                lo: *lo,
+                hi: most(hi),
+            },
             Wish::Spread(events, times, lo, hi) => {
                 let (events, group) = (ascending(events), self.group(*times)?);
-                Kind::Spread { events, group, lo: *lo, hi: most(hi) }
+                Kind::Spread {
+                    events,
+                    group,
+                    lo: *lo,
+                    hi: most(hi),
+                }
             }
             Wish::Busy(who, times, lo, hi) => {
                 let (resource, group) = (self.who(who)?, self.group(*times)?);
-                Kind::BusyLimit { resource, group, lo: *lo, hi: most(hi) }
+                Kind::BusyLimit {
+                    resource,
+                    group,
+                    lo: *lo,
+                    hi: most(hi),
+                }
             }
             Wish::Cluster(who, sets, lo, hi) => {
                 let (resource, groups) = (self.who(who)?, self.group_list(sets)?);
-                Kind::Cluster { resource, groups, lo: *lo, hi: most(hi) }
+                Kind::Cluster {
+                    resource,
+                    groups,
+                    lo: *lo,
+                    hi: most(hi),
+                }
             }
             Wish::Idle(who, sets, lo, hi) => {
                 let (resource, groups) = (self.who(who)?, self.group_list(sets)?);
-                Kind::Idle { resource, groups, lo: *lo, hi: most(hi) }
+                Kind::Idle {
+                    resource,
+                    groups,
+                    lo: *lo,
+                    hi: most(hi),
+                }
             }
         })
     }
@@ -195,7 +230,9 @@ impl Draft {
         if let Some(&resource) = self.resource_of.get(&events) {
             return Ok(resource);
         }
-        let names = events.iter().map(|&event| self.labels.events[event].as_str());
+        let names = events
+            .iter()
+            .map(|&event| self.labels.events[event].as_str());
         let name = format!("set {}", names.collect::<Vec<_>>().join(" / "));
         let resource = self.resource(Sort::Other, name).ok_or_else(|| {
             format!("its set of events needs a resource, and {MOST_RESOURCES} are the most")
@@ -242,7 +279,9 @@ impl Draft {
             ("events", events, MOST_EVENTS),
             ("resources", resources, MOST_RESOURCES),
         ];
-        let over = limits.into_iter().find(|&(_, count, most)| count > most as usize);
+        let over = limits
+            .into_iter()
+            .find(|&(_, count, most)| count > most as usize);
         match over {
             Some((name, count, most)) => Some(format!("{count} {name}, {most} are the most")),
             None if times == 0 => Some("no time".to_string()),

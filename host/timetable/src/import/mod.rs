@@ -11,6 +11,7 @@ pub mod fet;
 mod remark;
 mod times;
 mod writer;
+pub mod xhstt;
 pub mod xml;
 
 pub use draft::{Labels, Sort};

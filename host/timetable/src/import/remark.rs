@@ -26,7 +26,9 @@ impl fmt::Display for Remark {
             Fate::Weakened => "weakened",
             Fate::Dropped => "dropped",
         };
-        let Remark { line, item, reason, .. } = self;
+        let Remark {
+            line, item, reason, ..
+        } = self;
         write!(out, "{line}: {fate}: {item}: {reason}")
     }
 }
@@ -94,6 +96,9 @@ pub fn number(element: &Element, field: &str) -> Result<usize, Fault> {
     let text = element.field(field);
     text.parse().map_err(|_| {
         let child = element.child(field).unwrap_or(element);
-        Fault::at(child, format!("'{text}' is no number for {field} of {}", element.name))
+        Fault::at(
+            child,
+            format!("'{text}' is no number for {field} of {}", element.name),
+        )
     })
 }

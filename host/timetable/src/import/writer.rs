@@ -19,7 +19,10 @@ pub struct Imported {
 
 impl Imported {
     pub fn count(&self, fate: Fate) -> usize {
-        self.remarks.iter().filter(|remark| remark.fate == fate).count()
+        self.remarks
+            .iter()
+            .filter(|remark| remark.fate == fate)
+            .count()
     }
 }
 
@@ -45,17 +48,34 @@ pub struct Writer {
 
 impl Writer {
     pub fn over(draft: Draft) -> Writer {
-        Writer { draft, carried: 0, remarks: Vec::new(), waiting: Vec::new() }
+        Writer {
+            draft,
+            carried: 0,
+            remarks: Vec::new(),
+            waiting: Vec::new(),
+        }
     }
 
     /// Notes an item that has no counterpart.
     pub fn drop(&mut self, line: usize, item: String, reason: String) {
-        self.remarks.push(Remark { line, item, fate: Fate::Dropped, reason });
+        self.remarks.push(Remark {
+            line,
+            item,
+            fate: Fate::Dropped,
+            reason,
+        });
     }
 
     /// Writes an item's counterpart, or notes that a limit is in the way.
     pub fn carry(&mut self, carried: Carried) {
-        let Carried { line, item, weight, wishes, extras, weaker } = carried;
+        let Carried {
+            line,
+            item,
+            weight,
+            wishes,
+            extras,
+            weaker,
+        } = carried;
         if let Err(reason) = self.draft.add(weight, &wishes) {
             return self.drop(line, item, reason);
         }
@@ -67,7 +87,12 @@ impl Writer {
     }
 
     fn weaken(&mut self, line: usize, item: String, reason: String) {
-        self.remarks.push(Remark { line, item, fate: Fate::Weakened, reason });
+        self.remarks.push(Remark {
+            line,
+            item,
+            fate: Fate::Weakened,
+            reason,
+        });
     }
 
     pub fn finish(mut self) -> Imported {

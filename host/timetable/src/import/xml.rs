@@ -336,7 +336,11 @@ impl<'a> Reader<'a> {
     fn reference(&mut self) -> Result<char, XmlError> {
         const LONGEST: usize = 10;
         let start = *self;
-        let end = self.text.bytes().take(LONGEST).position(|byte| byte == b';');
+        let end = self
+            .text
+            .bytes()
+            .take(LONGEST)
+            .position(|byte| byte == b';');
         let Some(end) = end else {
             return Err(start.error("'&' begins no reference; written for itself it is '&amp;'"));
         };
@@ -350,7 +354,10 @@ impl<'a> Reader<'a> {
             "apos" => Some('\''),
             _ => None,
         };
-        let number = match name.strip_prefix('#').map(|digits| (digits, digits.strip_prefix('x'))) {
+        let number = match name
+            .strip_prefix('#')
+            .map(|digits| (digits, digits.strip_prefix('x')))
+        {
             Some((_, Some(digits))) => u32::from_str_radix(digits, 16).ok(),
             Some((digits, None)) => digits.parse().ok(),
             None => None,
@@ -395,33 +402,59 @@ mod tests {
     fn faults_have_line_and_column() {
         let cases: [(&[u8], usize, usize, &str); 12] = [
             (b"", 1, 1, "an element is expected"),
-            (b"<a>\n <b></a>", 2, 7, "'</b>' is expected, for the element of line 2"),
+            (
+                b"<a>\n <b></a>",
+                2,
+                7,
+                "'</b>' is expected, for the element of line 2",
+            ),
             (b"<a>\n", 2, 1, "the file ends inside an element"),
             (b"<a></a> x", 1, 9, "text after the root element"),
             (b"<a>\xff</a>", 1, 4, "a byte that is not UTF-8"),
             (b"<a b=1/>", 1, 6, "a value in quotation marks is expected"),
             (b"<a b='1' b='2'/>", 1, 10, "a second attribute 'b'"),
             (b"<a>&nbsp;</a>", 1, 4, "'&nbsp;' stands for no character"),
-            (b"<a>b & c, and more</a>", 1, 6, "'&' begins no reference; written for itself it is '&amp;'"),
+            (
+                b"<a>b & c, and more</a>",
+                1,
+                6,
+                "'&' begins no reference; written for itself it is '&amp;'",
+            ),
             (b"<a>\n<!-- x</a>", 2, 1, "this comment does not end"),
-            (b"<!DOCTYPE a [<!ENTITY b 'c'>]><a/>", 1, 1, "a document type with declarations is not read"),
+            (
+                b"<!DOCTYPE a [<!ENTITY b 'c'>]><a/>",
+                1,
+                1,
+                "a document type with declarations is not read",
+            ),
             ("<a>é<1/></a>".as_bytes(), 1, 6, "a name is expected"),
         ];
         for (bytes, line, column, message) in cases {
             let message = message.to_string();
-            assert_eq!(read(bytes), Err(XmlError { line, column, message }));
+            assert_eq!(
+                read(bytes),
+                Err(XmlError {
+                    line,
+                    column,
+                    message
+                })
+            );
         }
     }
 
     #[test]
     fn deep_nesting_is_refused() {
         let deep = "<a>".repeat(1_000_000);
-        assert!(read(deep.as_bytes()).unwrap_err().message.contains("nested deeper"));
+        assert!(read(deep.as_bytes())
+            .unwrap_err()
+            .message
+            .contains("nested deeper"));
     }
 
     #[test]
     fn no_damage_panics() {
-        let file = b"<?xml version='1.0'?><a b=\"&#65;\"><!-- c --><d>&lt;<![CDATA[e]]></d><f/></a>";
+        let file =
+            b"<?xml version='1.0'?><a b=\"&#65;\"><!-- c --><d>&lt;<![CDATA[e]]></d><f/></a>";
         for cut in 0..file.len() {
             let _ = read(&file[..cut]);
             for byte in [0, b'<', b'>', b'&', b';', b'"', 0x80, 0xc3] {
@@ -436,6 +469,9 @@ mod tests {
     fn escaped_text_reads_back() {
         let text = "a < b & \"c\" > 'd'";
         let root = read(format!("<a b=\"{0}\">{0}</a>", escape(text)).as_bytes()).unwrap();
-        assert_eq!((root.text.as_str(), root.attribute("b")), (text, Some(text)));
+        assert_eq!(
+            (root.text.as_str(), root.attribute("b")),
+            (text, Some(text))
+        );
     }
 }

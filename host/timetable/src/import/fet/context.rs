@@ -23,11 +23,17 @@ pub struct Reading {
 
 impl Reading {
     pub fn wishes(wishes: Vec<Wish>) -> Reading {
-        Reading { wishes, ..Reading::default() }
+        Reading {
+            wishes,
+            ..Reading::default()
+        }
     }
 
     pub fn starts(starts: Vec<(usize, TimeSet)>) -> Reading {
-        Reading { starts, ..Reading::default() }
+        Reading {
+            starts,
+            ..Reading::default()
+        }
     }
 }
 
@@ -58,12 +64,18 @@ impl Context<'_> {
     /// The time that an item's day and hour name.
     pub fn time(&self, item: &Element) -> Result<usize, Fault> {
         let place = |suffix: &str, names: &[String]| {
-            let child = item.children.iter().find(|child| child.name.ends_with(suffix));
+            let child = item
+                .children
+                .iter()
+                .find(|child| child.name.ends_with(suffix));
             let text = child.map_or("", |child| child.text.trim());
             let place = names.iter().position(|name| name == text);
             place.ok_or_else(|| {
                 let what = suffix.to_lowercase();
-                Fault::at(child.unwrap_or(item), format!("there is no {what} '{text}'"))
+                Fault::at(
+                    child.unwrap_or(item),
+                    format!("there is no {what} '{text}'"),
+                )
             })
         };
         let day = place("Day", &self.school.days)?;
@@ -84,7 +96,10 @@ impl Context<'_> {
 
     /// The events of activities, ascending, each once.
     pub fn events(&self, activities: &[usize]) -> Vec<usize> {
-        let mut events: Vec<usize> = activities.iter().map(|&at| self.lessons.event_of[at]).collect();
+        let mut events: Vec<usize> = activities
+            .iter()
+            .map(|&at| self.lessons.event_of[at])
+            .collect();
         events.sort_unstable();
         events.dedup();
         events
@@ -95,7 +110,10 @@ impl Context<'_> {
         let Some(subgroups) = self.school.students.subgroups(name) else {
             return Err(Fault::at(item, format!("there are no students '{name}'")));
         };
-        let within = self.classes.iter().filter(|(class, _)| !class.subgroups.is_disjoint(subgroups));
+        let within = self
+            .classes
+            .iter()
+            .filter(|(class, _)| !class.subgroups.is_disjoint(subgroups));
         Ok(within.map(|&(_, resource)| resource).collect())
     }
 

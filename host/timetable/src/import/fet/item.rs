@@ -21,7 +21,10 @@ impl<'a> Item<'a> {
             }
             let percentage = percentage(element)?;
             if percentage > 0.0 {
-                items.push(Item { element, percentage });
+                items.push(Item {
+                    element,
+                    percentage,
+                });
             }
         }
         Ok(items)
@@ -46,7 +49,14 @@ impl<'a> Item<'a> {
     /// The item in a few words.
     pub fn words(&self) -> String {
         let name = &self.element.name;
-        let telling = ["Teacher", "Student", "Subject", "Tag", "Room", "Activity_Id"];
+        let telling = [
+            "Teacher",
+            "Student",
+            "Subject",
+            "Tag",
+            "Room",
+            "Activity_Id",
+        ];
         let fields = self.element.children.iter().filter(|child| {
             let known = telling.iter().any(|part| child.name.contains(part));
             known && !child.name.starts_with("Number") && !child.text.trim().is_empty()

@@ -38,7 +38,10 @@ impl Lessons {
             let earlier = root(&first, at);
             if earlier == at {
                 event_of[at] = lessons.len();
-                lessons.push(Lesson { activities: Vec::new(), duration: activity.duration });
+                lessons.push(Lesson {
+                    activities: Vec::new(),
+                    duration: activity.duration,
+                });
             }
             event_of[at] = event_of[earlier];
             lessons[event_of[at]].activities.push(at);
@@ -48,9 +51,15 @@ impl Lessons {
 
     /// The subgroups of each event.
     pub fn subgroups(&self, school: &School) -> Vec<BTreeSet<usize>> {
-        let of = |&at: &usize| school.students.all_subgroups(&school.activities[at].students);
+        let of = |&at: &usize| {
+            school
+                .students
+                .all_subgroups(&school.activities[at].students)
+        };
         let lessons = self.lessons.iter();
-        lessons.map(|lesson| lesson.activities.iter().flat_map(of).collect()).collect()
+        lessons
+            .map(|lesson| lesson.activities.iter().flat_map(of).collect())
+            .collect()
     }
 
     /// The events of a teacher, ascending.

@@ -49,6 +49,8 @@ pub fn import(root: &Element, scale: u32) -> Result<Imported, Fault> {
     }
     let mut writer = Writer::over(draft);
     place_events(&mut writer, &context, &readings).map_err(|message| Fault::at(root, message))?;
+    // Hard ones first: if a limit is reached, it costs wishes.
+    readings.sort_by_key(|(item, _)| !item.hard());
     for (item, reading) in &readings {
         write(&mut writer, &context, item, reading, scale);
     }
@@ -78,8 +80,9 @@ fn place_events(
     let school = context.school;
     let all = TimeSet::below(school.times());
     let lessons = context.lessons.lessons.iter();
-    let mut starts: Vec<TimeSet> =
-        lessons.map(|lesson| school.starts_within(lesson.duration, all)).collect();
+    let mut starts: Vec<TimeSet> = lessons
+        .map(|lesson| school.starts_within(lesson.duration, all))
+        .collect();
     for (item, reading) in readings {
         if let (true, Ok(reading)) = (item.hard(), reading) {
             for &(event, times) in &reading.starts {
@@ -141,7 +144,10 @@ fn write(
 /// FET has modes in which a day is half a day, or a term; their files say so.
 fn official(root: &Element) -> Result<(), Fault> {
     if !root.name.eq_ignore_ascii_case("fet") {
-        return Err(Fault::at(root, format!("this is no FET file but '{}'", root.name)));
+        return Err(Fault::at(
+            root,
+            format!("this is no FET file but '{}'", root.name),
+        ));
     }
     let version = root.attribute("version").unwrap_or("");
     let mode = root.field("Mode");
@@ -157,11 +163,12 @@ fn official(root: &Element) -> Result<(), Fault> {
 
 /// The lists of activities that must start together.
 fn starting_together(school: &School, items: &[Item]) -> Result<Vec<Vec<usize>>, Fault> {
-    let together = |item: &&Item| {
-        item.hard() && item.element.name == "ConstraintActivitiesSameStartingTime"
-    };
+    let together =
+        |item: &&Item| item.hard() && item.element.name == "ConstraintActivitiesSameStartingTime";
     let items = items.iter().filter(together);
-    items.map(|item| activities(school, item.element, "Activity_Id")).collect()
+    items
+        .map(|item| activities(school, item.element, "Activity_Id"))
+        .collect()
 }
 
 /// Puts times, events, teachers and classes into the draft.
@@ -171,7 +178,10 @@ fn people<'a>(
     draft: &mut Draft,
 ) -> Result<Context<'a>, String> {
     let classes = school.students.classes(&lessons.subgroups(school));
-    let taught = school.teachers.iter().map(|name| (name, lessons.of_teacher(school, name)));
+    let taught = school
+        .teachers
+        .iter()
+        .map(|name| (name, lessons.of_teacher(school, name)));
     let taught: Vec<_> = taught.filter(|(_, events)| !events.is_empty()).collect();
     let resources = taught.len() + classes.len();
     if let Some(over) = Draft::over_limit(school.times(), lessons.lessons.len(), resources) {
@@ -209,7 +219,10 @@ fn name_things(school: &School, lessons: &Lessons, draft: &mut Draft) {
     for (event, lesson) in lessons.lessons.iter().enumerate() {
         draft.labels.events.push(lessons.name(school, event));
         let resources = Vec::new();
-        draft.instance.events.push(Event { duration: lesson.duration, resources });
+        draft.instance.events.push(Event {
+            duration: lesson.duration,
+            resources,
+        });
     }
 }
 
@@ -265,7 +278,11 @@ fn mark_every_day(context: &mut Context, items: &[Item]) {
     }
     let lessons = &context.lessons.lessons;
     for person in &mut context.people {
-        let hours: usize = person.events.iter().map(|&event| lessons[event].duration).sum();
+        let hours: usize = person
+            .events
+            .iter()
+            .map(|&event| lessons[event].duration)
+            .sum();
         let fits_without = |&day: &TimeSet| hours <= (person.available & !day).len();
         person.every_day |= !days.iter().any(fits_without);
     }
@@ -275,5 +292,8 @@ fn mark_every_day(context: &mut Context, items: &[Item]) {
 fn hard_wishes(context: &Context, items: &[Item]) -> Vec<Wish> {
     let hard = items.iter().filter(|item| item.hard());
     let readings = hard.filter_map(|item| people::read(context, item.element));
-    readings.filter_map(Result::ok).flat_map(|reading| reading.wishes).collect()
+    readings
+        .filter_map(Result::ok)
+        .flat_map(|reading| reading.wishes)
+        .collect()
 }

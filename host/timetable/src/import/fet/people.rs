@@ -26,11 +26,15 @@ const RULES: &[(&str, fn(&Case) -> Wishes)] = &[
     ("MaxDaysPerWeek", max_days_per_week),
     ("MinDaysPerWeek", min_days_per_week),
     ("IntervalMaxDaysPerWeek", interval_max_days),
-    ("MaxHoursContinuously", |case| max_hours_continuously(case, case.who())),
+    ("MaxHoursContinuously", |case| {
+        max_hours_continuously(case, case.who())
+    }),
     ("MaxSpanPerDay", max_span_per_day),
     ("MinRestingHours", min_resting_hours),
     ("EarlyMaxBeginningsAtSecondHour", early_beginnings),
-    ("ActivityTagMaxHoursDaily", |case| max_hours_daily(case, case.who_with_tag())),
+    ("ActivityTagMaxHoursDaily", |case| {
+        max_hours_daily(case, case.who_with_tag())
+    }),
     ("ActivityTagMaxHoursContinuously", |case| {
         max_hours_continuously(case, case.who_with_tag())
     }),
@@ -43,7 +47,11 @@ const ABOUT: &[(&str, fn(&Context, &Element) -> Result<Vec<usize>, Fault>)] = &[
         context.classes_of(item, item.field("Students"))
     }),
     ("ConstraintStudents", |context, _| {
-        Ok(context.classes.iter().map(|&(_, resource)| resource).collect())
+        Ok(context
+            .classes
+            .iter()
+            .map(|&(_, resource)| resource)
+            .collect())
     }),
     ("ConstraintTeachers", |context, _| {
         Ok(context.teachers.values().copied().collect())
@@ -77,7 +85,12 @@ fn wishes(
     let mut wishes = Vec::new();
     for resource in resources {
         let person = &context.people[resource];
-        wishes.extend(rule(&Case { context, item, resource, person })?);
+        wishes.extend(rule(&Case {
+            context,
+            item,
+            resource,
+            person,
+        })?);
     }
     Ok(wishes)
 }
@@ -96,7 +109,14 @@ impl Case<'_> {
         let tagged = |&at: &usize| school.activities[at].tags.iter().any(|known| known == tag);
         let lessons = &self.context.lessons.lessons;
         let with_tag = |&event: &usize| lessons[event].activities.iter().any(tagged);
-        Who::Events(self.person.events.iter().copied().filter(with_tag).collect())
+        Who::Events(
+            self.person
+                .events
+                .iter()
+                .copied()
+                .filter(with_tag)
+                .collect(),
+        )
     }
 
     fn days(&self) -> usize {
@@ -115,7 +135,9 @@ impl Case<'_> {
     /// person is not available are none.
     fn gap_sets(&self) -> Vec<TimeSet> {
         let days = self.day_sets().into_iter();
-        days.map(|day| day & self.person.available).filter(|set| !set.is_empty()).collect()
+        days.map(|day| day & self.person.available)
+            .filter(|set| !set.is_empty())
+            .collect()
     }
 }
 
@@ -132,7 +154,9 @@ fn max_gaps_per_week(case: &Case) -> Wishes {
 fn max_gaps_per_day(case: &Case) -> Wishes {
     let most = number(case.item, "Max_Gaps")?;
     let days = case.gap_sets().into_iter();
-    Ok(days.map(|day| Wish::Idle(case.who(), vec![day], 0, most)).collect())
+    Ok(days
+        .map(|day| Wish::Idle(case.who(), vec![day], 0, most))
+        .collect())
 }
 
 fn max_hours_daily(case: &Case, who: Who) -> Wishes {
@@ -141,7 +165,9 @@ fn max_hours_daily(case: &Case, who: Who) -> Wishes {
         return Ok(Vec::new());
     }
     let days = case.day_sets().into_iter();
-    Ok(days.map(|day| Wish::Busy(who.clone(), day, 0, most)).collect())
+    Ok(days
+        .map(|day| Wish::Busy(who.clone(), day, 0, most))
+        .collect())
 }
 
 /// A day without hours is kept apart: it is allowed or not, whatever the least.
@@ -168,7 +194,12 @@ fn max_days_per_week(case: &Case) -> Wishes {
 
 fn min_days_per_week(case: &Case) -> Wishes {
     let least = number(case.item, "Minimum_Days_Per_Week")?;
-    Ok(vec![Wish::Cluster(case.who(), case.day_sets(), least, case.days())])
+    Ok(vec![Wish::Cluster(
+        case.who(),
+        case.day_sets(),
+        least,
+        case.days(),
+    )])
 }
 
 /// An end that is not named is the end of the day.
@@ -190,7 +221,10 @@ fn max_hours_continuously(case: &Case, who: Who) -> Wishes {
     let mut wishes = Vec::new();
     for day in 0..case.days() {
         for first in 0..case.hours().saturating_sub(most) {
-            let row = case.context.school.part_of_day(day, first, first + most + 1);
+            let row = case
+                .context
+                .school
+                .part_of_day(day, first, first + most + 1);
             if !is_nobody(&who) {
                 wishes.push(Wish::Busy(who.clone(), row, 0, most));
             }
@@ -210,7 +244,11 @@ fn max_span_per_day(case: &Case) -> Wishes {
     for day in 0..case.days() {
         for hour in 0..hours.saturating_sub(most) {
             let far = school.part_of_day(day, hour + most, hours);
-            wishes.push(not_both(case.who(), school.part_of_day(day, hour, hour + 1), far));
+            wishes.push(not_both(
+                case.who(),
+                school.part_of_day(day, hour, hour + 1),
+                far,
+            ));
         }
     }
     Ok(wishes)
@@ -225,9 +263,14 @@ fn min_resting_hours(case: &Case) -> Wishes {
     for day in 0..if circular { days } else { days - 1 } {
         for hour in 0..hours {
             let rest = hours - 1 - hour;
-            let early = school.part_of_day((day + 1) % days, 0, least.saturating_sub(rest).min(hours));
+            let early =
+                school.part_of_day((day + 1) % days, 0, least.saturating_sub(rest).min(hours));
             if !early.is_empty() {
-                wishes.push(not_both(case.who(), school.part_of_day(day, hour, hour + 1), early));
+                wishes.push(not_both(
+                    case.who(),
+                    school.part_of_day(day, hour, hour + 1),
+                    early,
+                ));
             }
         }
     }
@@ -242,17 +285,29 @@ fn not_both(who: Who, one: TimeSet, other: TimeSet) -> Wish {
 /// For a person who may stay away on a day the engine has no counterpart.
 fn early_beginnings(case: &Case) -> Wishes {
     if !case.person.every_day {
-        return Refused::because("a class that may stay away on a day cannot be made to begin early");
+        return Refused::because(
+            "a class that may stay away on a day cannot be made to begin early",
+        );
     }
     let most = number(case.item, "Max_Beginnings_At_Second_Hour")?;
     let days = case.gap_sets();
     let begin = |hours: usize| -> Vec<TimeSet> {
-        days.iter().map(|day| day.iter().take(hours).collect()).collect()
+        days.iter()
+            .map(|day| day.iter().take(hours).collect())
+            .collect()
     };
-    let first = Wish::Cluster(case.who(), begin(1), days.len().saturating_sub(most), days.len());
+    let first = Wish::Cluster(
+        case.who(),
+        begin(1),
+        days.len().saturating_sub(most),
+        days.len(),
+    );
     match most {
         0 => Ok(vec![first]),
-        _ => Ok(vec![first, Wish::Cluster(case.who(), begin(2), days.len(), days.len())]),
+        _ => Ok(vec![
+            first,
+            Wish::Cluster(case.who(), begin(2), days.len(), days.len()),
+        ]),
     }
 }
 

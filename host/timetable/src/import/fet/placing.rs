@@ -24,7 +24,10 @@ const RULES: &[(&str, fn(&Case) -> Outcome)] = &[
     ("ConstraintActivityPreferredStartingTime", starting_time),
     ("ConstraintActivityPreferredStartingTimes", starting_times),
     ("ConstraintActivitiesPreferredStartingTimes", starting_times),
-    ("ConstraintSubactivitiesPreferredStartingTimes", starting_times),
+    (
+        "ConstraintSubactivitiesPreferredStartingTimes",
+        starting_times,
+    ),
     ("ConstraintActivityPreferredTimeSlots", time_slots),
     ("ConstraintActivitiesPreferredTimeSlots", time_slots),
     ("ConstraintSubactivitiesPreferredTimeSlots", time_slots),
@@ -35,21 +38,39 @@ const RULES: &[(&str, fn(&Case) -> Outcome)] = &[
     ("ConstraintTwoActivitiesGrouped", grouped),
     ("ConstraintThreeActivitiesGrouped", grouped),
     ("ConstraintTwoActivitiesConsecutive", consecutive),
-    ("ConstraintActivitiesOccupyMaxTimeSlotsFromSelection", occupy_most),
-    ("ConstraintActivitiesOccupyMinTimeSlotsFromSelection", occupy_least),
-    ("ConstraintActivitiesMaxSimultaneousInSelectedTimeSlots", most_at_once),
+    (
+        "ConstraintActivitiesOccupyMaxTimeSlotsFromSelection",
+        occupy_most,
+    ),
+    (
+        "ConstraintActivitiesOccupyMinTimeSlotsFromSelection",
+        occupy_least,
+    ),
+    (
+        "ConstraintActivitiesMaxSimultaneousInSelectedTimeSlots",
+        most_at_once,
+    ),
 ];
 
 /// What an item about activities comes to; none if it is not of a known name.
 pub fn read(context: &Context, item: &Element, hard: bool) -> Option<Outcome> {
     let (_, rule) = RULES.iter().find(|(name, _)| *name == item.name)?;
-    Some(rule(&Case { context, item, hard }))
+    Some(rule(&Case {
+        context,
+        item,
+        hard,
+    }))
 }
 
 impl Case<'_> {
     /// The activities that the item names.
     fn named(&self) -> Result<Vec<usize>, Fault> {
-        let fields = ["Activity_Id", "First_Activity_Id", "Second_Activity_Id", "Third_Activity_Id"];
+        let fields = [
+            "Activity_Id",
+            "First_Activity_Id",
+            "Second_Activity_Id",
+            "Third_Activity_Id",
+        ];
         let mut all = Vec::new();
         for field in fields {
             all.extend(activities(self.context.school, self.item, field)?);
@@ -126,7 +147,10 @@ fn break_times(case: &Case) -> Outcome {
     let breaks = case.context.times(case.item, "Break_Time")?;
     let lessons = case.context.lessons.lessons.iter().enumerate();
     let starts = lessons.map(|(event, lesson)| {
-        (event, case.context.school.starts_within(lesson.duration, !breaks))
+        (
+            event,
+            case.context.school.starts_within(lesson.duration, !breaks),
+        )
     });
     Ok(Reading::starts(starts.collect()))
 }
@@ -147,7 +171,9 @@ fn min_days(case: &Case) -> Outcome {
     };
     let window = |first: isize| -> TimeSet {
         let within = first.max(0)..(first + least).min(days);
-        within.flat_map(|day| case.context.school.day(day as usize).iter()).collect()
+        within
+            .flat_map(|day| case.context.school.day(day as usize).iter())
+            .collect()
     };
     let spread = |first| Wish::Spread(events.clone(), window(first), 0, 1);
     let mut reading = Reading::wishes(first_days.map(spread).collect());
@@ -163,7 +189,9 @@ fn max_days(case: &Case) -> Outcome {
     let most = number(case.item, "MaxDays")?;
     let (who, days) = (Who::Events(case.events()?), case.day_sets());
     let pairs = (0..days.len().saturating_sub(most + 1)).map(|day| {
-        let far = days[day + most + 1..].iter().fold(TimeSet::default(), |all, &day| all | day);
+        let far = days[day + most + 1..]
+            .iter()
+            .fold(TimeSet::default(), |all, &day| all | day);
         Wish::Cluster(who.clone(), vec![days[day], far], 0, 1)
     });
     Ok(Reading::wishes(pairs.collect()))
@@ -172,13 +200,19 @@ fn max_days(case: &Case) -> Outcome {
 fn starting_time(case: &Case) -> Outcome {
     let time = case.context.time(case.item)?;
     let events = case.events()?.into_iter();
-    Ok(Reading::starts(events.map(|event| (event, [time].into_iter().collect())).collect()))
+    Ok(Reading::starts(
+        events
+            .map(|event| (event, [time].into_iter().collect()))
+            .collect(),
+    ))
 }
 
 fn starting_times(case: &Case) -> Outcome {
     let times = case.context.times(case.item, "Preferred_Starting_Time")?;
     let events = case.chosen()?.into_iter();
-    Ok(Reading::starts(events.map(|event| (event, times)).collect()))
+    Ok(Reading::starts(
+        events.map(|event| (event, times)).collect(),
+    ))
 }
 
 /// Every hour of the activity lies in the slots; a soft wish counts those that do not.
@@ -186,27 +220,49 @@ fn time_slots(case: &Case) -> Outcome {
     let slots = case.context.times(case.item, "Preferred_Time_Slot")?;
     let events = case.chosen()?.into_iter();
     if !case.hard {
-        return Ok(Reading::wishes(events.map(|event| Wish::Preferred(event, slots)).collect()));
+        return Ok(Reading::wishes(
+            events.map(|event| Wish::Preferred(event, slots)).collect(),
+        ));
     }
-    let starts = |event| (event, case.context.school.starts_within(case.duration(event), slots));
+    let starts = |event| {
+        (
+            event,
+            case.context
+                .school
+                .starts_within(case.duration(event), slots),
+        )
+    };
     Ok(Reading::starts(events.map(starts).collect()))
 }
 
-/// Activities that must start together are one event already.
+/// Activities that must start together are one event already. Those that are wished
+/// to, and last equally long, do so where they take no more times than one of them.
 fn same_time(case: &Case) -> Outcome {
     let named = case.named()?;
-    if !case.hard {
-        return Refused::because("starting together can be a rule, not a wish");
+    let events = case.context.events(&named);
+    let mut durations: Vec<usize> = events.iter().map(|&event| case.duration(event)).collect();
+    durations.dedup();
+    match (case.hard, &durations[..]) {
+        (_, []) => Ok(Reading::default()),
+        (true, _) if events.len() == 1 => {
+            let lost = "two of the activities need the same person, and are carried as one event";
+            let weaker = shares_people(case.context, &named).then(|| lost.to_string());
+            Ok(Reading {
+                weaker,
+                ..Reading::default()
+            })
+        }
+        (false, &[duration]) => {
+            let all = TimeSet::below(case.context.school.times());
+            Ok(Reading::wishes(vec![Wish::Busy(
+                Who::Events(events),
+                all,
+                0,
+                duration,
+            )]))
+        }
+        _ => Refused::because("the activities are not equally long"),
     }
-    if case.context.events(&named).len() > 1 {
-        return Refused::because("the activities are not equally long");
-    }
-    let mut reading = Reading::default();
-    if shares_people(case.context, &named) {
-        let lost = "two of the activities need the same person, and are carried as one event";
-        reading.weaker = Some(lost.to_string());
-    }
-    Ok(reading)
 }
 
 /// Whether two of the activities have a teacher or a subgroup in common.
@@ -217,7 +273,10 @@ fn shares_people(context: &Context, named: &[usize]) -> bool {
     let mut shared = false;
     for &at in named {
         let activity = &school.activities[at];
-        shared |= activity.teachers.iter().any(|teacher| !teachers.insert(teacher));
+        shared |= activity
+            .teachers
+            .iter()
+            .any(|teacher| !teachers.insert(teacher));
         let busy = school.students.all_subgroups(&activity.students);
         shared |= busy.into_iter().any(|subgroup| !subgroups.insert(subgroup));
     }
@@ -226,7 +285,12 @@ fn shares_people(context: &Context, named: &[usize]) -> bool {
 
 fn same_day(case: &Case) -> Outcome {
     let who = Who::Events(case.events()?);
-    Ok(Reading::wishes(vec![Wish::Cluster(who, case.day_sets(), 0, 1)]))
+    Ok(Reading::wishes(vec![Wish::Cluster(
+        who,
+        case.day_sets(),
+        0,
+        1,
+    )]))
 }
 
 /// Activities that last equally long use no more hours of the day than one of them does.
@@ -238,8 +302,15 @@ fn same_hour(case: &Case) -> Outcome {
         return Refused::because("the activities are not equally long");
     };
     let school = case.context.school;
-    let hours = (0..school.hours.len()).map(|hour| school.hour(hour)).collect();
-    Ok(Reading::wishes(vec![Wish::Cluster(Who::Events(events), hours, 0, duration)]))
+    let hours = (0..school.hours.len())
+        .map(|hour| school.hour(hour))
+        .collect();
+    Ok(Reading::wishes(vec![Wish::Cluster(
+        Who::Events(events),
+        hours,
+        0,
+        duration,
+    )]))
 }
 
 fn not_overlapping(case: &Case) -> Outcome {
@@ -265,7 +336,10 @@ fn grouped(case: &Case) -> Outcome {
 
 fn consecutive(case: &Case) -> Outcome {
     let weaker = Some("which of the two comes first is not carried".to_string());
-    Ok(Reading { weaker, ..grouped(case)? })
+    Ok(Reading {
+        weaker,
+        ..grouped(case)?
+    })
 }
 
 fn occupy_most(case: &Case) -> Outcome {
@@ -278,7 +352,10 @@ fn occupy_most(case: &Case) -> Outcome {
 fn occupy_least(case: &Case) -> Outcome {
     let least = number(case.item, "Min_Number_of_Occupied_Time_Slots")?;
     let slots = case.context.times(case.item, "Selected_Time_Slot")?;
-    let each: Vec<TimeSet> = slots.iter().map(|time| [time].into_iter().collect()).collect();
+    let each: Vec<TimeSet> = slots
+        .iter()
+        .map(|time| [time].into_iter().collect())
+        .collect();
     let (who, all) = (Who::Events(case.events()?), each.len());
     Ok(Reading::wishes(vec![Wish::Cluster(who, each, least, all)]))
 }

@@ -5,8 +5,8 @@ use super::super::remark::{Fault, Refused};
 use super::super::times::TimeSet;
 use super::super::xml::Element;
 use super::context::{Context, Reading};
-use super::lessons::activities;
 use super::item::Item;
+use super::lessons::activities;
 use std::collections::{BTreeMap, BTreeSet};
 
 /// A room to which events are pinned.
@@ -43,7 +43,9 @@ const PINS: &[&str] = &[
 impl Rooms {
     /// The rooms to which hard items pin activities, as resources of the draft.
     pub fn of(context: &Context, items: &[Item], draft: &mut Draft) -> Result<Rooms, Fault> {
-        let mut rooms = Rooms { rooms: BTreeMap::new() };
+        let mut rooms = Rooms {
+            rooms: BTreeMap::new(),
+        };
         let hard = items.iter().filter(|item| item.hard());
         for item in hard.clone().filter(|item| is_pin(item.element)) {
             let events = pinned(context, item.element)?;
@@ -75,7 +77,9 @@ impl Rooms {
     }
 
     fn room(&mut self, item: &Element) -> &mut Room {
-        self.rooms.entry(item.field("Room").to_string()).or_default()
+        self.rooms
+            .entry(item.field("Room").to_string())
+            .or_default()
     }
 
     fn standing(&self, item: &Element) -> Standing {
@@ -134,7 +138,11 @@ fn is_pin(item: &Element) -> bool {
 }
 
 fn is_real(context: &Context, item: &Element) -> bool {
-    context.school.rooms.iter().any(|room| room == item.field("Room"))
+    context
+        .school
+        .rooms
+        .iter()
+        .any(|room| room == item.field("Room"))
 }
 
 /// The events that an item pins: of one activity, or of a subject and tag.

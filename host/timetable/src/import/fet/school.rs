@@ -91,13 +91,27 @@ impl School {
             duration: number(element, "Duration")?,
         };
         if !(1..=self.hours.len()).contains(&activity.duration) {
-            return Err(Fault::at(element, format!("activity {id} does not fit a day")));
+            return Err(Fault::at(
+                element,
+                format!("activity {id} does not fit a day"),
+            ));
         }
-        if let Some(name) = activity.teachers.iter().find(|name| !self.teachers.contains(name)) {
+        if let Some(name) = activity
+            .teachers
+            .iter()
+            .find(|name| !self.teachers.contains(name))
+        {
             return Err(Fault::at(element, format!("there is no teacher '{name}'")));
         }
-        if let Some(name) = activity.students.iter().find(|name| !self.students.knows(name)) {
-            return Err(Fault::at(element, format!("there are no students '{name}'")));
+        if let Some(name) = activity
+            .students
+            .iter()
+            .find(|name| !self.students.knows(name))
+        {
+            return Err(Fault::at(
+                element,
+                format!("there are no students '{name}'"),
+            ));
         }
         self.activities.push(activity);
         Ok(())
@@ -126,7 +140,9 @@ impl School {
 
     /// One hour on every day.
     pub fn hour(&self, hour: usize) -> TimeSet {
-        (0..self.days.len()).map(|day| self.time(day, hour)).collect()
+        (0..self.days.len())
+            .map(|day| self.time(day, hour))
+            .collect()
     }
 
     /// The times from which a block of `duration` hours lies within a day and `times`.
@@ -143,7 +159,10 @@ impl School {
 /// The texts of all children of this name that are not empty.
 pub fn texts(element: &Element, name: &str) -> Vec<String> {
     let texts = element.all(name).map(|child| child.text.trim());
-    texts.filter(|text| !text.is_empty()).map(str::to_string).collect()
+    texts
+        .filter(|text| !text.is_empty())
+        .map(str::to_string)
+        .collect()
 }
 
 /// The names of a list's members. Older files hold a day's or hour's name without an
@@ -152,7 +171,9 @@ fn names(root: &Element, list: &str, member: &str) -> Vec<String> {
     let Some(list) = root.child(list) else {
         return Vec::new();
     };
-    let members = list.all(member).map(|known| known.field("Name").to_string());
+    let members = list
+        .all(member)
+        .map(|known| known.field("Name").to_string());
     members.chain(texts(list, "Name")).collect()
 }
 
