@@ -7,3 +7,4 @@ pub mod import;
 pub mod instance;
 pub mod number;
 pub mod proof;
+pub mod school;

@@ -67,11 +67,11 @@ impl Sort {
         }
     }
 
-    /// The values of a field of this sort that is a plain number.
-    pub fn limits(self) -> RangeInclusive<u32> {
-        match self {
-            Sort::Bound => 0..=LARGEST_BOUND_OF_COUNT,
-            _ => 1..=u32::MAX,
+    /// What a number of this sort, or a member of such a list, may be in a file.
+    pub fn limits(self, counts: &Counts) -> RangeInclusive<u32> {
+        match self.thing() {
+            Some(thing) => 1..=counts.of(thing) as u32,
+            None => 0..=LARGEST_BOUND_OF_COUNT,
         }
     }
 }

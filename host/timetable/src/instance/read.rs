@@ -72,55 +72,61 @@ impl Fault {
 
 impl Display for Fault {
     fn fmt(&self, out: &mut Formatter) -> fmt::Result {
-        let Field {
-            path,
-            value,
-            limits,
-            ..
-        } = &self.field;
-        let (least, most) = (limits.start(), limits.end());
-        let value = value.unwrap_or_default();
-        match self.reason {
-            Reason::Malformed => write!(
+        let path = &self.field.path;
+        match (self.reason, path.part) {
+            // What a constraint's end finds is said of the whole constraint.
+            (
+                Reason::LongList(_) | Reason::Crossed { .. } | Reason::Unreachable { .. },
+                Part::Constraint(number, Some(kind)),
+            ) => write!(
                 out,
-                "{path}: the number is cut short, overlong or too large"
+                "constraint {number}, kind {}: {}",
+                kind.name,
+                self.why()
             ),
-            Reason::Outside => write!(out, "{path}: {value} is not from {least} to {most}"),
-            Reason::Nothing if limits.is_empty() => {
-                write!(out, "{path}: {value} names nothing, there is none to name")
-            }
-            Reason::Nothing => write!(
-                out,
-                "{path}: {value} names nothing, {least} to {most} are there"
-            ),
-            Reason::NotAscending => write!(out, "{path}: {value} is not above the entry before it"),
-            Reason::LongList(length) => write!(
-                out,
-                "{}: its counted list has {length} entries, {LONGEST_LIST} are the most",
-                constraint(path)
-            ),
-            Reason::Crossed { lo, hi } => {
-                write!(
-                    out,
-                    "{}: lo is {lo}, above hi, which is {hi}",
-                    constraint(path)
-                )
-            }
-            Reason::Unreachable { lo, length } => write!(
-                out,
-                "{}: lo is {lo}, above the {length} entries of its counted list",
-                constraint(path)
-            ),
-            Reason::LeftOver(bytes) => write!(out, "{path}: {bytes} bytes are left over"),
+            _ => write!(out, "{path}: {}", self.why()),
         }
     }
 }
 
-/// The constraint of a path, for what is wrong with it as a whole.
-fn constraint(path: &Path) -> String {
-    match path.part {
-        Part::Constraint(number, Some(kind)) => format!("constraint {number}, kind {}", kind.name),
-        _ => path.to_string(),
+impl Fault {
+    /// The reason, with the number that was read where it matters.
+    fn why(&self) -> String {
+        let Field { value, limits, .. } = &self.field;
+        let (least, most) = (limits.start(), limits.end());
+        let value = value.unwrap_or_default();
+        match self.reason {
+            Reason::Outside => format!("{value} is not from {least} to {most}"),
+            Reason::Nothing if limits.is_empty() => {
+                format!("{value} names nothing, there is none to name")
+            }
+            Reason::Nothing => format!("{value} names nothing, {least} to {most} are there"),
+            Reason::NotAscending => format!("{value} is not above the entry before it"),
+            reason => reason.to_string(),
+        }
+    }
+}
+
+impl Display for Reason {
+    fn fmt(&self, out: &mut Formatter) -> fmt::Result {
+        match self {
+            Reason::Malformed => write!(out, "the number is cut short, overlong or too large"),
+            Reason::Outside => write!(out, "the value is outside its limits"),
+            Reason::Nothing => write!(out, "the reference names nothing"),
+            Reason::NotAscending => write!(out, "the list does not ascend"),
+            Reason::LongList(length) => write!(
+                out,
+                "its counted list has {length} entries, {LONGEST_LIST} are the most"
+            ),
+            Reason::Crossed { lo, hi } => write!(out, "lo is {lo}, above hi, which is {hi}"),
+            Reason::Unreachable { lo, length } => {
+                write!(
+                    out,
+                    "lo is {lo}, above the {length} entries of its counted list"
+                )
+            }
+            Reason::LeftOver(bytes) => write!(out, "{bytes} bytes are left over"),
+        }
     }
 }
 
@@ -332,7 +338,7 @@ impl Source for ConstraintFields<'_, '_> {
         let path = alone(self.part, field.words());
         match field.sort.thing() {
             Some(thing) => self.reader.reference(path, 0, self.counts.of(thing)),
-            None => self.reader.within(path, field.sort.limits()),
+            None => self.reader.within(path, field.sort.limits(&self.counts)),
         }
     }
 
