@@ -6,6 +6,7 @@ use crate::instance::{
     Constraint, Instance, Kind, Reason, LARGEST_BOUND_OF_COUNT, LARGEST_WEIGHT, LONGEST_LIST,
     MOST_CONSTRAINTS, MOST_EVENTS, MOST_GROUPS, MOST_RESOURCES, MOST_TIMES,
 };
+use crate::school::{Names, Resource, ResourceSort};
 use std::collections::HashMap;
 
 /// Whose times are counted.
@@ -30,27 +31,6 @@ pub enum Wish {
     Idle(Who, Vec<TimeSet>, usize, usize),
 }
 
-/// The sort of a resource.
-#[derive(Clone, Copy, Debug, PartialEq, Eq)]
-pub enum Sort {
-    Teacher,
-    Class,
-    Room,
-    /// Of another sort, or made by the import for a set of events.
-    Other,
-}
-
-/// The names of an instance's things, by their indices.
-#[derive(Clone, Debug, Default)]
-pub struct Labels {
-    pub times: Vec<String>,
-    /// The index of each time's day.
-    pub days: Vec<usize>,
-    pub day_names: Vec<String>,
-    pub events: Vec<String>,
-    pub resources: Vec<(Sort, String)>,
-}
-
 /// How hard a constraint is.
 #[derive(Clone, Copy, Debug, PartialEq, Eq)]
 pub enum Weight {
@@ -62,7 +42,8 @@ pub enum Weight {
 #[derive(Default)]
 pub struct Draft {
     pub instance: Instance,
-    pub labels: Labels,
+    /// Groups are named at the end.
+    pub names: Names,
     group_of: HashMap<TimeSet, usize>,
     /// The resource that exactly these events use.
     resource_of: HashMap<Vec<usize>, usize>,
@@ -77,11 +58,11 @@ struct Mark {
 
 impl Draft {
     /// Adds a resource that nothing uses yet; none if there are too many.
-    pub fn resource(&mut self, sort: Sort, name: String) -> Option<usize> {
+    pub fn resource(&mut self, sort: ResourceSort, name: String) -> Option<usize> {
         if self.instance.resources >= MOST_RESOURCES as usize {
             return None;
         }
-        self.labels.resources.push((sort, name));
+        self.names.resources.push(Resource { sort, name });
         self.instance.resources += 1;
         Some(self.instance.resources - 1)
     }
@@ -122,7 +103,7 @@ impl Draft {
         self.instance.groups.truncate(groups);
         self.instance.constraints.truncate(constraints);
         self.instance.resources = resources;
-        self.labels.resources.truncate(resources);
+        self.names.resources.truncate(resources);
         self.group_of.retain(|_, &mut group| group < groups);
         self.resource_of
             .retain(|_, &mut resource| resource < resources);
@@ -232,9 +213,9 @@ impl Draft {
         }
         let names = events
             .iter()
-            .map(|&event| self.labels.events[event].as_str());
+            .map(|&event| self.names.lessons[event].as_str());
         let name = format!("set {}", names.collect::<Vec<_>>().join(" / "));
-        let resource = self.resource(Sort::Other, name).ok_or_else(|| {
+        let resource = self.resource(ResourceSort::Other, name).ok_or_else(|| {
             format!("its set of events needs a resource, and {MOST_RESOURCES} are the most")
         })?;
         self.use_by(resource, &events);

@@ -8,12 +8,12 @@
 
 mod draft;
 pub mod fet;
+mod names;
 mod remark;
 mod times;
 mod writer;
 pub mod xhstt;
 pub mod xml;
 
-pub use draft::{Labels, Sort};
 pub use remark::{Fate, Fault, Remark};
 pub use writer::Imported;

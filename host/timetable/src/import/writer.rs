@@ -1,14 +1,14 @@
 //! Items of a file are written into a draft one by one, and what is not carried
 //! exactly is noted.
 
-use super::draft::{Draft, Labels, Weight, Wish};
+use super::draft::{Draft, Weight, Wish};
+use super::names;
 use super::remark::{Fate, Remark};
-use crate::instance::Instance;
+use crate::school::School;
 
 /// A school as an instance, with what was lost on the way.
 pub struct Imported {
-    pub instance: Instance,
-    pub labels: Labels,
+    pub school: School,
     /// How many items are carried exactly.
     pub carried: usize,
     /// By line.
@@ -104,9 +104,9 @@ impl Writer {
         }
         self.remarks.sort_by_key(|remark| remark.line);
         let divisor = self.draft.reduce_weights();
+        let (instance, named) = (self.draft.instance, self.draft.names);
         Imported {
-            instance: self.draft.instance,
-            labels: self.draft.labels,
+            school: names::settled(instance, named),
             carried: self.carried,
             remarks: self.remarks,
             divisor,

@@ -17,12 +17,13 @@ mod rooms;
 mod school;
 mod students;
 
-use super::draft::{Draft, Sort, Weight, Who, Wish};
+use super::draft::{Draft, Weight, Who, Wish};
 use super::remark::{Fault, Refused};
 use super::times::TimeSet;
 use super::writer::{Carried, Imported, Writer};
 use super::xml::Element;
 use crate::instance::Event;
+use crate::school::{Day, ResourceSort};
 use context::{Context, Person, Reading};
 use item::Item;
 use lessons::{activities, Lessons};
@@ -197,11 +198,17 @@ fn people<'a>(
         working: TimeSet::below(school.times()),
     };
     for (name, events) in taught {
-        let resource = person(draft, &mut context, Sort::Teacher, name, &events)?;
+        let resource = person(draft, &mut context, ResourceSort::Teacher, name, &events)?;
         context.teachers.insert(name.clone(), resource);
     }
     for class in classes {
-        let resource = person(draft, &mut context, Sort::Class, &class.name, &class.events)?;
+        let resource = person(
+            draft,
+            &mut context,
+            ResourceSort::Class,
+            &class.name,
+            &class.events,
+        )?;
         context.classes.push((class, resource));
     }
     Ok(context)
@@ -209,19 +216,17 @@ fn people<'a>(
 
 fn name_things(school: &School, lessons: &Lessons, draft: &mut Draft) {
     draft.instance.times = school.times();
-    for (day, day_name) in school.days.iter().enumerate() {
-        for hour in &school.hours {
-            draft.labels.times.push(format!("{day_name} {hour}"));
-            draft.labels.days.push(day);
-        }
-    }
-    draft.labels.day_names = school.days.clone();
+    draft.names.title = school.title.clone();
+    let day = |name: &String| Day {
+        name: Some(name.clone()),
+        periods: school.hours.clone(),
+    };
+    draft.names.days = school.days.iter().map(day).collect();
     for (event, lesson) in lessons.lessons.iter().enumerate() {
-        draft.labels.events.push(lessons.name(school, event));
-        let resources = Vec::new();
+        draft.names.lessons.push(lessons.name(school, event));
         draft.instance.events.push(Event {
             duration: lesson.duration,
-            resources,
+            resources: Vec::new(),
         });
     }
 }
@@ -229,7 +234,7 @@ fn name_things(school: &School, lessons: &Lessons, draft: &mut Draft) {
 fn person(
     draft: &mut Draft,
     context: &mut Context,
-    sort: Sort,
+    sort: ResourceSort,
     name: &str,
     events: &[usize],
 ) -> Result<usize, String> {

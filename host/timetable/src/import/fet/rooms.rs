@@ -1,12 +1,13 @@
 //! Rooms: the engine chooses none, so a room matters where activities are pinned to it.
 
-use super::super::draft::{Draft, Sort, Who, Wish};
+use super::super::draft::{Draft, Who, Wish};
 use super::super::remark::{Fault, Refused};
 use super::super::times::TimeSet;
 use super::super::xml::Element;
 use super::context::{Context, Reading};
 use super::item::Item;
 use super::lessons::activities;
+use crate::school::ResourceSort;
 use std::collections::{BTreeMap, BTreeSet};
 
 /// A room to which events are pinned.
@@ -64,7 +65,7 @@ impl Rooms {
             let clashless = events.len() < 2 || context.people.iter().any(all_of);
             room.standing = match clashless && (!room.limited || events.is_empty()) {
                 true => Standing::Implied,
-                false => match draft.resource(Sort::Room, name.clone()) {
+                false => match draft.resource(ResourceSort::Room, name.clone()) {
                     Some(resource) => Standing::Resource(resource),
                     None => Standing::NoRoomLeft,
                 },

@@ -8,6 +8,7 @@ use std::collections::HashMap;
 
 /// What a FET file says before its constraints.
 pub struct School {
+    pub title: Option<String>,
     pub days: Vec<String>,
     pub hours: Vec<String>,
     pub teachers: Vec<String>,
@@ -56,7 +57,9 @@ impl School {
         if days.is_empty() || hours.is_empty() {
             return Err(Fault::at(root, "the days or the hours are missing"));
         }
+        let title = root.field("Institution_Name");
         let mut school = School {
+            title: (!title.is_empty()).then(|| title.to_string()),
             days,
             hours,
             teachers: names(root, "Teachers_List", "Teacher"),

@@ -29,10 +29,10 @@ pub struct Lesson {
 
 /// An instance of an archive.
 pub struct Archive {
-    pub id: String,
+    pub named: Named,
     pub times: Vec<Named>,
-    /// The day of each time, by name; empty where the file names none.
-    pub days: Vec<String>,
+    /// The name of each time's day, where the file names one.
+    pub days: Vec<Option<String>>,
     pub resources: Vec<Named>,
     /// The type of each resource, by id.
     pub types: Vec<String>,
@@ -83,7 +83,7 @@ pub fn instance<'a>(root: &'a Element, id: Option<&str>) -> Result<&'a Element, 
 impl Archive {
     pub fn read(instance: &Element) -> Result<Archive, Fault> {
         let mut archive = Archive {
-            id: id(instance)?,
+            named: title(instance)?,
             times: Vec::new(),
             days: Vec::new(),
             resources: Vec::new(),
@@ -118,7 +118,7 @@ impl Archive {
                 at,
             )?;
             let day = time.child("Day").and_then(|day| day.attribute("Reference"));
-            self.days.push(day.unwrap_or("").to_string());
+            self.days.push(day.map(|id| day_name(times, id)));
         }
         Ok(())
     }
@@ -268,6 +268,34 @@ fn id(element: &Element) -> Result<String, Fault> {
     match element.attribute("Id") {
         Some(id) => Ok(id.to_string()),
         None => Err(Fault::at(element, format!("{} has no Id", element.name))),
+    }
+}
+
+/// The instance's id, and its name in the metadata.
+fn title(instance: &Element) -> Result<Named, Fault> {
+    let named = named(instance)?;
+    let name = instance
+        .child("MetaData")
+        .map_or("", |data| data.field("Name"));
+    Ok(match name {
+        "" => named,
+        name => Named {
+            name: name.to_string(),
+            ..named
+        },
+    })
+}
+
+fn day_name(times: &Element, id: &str) -> String {
+    let groups = times
+        .child("TimeGroups")
+        .map_or(&[][..], |list| &list.children);
+    let day = groups
+        .iter()
+        .find(|group| group.attribute("Id") == Some(id));
+    match day.map_or("", |day| day.field("Name")) {
+        "" => id.to_string(),
+        name => name.to_string(),
     }
 }
 

@@ -8,12 +8,13 @@ mod archive;
 mod rules;
 mod solution;
 
-use super::draft::{Draft, Sort, Weight, Wish};
+use super::draft::{Draft, Weight, Wish};
 use super::remark::{Fault, Refused};
 use super::times::TimeSet;
 use super::writer::{Carried, Imported, Writer};
 use super::xml::Element;
 use crate::instance::Event;
+use crate::school::{Day, ResourceSort};
 use archive::Archive;
 use rules::Item;
 pub use solution::with_solution;
@@ -92,37 +93,59 @@ fn must_place_all(archive: &Archive, items: &[Item]) -> Result<(), Fault> {
 fn draft(archive: &Archive) -> Draft {
     let mut draft = Draft::default();
     draft.instance.times = archive.times.len();
-    draft.labels.times = archive.times.iter().map(|time| time.name.clone()).collect();
-    for day in &archive.days {
-        let known = draft.labels.day_names.iter().position(|name| name == day);
-        let at = known.unwrap_or(draft.labels.day_names.len());
-        if known.is_none() {
-            draft.labels.day_names.push(day.clone());
-        }
-        draft.labels.days.push(at);
-    }
+    draft.names.title = Some(archive.named.name.clone());
+    draft.names.days = days(archive);
     for lesson in &archive.lessons {
-        draft.labels.events.push(lesson.named.name.clone());
-        let resources = Vec::new();
+        draft.names.lessons.push(lesson.named.name.clone());
         draft.instance.events.push(Event {
             duration: lesson.duration,
-            resources,
+            resources: Vec::new(),
         });
     }
     for (at, named) in archive.resources.iter().enumerate() {
-        let sort = match archive.types[at].to_lowercase().as_str() {
-            "teacher" => Sort::Teacher,
-            "class" | "student" => Sort::Class,
-            "room" => Sort::Room,
-            _ => Sort::Other,
-        };
         let uses = |event: &usize| archive.lessons[*event].resources.contains(&at);
         let events: Vec<usize> = (0..archive.lessons.len()).filter(uses).collect();
-        if let Some(resource) = draft.resource(sort, named.name.clone()) {
+        if let Some(resource) = draft.resource(sort(&archive.types[at]), named.name.clone()) {
             draft.use_by(resource, &events);
         }
     }
     draft
+}
+
+/// The times by days; as times of no day where a day's times do not stand together.
+fn days(archive: &Archive) -> Vec<Day> {
+    let mut days: Vec<Day> = Vec::new();
+    for (time, day) in archive.times.iter().zip(&archive.days) {
+        match days.last_mut() {
+            Some(last) if &last.name == day => last.periods.push(time.name.clone()),
+            _ => days.push(Day {
+                name: day.clone(),
+                periods: vec![time.name.clone()],
+            }),
+        }
+    }
+    let apart = |at: usize| {
+        days[at + 1..]
+            .iter()
+            .any(|other| other.name == days[at].name)
+    };
+    if (0..days.len()).any(apart) {
+        let periods = archive.times.iter().map(|time| time.name.clone()).collect();
+        return vec![Day {
+            name: None,
+            periods,
+        }];
+    }
+    days
+}
+
+fn sort(type_id: &str) -> ResourceSort {
+    match type_id.to_lowercase().as_str() {
+        "teacher" => ResourceSort::Teacher,
+        "class" | "student" => ResourceSort::Class,
+        "room" => ResourceSort::Room,
+        _ => ResourceSort::Other,
+    }
 }
 
 /// An event with a given time starts there and is one part.

@@ -67,7 +67,7 @@ fn solution_group(archive: &Archive, timetable: &[u8], name: &str, description: 
          <Solution Reference=\"{}\">\n<Events>\n",
         escape(name),
         escape(description),
-        escape(&archive.id)
+        escape(&archive.named.id)
     );
     for (event, lesson) in archive.lessons.iter().enumerate() {
         for (start, duration) in parts(archive, timetable, event) {
