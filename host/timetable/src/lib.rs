@@ -8,3 +8,4 @@ pub mod instance;
 pub mod number;
 pub mod proof;
 pub mod school;
+pub mod view;

@@ -1,5 +1,5 @@
 //! Constraints of the text form. A statement stands for one constraint, or,
-//! where `every` stands for a single thing, for one with each.
+//! where it says `each`, for one with each of the things named.
 
 use super::cursor::Cursor;
 use super::declarations::{limited, Declarations};
@@ -127,15 +127,20 @@ impl<'a> Scope<'a> {
         if !field.lead.is_empty() {
             cursor.expect(field.lead)?;
         }
-        match (field.sort, field.sort.thing()) {
-            (Sort::Events | Sort::Groups, Some(thing)) => {
-                Ok(vec![Given::Many(self.list(thing, cursor)?)])
-            }
-            (_, Some(thing)) => {
-                let things = self.term(thing, cursor)?.into_iter();
-                Ok(things.map(Given::One).collect())
-            }
-            (_, None) => Ok(vec![Given::One(self.number(field, cursor)?)]),
+        let Some(thing) = field.sort.thing() else {
+            return Ok(vec![Given::One(self.number(field, cursor)?)]);
+        };
+        let is_list = matches!(field.sort, Sort::Events | Sort::Groups);
+        if cursor.passes("each") {
+            let things = self.several(thing, Number::Singular, cursor)?.into_iter();
+            return Ok(match is_list {
+                true => things.map(|one| Given::Many(vec![one])).collect(),
+                false => things.map(Given::One).collect(),
+            });
+        }
+        match is_list {
+            true => Ok(vec![Given::Many(self.list(thing, cursor)?)]),
+            false => Ok(vec![Given::One(self.named(thing, cursor)?)]),
         }
     }
 
@@ -183,19 +188,21 @@ impl<'a> Scope<'a> {
         }
         loop {
             let place = cursor.place();
-            for member in self.term(thing, cursor)? {
+            let more = match cursor.passes("all") {
+                true => self.several(thing, Number::Plural, cursor)?,
+                false => vec![self.named(thing, cursor)?],
+            };
+            for member in more {
                 if members.contains(&member) {
                     let name = &self.names(thing)[member];
-                    return Err(TextFault::at(
-                        place,
-                        format!("'{name}' stands twice in a list"),
-                    ));
+                    let message = format!("'{name}' stands twice in a list");
+                    return Err(TextFault::at(place, message));
                 }
                 members.push(member);
             }
             if !cursor
                 .peek()
-                .is_some_and(|word| word.is("every") || word.is_name())
+                .is_some_and(|word| word.is("all") || word.is_name())
             {
                 members.sort_unstable();
                 return Ok(members);
@@ -203,76 +210,92 @@ impl<'a> Scope<'a> {
         }
     }
 
-    /// A name, or `every` with what it is said of.
-    fn term(&self, thing: Thing, cursor: &mut Cursor) -> Result<Vec<usize>, TextFault> {
+    /// The thing with the name that stands next.
+    fn named(&self, thing: Thing, cursor: &mut Cursor) -> Result<usize, TextFault> {
+        let one = one(thing);
+        let word = cursor.name(&format!("the name of a {one}"))?;
+        let index = match thing {
+            Thing::Resource => &self.declared.resources,
+            Thing::Group => &self.declared.groups,
+            _ => &self.declared.lessons,
+        };
+        let found = index.get(&word.text).copied();
+        let message = || format!("there is no {one} '{}'", word.text);
+        found.ok_or_else(|| TextFault::at(word.place, message()))
+    }
+
+    /// What `each` or `all` stands for; it is never nothing.
+    fn several(
+        &self,
+        thing: Thing,
+        number: Number,
+        cursor: &mut Cursor,
+    ) -> Result<Vec<usize>, TextFault> {
         let place = cursor.place();
-        let (found, what) = match cursor.passes("every") {
-            true => self.every(thing, cursor)?,
-            false => {
-                let one = one(thing);
-                let word = cursor.name(&format!("the name of a {one}"))?;
-                let index = match thing {
-                    Thing::Resource => &self.declared.resources,
-                    Thing::Group => &self.declared.groups,
-                    _ => &self.declared.lessons,
-                };
-                let found = index.get(&word.text).copied().into_iter().collect();
-                (found, format!("{one} '{}'", word.text))
-            }
+        let found = match thing {
+            Thing::Resource => self.several_resources(number, cursor)?,
+            Thing::Group => self.several_groups(number, cursor)?,
+            _ => self.several_lessons(number, cursor)?,
         };
         match found.is_empty() {
-            true => Err(TextFault::at(place, format!("there is no {what}"))),
+            true => Err(TextFault::at(place, "there is none")),
             false => Ok(found),
         }
     }
 
-    /// What `every` stands for, and how it is called where there is none.
-    fn every(&self, thing: Thing, cursor: &mut Cursor) -> Result<(Vec<usize>, String), TextFault> {
-        let all = 0..self.counts.of(thing);
-        match thing {
-            Thing::Resource => self.every_resource(cursor),
-            Thing::Group if cursor.passes("group") => Ok((all.collect(), "group".to_string())),
-            Thing::Group if cursor.passes("day") => {
-                let days = &self.declared.names.days;
-                let groups = &self.declared.names.groups;
-                let is_day = |&group: &usize| {
-                    let mut names = days.iter().filter_map(|day| day.name.as_ref());
-                    names.any(|name| *name == groups[group])
-                };
-                let what = "group with the name of a day ('groups by day' declares them)";
-                Ok((all.filter(is_day).collect(), what.to_string()))
-            }
-            Thing::Group => Err(cursor.expected("'day' or 'group'")),
-            _ => self.every_lesson(cursor),
-        }
-    }
-
-    fn every_resource(&self, cursor: &mut Cursor) -> Result<(Vec<usize>, String), TextFault> {
+    /// The resources of a sort. The word for those of no other sort stands for
+    /// every resource here.
+    fn several_resources(
+        &self,
+        number: Number,
+        cursor: &mut Cursor,
+    ) -> Result<Vec<usize>, TextFault> {
+        let word = |sort: ResourceSort| number.pick(sort.one(), sort.many());
         let sort = ResourceSort::ALL
             .into_iter()
-            .find(|sort| cursor.passes(sort.one()));
+            .find(|&sort| cursor.passes(word(sort)));
         let Some(sort) = sort else {
-            return Err(cursor.expected("'teacher', 'class', 'room' or 'resource'"));
+            let words = ResourceSort::ALL.map(word);
+            return Err(cursor.expected(&format!("one of {}", words.join(", "))));
         };
-        // The word for a resource of another sort stands for all of them here.
-        let chosen = |&at: &usize| {
-            sort == ResourceSort::Other || self.declared.names.resources[at].sort == sort
-        };
-        Ok((
-            (0..self.counts.resources).filter(chosen).collect(),
-            sort.one().to_string(),
-        ))
+        let resources = &self.declared.names.resources;
+        let chosen = |&at: &usize| sort == ResourceSort::Other || resources[at].sort == sort;
+        Ok((0..self.counts.resources).filter(chosen).collect())
     }
 
-    fn every_lesson(&self, cursor: &mut Cursor) -> Result<(Vec<usize>, String), TextFault> {
-        cursor.expect("lesson")?;
+    /// Every group, or those with the name of a day.
+    fn several_groups(&self, number: Number, cursor: &mut Cursor) -> Result<Vec<usize>, TextFault> {
+        let all = 0..self.counts.groups;
+        let [group, day] = [number.pick("group", "groups"), number.pick("day", "days")];
+        if cursor.passes(group) {
+            return Ok(all.collect());
+        }
+        if !cursor.passes(day) {
+            return Err(cursor.expected(&format!("'{day}' or '{group}'")));
+        }
+        let names = &self.declared.names;
+        let is_day = |&at: &usize| {
+            let mut days = names.days.iter().filter_map(|day| day.name.as_ref());
+            days.any(|day| *day == names.groups[at])
+        };
+        Ok(all.filter(is_day).collect())
+    }
+
+    /// Every lesson, or those with a resource.
+    fn several_lessons(
+        &self,
+        number: Number,
+        cursor: &mut Cursor,
+    ) -> Result<Vec<usize>, TextFault> {
+        cursor.expect(number.pick("lesson", "lessons"))?;
         let all = 0..self.counts.events;
         if !cursor.passes("with") {
-            return Ok((all.collect(), "lesson".to_string()));
+            return Ok(all.collect());
         }
-        let resource = self.term(Thing::Resource, cursor)?;
-        let uses = |&lesson: &usize| resource.iter().any(|&r| self.instance.uses(lesson, r));
-        Ok((all.filter(uses).collect(), "lesson with it".to_string()))
+        let resource = self.named(Thing::Resource, cursor)?;
+        Ok(all
+            .filter(|&lesson| self.instance.uses(lesson, resource))
+            .collect())
     }
 
     fn names(&self, thing: Thing) -> Vec<String> {
@@ -282,6 +305,22 @@ impl<'a> Scope<'a> {
             Thing::Group => names.groups.clone(),
             Thing::Event => names.lessons.clone(),
             Thing::Time => names.times(),
+        }
+    }
+}
+
+/// Which of a word's two forms is wanted: after `each` or after `all`.
+#[derive(Clone, Copy)]
+enum Number {
+    Singular,
+    Plural,
+}
+
+impl Number {
+    fn pick<'a>(self, one: &'a str, many: &'a str) -> &'a str {
+        match self {
+            Number::Singular => one,
+            Number::Plural => many,
         }
     }
 }

@@ -36,7 +36,7 @@ pub struct Statement {
 
 /// The words that no unquoted name may be, beside those before the fields of kinds.
 const RESERVED: &[&str] = &[
-    "all", "and", "at", "between", "every", "exactly", "except", "hard", "in", "is", "least",
+    "all", "and", "at", "between", "each", "exactly", "except", "hard", "in", "is", "least",
     "most", "none", "periods", "takes", "to", "weight", "with",
 ];
 
