@@ -211,10 +211,13 @@ impl Draft {
         if let Some(&resource) = self.resource_of.get(&events) {
             return Ok(resource);
         }
-        let names = events
-            .iter()
-            .map(|&event| self.names.lessons[event].as_str());
-        let name = format!("set {}", names.collect::<Vec<_>>().join(" / "));
+        let first = events
+            .first()
+            .map_or("nothing", |&event| &self.names.lessons[event]);
+        let name = match events.len() {
+            0 | 1 => format!("set {first}"),
+            count => format!("set {first} and {} more", count - 1),
+        };
         let resource = self.resource(ResourceSort::Other, name).ok_or_else(|| {
             format!("its set of events needs a resource, and {MOST_RESOURCES} are the most")
         })?;
