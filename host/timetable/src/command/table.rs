@@ -2,12 +2,14 @@
 
 use super::frame::declare::Subcommand;
 use super::{
-    check, compile, completion, decode, diff, explain, help, man, read, same, score, show, sizes,
-    text,
+    check, compile, completion, decode, diff, explain, export, help, import, man, read, same,
+    score, show, sizes, text,
 };
 
 pub const SUBCOMMANDS: &[&Subcommand] = &[
     &compile::SUBCOMMAND,
+    &import::SUBCOMMAND,
+    &export::SUBCOMMAND,
     &explain::SUBCOMMAND,
     &read::SUBCOMMAND,
     &sizes::SUBCOMMAND,
