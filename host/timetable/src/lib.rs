@@ -5,3 +5,5 @@ pub mod command;
 pub mod engine;
 pub mod number;
 pub mod proof;
+#[cfg(feature = "engine")]
+pub mod solver;
