@@ -1,4 +1,6 @@
 //! The C header: a C program over it, and the functions it declares.
+#![cfg(feature = "engine")]
+#![cfg(feature = "engine")]
 
 use std::fs;
 use std::path::{Path, PathBuf};

@@ -1,7 +1,12 @@
 //! Refusals in words.
 
+use super::given::Given;
 use crate::engine::Refusal;
 use crate::proof;
+use std::ops::RangeInclusive;
+
+/// The numbers of the refusals.
+pub const NUMBERS: RangeInclusive<u32> = 1..=18;
 
 /// When each refusal is given, from 1, and what its value is: `{}` stands for
 /// the value, and nothing for a value that says nothing.
@@ -61,8 +66,35 @@ pub fn words(number: u32) -> &'static str {
     entry(number).0
 }
 
+/// A refusal in words, with the file that earned it: `operand`, or the one that
+/// the refusal's number tells.
+pub fn message(given: &Given, refusal: Refusal, operand: Option<&'static str>) -> String {
+    let operand = operand.or_else(|| {
+        let mut names = operands(refusal.number).iter();
+        names.find(|name| given.has_operand(name)).copied()
+    });
+    let Some(operand) = operand else {
+        return in_words(refusal, &[]);
+    };
+    if operand == "BOUND" {
+        return format!("bound {}: {}", refusal.value, in_words(refusal, &[]));
+    }
+    let file = given.file(operand);
+    format!("{}: {}", file.name, in_words(refusal, &file.bytes))
+}
+
+/// The operands that can earn refusal `number`.
+fn operands(number: u32) -> &'static [&'static str] {
+    match number {
+        7 => &["BOUND"],
+        10..=13 => &["TIMETABLE", "FIRST", "MODEL"],
+        14..=18 => &["PROOF"],
+        _ => &["INSTANCE"],
+    }
+}
+
 /// A refusal in words and numbers, with the bytes that it points at.
-pub fn message(refusal: Refusal, bytes: &[u8]) -> String {
+pub fn in_words(refusal: Refusal, bytes: &[u8]) -> String {
     let Refusal { number, value } = refusal;
     let (when, gives) = entry(number);
     let mut message = format!("refusal {number} {value}: {when}");

@@ -1,0 +1,30 @@
+//! `timetable read`: whether an instance file is accepted.
+
+use super::frame::answer::Answer;
+use super::frame::declare::Subcommand;
+use super::frame::operands::{INSTANCE, JSON};
+use crate::engine;
+
+pub const SUBCOMMAND: Subcommand = Subcommand {
+    name: "read",
+    about: "whether an instance file is accepted, and how much it holds",
+    operands: &[INSTANCE],
+    options: &[JSON],
+    prints: "'accepted', then times, events, resources, groups and constraints, each with its \
+             number on a line",
+    details: "",
+    refusals: &[1..=6],
+    run: |given, _| {
+        let found = engine::read(given.bytes("INSTANCE"))?;
+        Ok(Answer::report(
+            Some("accepted"),
+            &[
+                ("times", found.times as u64),
+                ("events", found.events as u64),
+                ("resources", found.resources as u64),
+                ("groups", found.groups as u64),
+                ("constraints", found.constraints as u64),
+            ],
+        ))
+    },
+};
