@@ -7,13 +7,16 @@
 mod check;
 mod completion;
 mod decode;
+mod dimacs;
 pub mod frame;
 mod help;
 mod man;
+mod model;
 mod read;
 mod same;
 mod score;
 mod sizes;
+mod steps;
 mod table;
 mod text;
 

@@ -1,15 +1,20 @@
 //! The table of subcommands: a file of this folder and a line here for each.
 
 use super::frame::declare::Subcommand;
-use super::{check, completion, decode, help, man, read, same, score, sizes, text};
+use super::{
+    check, completion, decode, dimacs, help, man, model, read, same, score, sizes, steps, text,
+};
 
 pub const SUBCOMMANDS: &[&Subcommand] = &[
     &read::SUBCOMMAND,
     &sizes::SUBCOMMAND,
     &text::SUBCOMMAND,
+    &dimacs::SUBCOMMAND,
+    &model::SUBCOMMAND,
     &decode::SUBCOMMAND,
     &score::SUBCOMMAND,
     &same::SUBCOMMAND,
+    &steps::SUBCOMMAND,
     &check::SUBCOMMAND,
     &help::SUBCOMMAND,
     &man::SUBCOMMAND,
