@@ -16,6 +16,7 @@ mod read;
 mod same;
 mod score;
 mod sizes;
+mod solve;
 mod steps;
 mod table;
 mod text;

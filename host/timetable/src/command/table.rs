@@ -2,7 +2,8 @@
 
 use super::frame::declare::Subcommand;
 use super::{
-    check, completion, decode, dimacs, help, man, model, read, same, score, sizes, steps, text,
+    check, completion, decode, dimacs, help, man, model, read, same, score, sizes, solve, steps,
+    text,
 };
 
 pub const SUBCOMMANDS: &[&Subcommand] = &[
@@ -16,6 +17,7 @@ pub const SUBCOMMANDS: &[&Subcommand] = &[
     &same::SUBCOMMAND,
     &steps::SUBCOMMAND,
     &check::SUBCOMMAND,
+    &solve::SUBCOMMAND,
     &help::SUBCOMMAND,
     &man::SUBCOMMAND,
     &completion::SUBCOMMAND,

@@ -98,6 +98,7 @@ impl From<solver::Fault> for Fault {
         match fault {
             solver::Fault::Refused(refusal) => Fault::from(refusal),
             solver::Fault::Other(words) => Fault::Rejected(words),
+            solver::Fault::Failed(words) => Fault::Failed(words),
             solver::Fault::Stopped => Fault::Failed("stopped".to_string()),
         }
     }
