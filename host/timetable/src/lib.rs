@@ -3,5 +3,8 @@
 #[cfg(feature = "engine")]
 pub mod command;
 pub mod engine;
+pub mod instance;
 pub mod number;
 pub mod proof;
+pub mod school;
+pub mod view;

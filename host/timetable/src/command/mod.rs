@@ -5,14 +5,19 @@
 //! own and on a line of `table`; `frame` is what they have in common.
 
 mod check;
+mod compile;
 mod completion;
 mod decode;
+mod diff;
+mod explain;
 pub mod frame;
 mod help;
 mod man;
+mod names;
 mod read;
 mod same;
 mod score;
+mod show;
 mod sizes;
 mod table;
 mod text;
