@@ -172,7 +172,7 @@ fn every_refusal_is_told_in_words_with_its_numbers() {
     let mut told = Vec::new();
     for number in 1..=18 {
         let value = 1_000 + u64::from(number);
-        let message = refusals::in_words(Refusal { number, value }, &[]);
+        let message = refusals::in_words(Refusal { number, value }, &[], &[]);
         assert!(message.starts_with(&format!("refusal {number} {value}: ")));
         assert!(message.contains(refusals::words(number)), "{message}");
         assert!(!message.contains("{}"), "{message}");
