@@ -25,23 +25,52 @@ pub enum Answer {
 /// Reads the output of a solver over a formula whose first `variables`
 /// variables are the model's. Variables after them are passed over.
 pub fn read(output: &[u8], variables: usize) -> Result<Answer, Fault> {
-    let mut blocks = Blocks::new(variables);
-    let mut unsatisfiable = false;
+    let mut reading = Reading::new(variables);
     for line in output.split(|&byte| byte == b'\n') {
-        let line = String::from_utf8_lossy(line.trim_ascii());
-        match Line::of(&line) {
-            Line::Values(words) => blocks.values(words)?,
-            Line::Defined(text) => blocks.defined(text)?,
-            Line::Unsatisfiable => unsatisfiable = true,
-            Line::Other => blocks.end(false),
+        reading.line(line)?;
+    }
+    Ok(reading.end())
+}
+
+/// A solver's output that is read while it comes.
+pub struct Reading {
+    blocks: Blocks,
+    unsatisfiable: bool,
+}
+
+impl Reading {
+    pub fn new(variables: usize) -> Reading {
+        Reading {
+            blocks: Blocks::new(variables),
+            unsatisfiable: false,
         }
     }
-    blocks.end(false);
-    Ok(match blocks.whole.or(blocks.cut) {
-        Some(model) => Answer::Model(model),
-        None if unsatisfiable => Answer::Unsatisfiable,
-        None => Answer::Unknown,
-    })
+
+    /// Reads a further line. Gives a model if the line ends one.
+    pub fn line(&mut self, line: &[u8]) -> Result<Option<&[u8]>, Fault> {
+        let line = String::from_utf8_lossy(line.trim_ascii());
+        let models = self.blocks.models;
+        match Line::of(&line) {
+            Line::Values(words) => self.blocks.values(words)?,
+            Line::Defined(text) => self.blocks.defined(text)?,
+            Line::Unsatisfiable => self.unsatisfiable = true,
+            Line::Other => self.blocks.end(false),
+        }
+        match self.blocks.models > models {
+            true => Ok(self.blocks.whole.as_deref()),
+            false => Ok(None),
+        }
+    }
+
+    /// What the whole output says.
+    pub fn end(mut self) -> Answer {
+        self.blocks.end(false);
+        match self.blocks.whole.or(self.blocks.cut) {
+            Some(model) => Answer::Model(model),
+            None if self.unsatisfiable => Answer::Unsatisfiable,
+            None => Answer::Unknown,
+        }
+    }
 }
 
 /// The model in a solver's output, or why there is none.
@@ -98,6 +127,8 @@ struct Blocks {
     words: usize,
     /// The variable whose definition goes on in the next line.
     defining: Option<usize>,
+    /// How many blocks were whole.
+    models: usize,
     /// The last block that was whole, and the last that was cut short.
     whole: Option<Vec<u8>>,
     cut: Option<Vec<u8>>,
@@ -110,6 +141,7 @@ impl Blocks {
             values: vec![None; variables],
             words: 0,
             defining: None,
+            models: 0,
             whole: None,
             cut: None,
         }
@@ -183,11 +215,13 @@ impl Blocks {
         let model = values.iter().map(|value| u8::from(*value == Some(true)));
         let model: Vec<u8> = model.collect();
         let all_named = values.iter().all(Option::is_some);
-        let slot = match whole || all_named {
-            true => &mut self.whole,
-            false => &mut self.cut,
-        };
-        *slot = Some(model);
+        match whole || all_named {
+            true => {
+                self.models += 1;
+                self.whole = Some(model);
+            }
+            false => self.cut = Some(model),
+        }
         self.words = 0;
         self.defining = None;
     }

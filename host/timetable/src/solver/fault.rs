@@ -10,6 +10,8 @@ pub enum Fault {
     Refused(Refusal),
     /// A solver's output or proof cannot be used; in words.
     Other(String),
+    /// A file cannot be read or written, or a program cannot be run; in words.
+    Failed(String),
     /// It was asked to stop.
     Stopped,
 }
@@ -24,7 +26,7 @@ impl fmt::Display for Fault {
     fn fmt(&self, out: &mut fmt::Formatter) -> fmt::Result {
         match self {
             Fault::Refused(Refusal { number, value }) => write!(out, "refused {number} {value}"),
-            Fault::Other(words) => out.write_str(words),
+            Fault::Other(words) | Fault::Failed(words) => out.write_str(words),
             Fault::Stopped => out.write_str("stopped"),
         }
     }

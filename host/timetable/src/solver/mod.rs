@@ -2,7 +2,7 @@
 //!
 //! `formula` and `dimacs` write what a solver reads; `answers` turns what it
 //! prints into a model; `proofs`, with `lrat` and `drat`, turns a proof that it
-//! writes into the steps of a bound proof. Nothing here is proved or has to be:
+//! writes into the steps of a bound proof; `solve` runs solvers. Nothing here is proved or has to be:
 //! a wrong model is refused by the decoder, a wrong proof by the checker.
 
 pub mod answers;
@@ -13,6 +13,7 @@ pub mod formula;
 pub mod literal;
 pub mod lrat;
 pub mod proofs;
+pub mod solve;
 mod step_bytes;
 
 pub use fault::Fault;
