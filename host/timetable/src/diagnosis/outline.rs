@@ -311,18 +311,21 @@ impl Clause {
                 }
             }
             Purpose::Idle { time, .. } => {
-                format!("a variable of the idle time {} has not its value", time + 1)
+                format!(
+                    "a variable for the idle time {} has a wrong value",
+                    time + 1
+                )
             }
             Purpose::Counter { time, columns, .. } => {
                 let (row, column) = cell(self.place, columns as u64);
                 format!(
-                    "the counter{} has not its value in row {row}, column {column}",
+                    "its counter{} has a wrong value in row {row}, column {column}",
                     at_time(time)
                 )
             }
             Purpose::Shortage { j } => {
                 format!(
-                    "the variable for a count from 1 to {} has not its value",
+                    "the variable for a count from 1 to {} has a wrong value",
                     j - 1
                 )
             }

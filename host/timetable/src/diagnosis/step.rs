@@ -31,7 +31,7 @@ pub fn reason(refusal: Refusal, inputs: &Inputs) -> Option<String> {
 fn ending(proof: &[u8], steps: u64) -> String {
     match start_of(proof, steps + 1) {
         Some(at) if at < proof.len() => format!(
-            "step {steps} adds the empty clause, and {} bytes follow it",
+            "step {steps} adds the empty clause; bytes after it: {}",
             proof.len() - at
         ),
         _ => "the proof ends, and no step has added the empty clause: is it cut short?".to_string(),
