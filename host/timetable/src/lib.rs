@@ -2,6 +2,8 @@
 
 #[cfg(feature = "engine")]
 pub mod command;
+#[cfg(feature = "engine")]
+pub mod diagnosis;
 pub mod engine;
 pub mod import;
 pub mod instance;

@@ -8,6 +8,7 @@ use std::fs;
 use std::process::Command;
 use support::{folder, repository};
 use timetable::engine::{LARGEST_BOUND, MOST_VARIABLES, REFUSALS};
+use timetable::instance;
 
 fn header() -> String {
     fs::read_to_string(repository().join("include/timetable.h")).expect("the header")
@@ -89,6 +90,17 @@ fn the_enum_has_the_refusals_by_their_names() {
 #[test]
 fn the_macros_are_the_limits() {
     let wanted = [
+        ("MOST_TIMES", u64::from(instance::MOST_TIMES)),
+        ("MOST_EVENTS", u64::from(instance::MOST_EVENTS)),
+        ("MOST_RESOURCES", u64::from(instance::MOST_RESOURCES)),
+        ("MOST_GROUPS", u64::from(instance::MOST_GROUPS)),
+        ("MOST_CONSTRAINTS", u64::from(instance::MOST_CONSTRAINTS)),
+        ("LARGEST_WEIGHT", u64::from(instance::LARGEST_WEIGHT)),
+        (
+            "LARGEST_BOUND_OF_COUNT",
+            u64::from(instance::LARGEST_BOUND_OF_COUNT),
+        ),
+        ("LONGEST_LIST", instance::LONGEST_LIST as u64),
         ("LARGEST_BOUND", LARGEST_BOUND),
         ("MOST_VARIABLES", MOST_VARIABLES),
     ];
@@ -97,6 +109,10 @@ fn the_macros_are_the_limits() {
         let line = format!("\n#define TIMETABLE_{name} {limit}\n");
         assert!(header.contains(&line), "{name}");
     }
+    let limits = header.lines().filter(|line| {
+        line.starts_with("#define TIMETABLE_") && line.ends_with(|last: char| last.is_ascii_digit())
+    });
+    assert_eq!(limits.count(), wanted.len());
 }
 
 #[test]

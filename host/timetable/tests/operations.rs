@@ -50,7 +50,8 @@ fn sizes_prints_what_to_lend() {
     let found = run(&["sizes", &large, "0"]);
     assert_eq!(found.printed, "refused 8 0\n");
     let said = "timetable sizes: oversized: refusal 8 0: the formula has more than 8,000,000 \
-                variables\n";
+                variables\n  it has 8016875: 8016875 without the tail, and 0 of the tail for \
+                the bound 0\n";
     assert_eq!((found.said.as_str(), found.status), (said, 1));
 }
 

@@ -3,12 +3,17 @@
 
 mod support;
 
-use support::{file, folder, hex, run, Run, FILE_A, PROOF_A};
+use support::{file, folder, hex, oversized, run, Run, FILE_A, PROOF_A};
 use timetable::command::frame::refusals;
 use timetable::engine::Refusal;
 
+/// The lines of a message after its first: the reasons, and the bytes.
+fn below(said: &str) -> Vec<&str> {
+    said.lines().skip(1).map(str::trim_start).collect()
+}
+
 #[test]
-fn read_says_which_refusal_and_where() {
+fn a_refusal_is_told_with_its_place_its_reason_and_the_bytes() {
     let name = file("lo-above-hi", &hex("01 01 00 01 00 00 02 04 00 01 01 00"));
     assert_eq!(
         run(&["read", &name]),
@@ -16,6 +21,8 @@ fn read_says_which_refusal_and_where() {
             printed: "refused 5 7\n".to_string(),
             said: "timetable read: lo-above-hi: refusal 5 7: lo is above hi, or above the \
                    length of the counted list; the constraint's kind is at offset 7\n  \
+                   constraint 1, kind split: lo is 1, above hi, which is 0 (lo 1, hi 0, \
+                   length 1)\n  \
                    bytes from offset 0: 01 01 00 01 00 00 02 [04] 00 01 01 00\n"
                 .to_string(),
             status: 1,
@@ -24,147 +31,431 @@ fn read_says_which_refusal_and_where() {
 }
 
 #[test]
-fn an_empty_file_is_refused_at_its_end() {
-    let found = run(&["read", &file("empty", b"")]);
-    assert_eq!(found.printed, "refused 1 0\n");
-    assert!(found
-        .said
-        .ends_with("offset 0\n  bytes from offset 0: [end]\n"));
-    assert_eq!(found.status, 1);
-}
-
-#[test]
 fn a_long_file_is_shown_around_the_offset() {
     let mut bytes = hex(FILE_A);
     bytes.extend([9; 40]);
     let found = run(&["read", &file("left-over", &bytes)]);
     assert_eq!(found.printed, "refused 6 12\n");
-    assert!(found
-        .said
-        .contains("bytes are left over after the last constraint"));
-    assert!(found.said.ends_with(
-        "\n  bytes from offset 4: .. 00 01 00 01 03 04 01 01 [09] 09 09 09 09 09 09 09 09 ..\n"
-    ));
+    assert_eq!(
+        below(&found.said),
+        [
+            "after the last constraint: 40 bytes are left over",
+            "bytes from offset 4: .. 00 01 00 01 03 04 01 01 [09] 09 09 09 09 09 09 09 09 ..",
+        ]
+    );
 }
 
 #[test]
-fn score_says_which_file_is_refused() {
-    let a = file("a-to-score", &hex(FILE_A));
-    let cut = file("cut-to-score", &hex(FILE_A)[..11]);
-    let [nowhere, short, two] = [
-        file("nowhere", &[0, 0]),
-        file("short", &[1]),
-        file("two", &[1, 2]),
-    ];
-    for (words, printed, said) in [
+fn refused_instances_are_told_by_field_value_and_limit() {
+    let long_list = {
+        let events = "01 00 ".repeat(4);
+        let times: String = (1..=64).map(|time| format!("{time:02x} ")).collect();
+        format!("7D 04 00 {events} 01 40 {times} 01 05 01 04 01 02 03 04 01 00 09")
+    };
+    for (place, (bytes, printed, reason)) in [
         (
-            [&cut, &two],
+            "",
+            "refused 1 0\n",
+            "number of times: the number is cut short, overlong or too large",
+        ),
+        (
+            "01 01 00 01 00 01 00 01 03 04 01",
             "refused 1 11\n",
-            "timetable score: cut-to-score: refusal 1 11: ",
+            "constraint 1, kind preferred-times, group: the number is cut short, overlong or \
+             too large",
         ),
         (
-            [&a, &short],
-            "refused 10 2\n",
-            "timetable score: short: refusal 10 2: the length is wrong; 2 bytes are wanted\n",
+            "7E",
+            "refused 2 0\n",
+            "number of times: 126 is not from 1 to 125",
         ),
         (
-            [&a, &two],
-            "refused 11 1\n",
-            "timetable score: two: refusal 11 1: a byte is above 1; the first is at offset 1\n  \
-             bytes from offset 0: 01 [02]\n",
+            "02 01 00 03 00",
+            "refused 2 3\n",
+            "event 1, duration: 3 is not from 1 to 2",
         ),
         (
-            [&a, &nowhere],
-            "refused 12 1\n",
-            "timetable score: nowhere: refusal 12 1: this is not a timetable; \
-             event 1 is the first to break it\n",
+            "01 01 00 01 00 00 01 09",
+            "refused 2 7\n",
+            "constraint 1, kind: 9 is not from 1 to 8",
         ),
-    ] {
-        let found = run(&["score", words[0], words[1]]);
+        (
+            "01 01 00 01 00 00 01 04 E9 07",
+            "refused 2 8\n",
+            "constraint 1, kind split, weight: 1001 is not from 0 to 1000",
+        ),
+        (
+            "01 01 01 01 00 00 01 01 00 02",
+            "refused 3 9\n",
+            "constraint 1, kind clash, resource: 2 names nothing, 1 to 1 are there",
+        ),
+        (
+            "01 01 00 01 00 00 01 01 00 01",
+            "refused 3 9\n",
+            "constraint 1, kind clash, resource: 1 names nothing, there is none to name",
+        ),
+        (
+            "02 01 00 01 00 01 02 01 01",
+            "refused 3 8\n",
+            "group 1, times, entry 2: 1 is not above the entry before it",
+        ),
+        (
+            &long_list,
+            "refused 4 78\n",
+            "constraint 1, kind spread: its counted list has 256 entries, 255 are the most \
+             (lo 0, hi 9, length 256)",
+        ),
+        (
+            "02 01 00 01 00 00 01 04 00 01 03 05",
+            "refused 5 7\n",
+            "constraint 1, kind split: lo is 3, above the 2 entries of its counted list (lo 3, hi \
+             5, length 2)",
+        ),
+    ]
+    .into_iter()
+    .enumerate()
+    {
+        let name = file(&format!("instance-{place}"), &hex(bytes));
+        let found = run(&["read", &name]);
         assert_eq!((found.printed.as_str(), found.status), (printed, 1));
-        assert!(found.said.starts_with(said), "{}", found.said);
+        assert_eq!(below(&found.said)[0], reason, "{printed}");
     }
+}
+
+#[test]
+fn a_formula_that_is_too_large_is_counted() {
+    let large = file("oversized", &oversized());
+    let found = run(&["text", &large]);
+    assert_eq!(found.printed, "refused 8 0\n");
+    assert_eq!(below(&found.said), ["it has 8016875"]);
+    // 2,000 soft units.
+    let soft = "01 01 00 01 00 01 00 D0 0F ".to_string() + &"03 01 01 01 ".repeat(2_000);
+    let soft = file("soft-units", &hex(&soft));
+    let found = run(&["sizes", &soft, "4095"]);
+    assert_eq!(found.printed, "refused 8 0\n");
+    assert_eq!(
+        below(&found.said),
+        ["it has 8194003: 2003 without the tail, and 8192000 of the tail for the bound 4095"]
+    );
+}
+
+#[test]
+fn refused_timetables_and_models_are_told_with_the_file_and_the_reason() {
+    let two = file("two-times", &hex("02 01 00 01 00 00 00"));
+    let a = file("a", &hex(FILE_A));
+    let cut = file("cut", &hex(FILE_A)[..11]);
+    for (place, (words, bytes, first, reasons)) in [
+        (
+            ["score", &cut],
+            &[1, 2][..],
+            "cut: refusal 1 11: ",
+            &[
+                "constraint 1, kind preferred-times, group: the number is cut short, overlong or \
+               too large",
+            ][..],
+        ),
+        (
+            ["score", &a],
+            &[1],
+            "table-1: refusal 10 2: the length is wrong; 2 bytes are wanted",
+            &["it has 1"],
+        ),
+        (
+            ["score", &a],
+            &[1, 1, 1, 1],
+            "table-2: refusal 10 2: the length is wrong; 2 bytes are wanted",
+            &["it has 4, the length of a model: 'timetable decode' takes the timetable out of it"],
+        ),
+        (
+            ["decode", &a],
+            &[1, 1],
+            "table-3: refusal 10 4: the length is wrong; 4 bytes are wanted",
+            &["it has 2, the length of a timetable"],
+        ),
+        (
+            ["score", &a],
+            &[1, 2],
+            "table-4: refusal 11 1: a byte is above 1; the first is at offset 1",
+            &["bytes from offset 0: 01 [02]"],
+        ),
+        (
+            ["score", &a],
+            &[0, 0],
+            "table-5: refusal 12 1: this is not a timetable; event 1 is the first to break it",
+            &["it takes 0 times, its duration is 1"],
+        ),
+        (
+            ["score", &two],
+            &[1, 0, 1, 1],
+            "table-6: refusal 12 1: ",
+            &["it starts at time 2, which it does not take"],
+        ),
+        (
+            ["score", &two],
+            &[0, 1, 0, 0],
+            "table-7: refusal 12 1: ",
+            &["it takes time 2 and not the one before, and does not start there"],
+        ),
+        (
+            ["decode", &a],
+            &[1, 0, 1, 1],
+            "table-8: refusal 13 2: a hard clause is false; 2 is the lowest such id",
+            &["block 1, event 1: it takes time 1 and does not start there"],
+        ),
+        (
+            ["decode", &a],
+            &[0, 0, 0, 0],
+            "table-9: refusal 13 5: a hard clause is false; 5 is the lowest such id",
+            &["block 3, event 1: the number of its times is below 1"],
+        ),
+    ]
+    .into_iter()
+    .enumerate()
+    {
+        let table = file(&format!("table-{place}"), bytes);
+        let found = run(&[words[0], words[1], &table]);
+        let said = format!("timetable {}: {first}", words[0]);
+        assert!(found.said.starts_with(&said), "{}", found.said);
+        assert!(below(&found.said).starts_with(reasons), "{}", found.said);
+        assert_eq!(found.status, 1);
+        let number: String = first.split(' ').skip(2).take(1).collect();
+        let printed = format!("refused {number} ");
+        assert!(found.printed.starts_with(&printed), "{}", found.printed);
+    }
+}
+
+/// A model of a school that breaks a hard constraint is told which.
+#[test]
+fn a_false_clause_is_told_by_its_constraint() {
+    // Two events of one resource at one time: a clash that cannot be kept.
+    let clash = file("clash", &hex("01 02 01 01 01 01 01 01 01 00 01 01 00 01"));
+    // Y, S, X, the two durations' counters, then the clash's counter of two rows and columns.
+    let model = file("clashing", &[1, 1, 1, 1, 1, 1, 1, 1, 0, 1, 1]);
+    let found = run(&["decode", &clash, &model]);
+    assert!(
+        found.printed.starts_with("refused 13 "),
+        "{}",
+        found.printed
+    );
+    assert_eq!(
+        below(&found.said),
+        [
+            "block 4, constraint 1, kind clash: the number of the resource's events at time 1 is \
+          above 1"
+        ]
+    );
 }
 
 #[test]
 fn a_refused_model_writes_no_timetable() {
     let a = file("a-to-decode", &hex(FILE_A));
-    for (name, model, printed, said) in [
+    let model = file("falsifying", &[1, 1, 1, 0]);
+    let found = run(&["decode", &a, &model, "--out", "not-written"]);
+    assert_eq!(
+        (found.printed.as_str(), found.status),
+        ("refused 13 6\n", 1)
+    );
+    assert!(!folder().join("not-written").exists());
+}
+
+#[test]
+fn refused_steps_are_told_with_what_is_wrong() {
+    let a = file("a-to-check", &hex(FILE_A));
+    let longer = format!("{PROOF_A} 00");
+    for (place, (bound, proof, printed, reason)) in [
         (
-            "falsifying",
-            &[1, 1, 1, 0][..],
-            "refused 13 6\n",
-            "refusal 13 6: a hard clause is false; 6 is the lowest such id\n",
+            "4",
+            PROOF_A,
+            "refused 14 1\n",
+            "it adds the id 17, which is not above 18, the highest so far; the formula has 18 \
+             clauses: was the proof made for another bound?",
         ),
         (
-            "short-model",
-            &[1, 1],
-            "refused 10 4\n",
-            "refusal 10 4: the length is wrong; 4 bytes are wanted\n",
+            "3",
+            "61 11 06 00 05 00 61 11 00 05 00",
+            "refused 14 2\n",
+            "it adds the id 17, which is not above 17, the highest so far",
         ),
         (
-            "no-bits",
-            &[1, 1, 3, 1],
-            "refused 11 2\n",
-            "refusal 11 2: a byte is above 1; the first is at offset 2\n  \
-             bytes from offset 0: 01 01 [03] 01\n",
+            "3",
+            "62 11 00 05 00",
+            "refused 14 1\n",
+            "it begins with the byte 62; a step begins with 61 (a) or 64 (d)",
         ),
-    ] {
-        let model = file(name, model);
-        let found = run(&["decode", &a, &model, "--out", "not-written"]);
-        assert_eq!((found.printed.as_str(), found.status), (printed, 1));
-        assert_eq!(found.said, format!("timetable decode: {name}: {said}"));
-        assert!(!folder().join("not-written").exists());
+        (
+            "3",
+            "61 11 00 05",
+            "refused 14 1\n",
+            "the proof ends in the midst of it",
+        ),
+        (
+            "3",
+            "61 11 80 00 00 05 00",
+            "refused 14 1\n",
+            "its number at offset 2 is cut short, overlong or too large",
+        ),
+        (
+            "3",
+            "61 11 01 00 05 00",
+            "refused 14 1\n",
+            "its literal 1 is of no variable",
+        ),
+        (
+            "3",
+            "61 11 12 00 05 00",
+            "refused 14 1\n",
+            "it names variable 9; the formula has 8: was the proof made for another bound?",
+        ),
+        (
+            "3",
+            "61 11 06 07 00 05 00",
+            "refused 14 1\n",
+            "it names variable 3 twice",
+        ),
+        (
+            "3",
+            "61 11 06 00 05 00 64 05 05 00",
+            "refused 15 2\n",
+            "id 2 of 2 is 5, which it names twice",
+        ),
+        (
+            "3",
+            "64 05 00 61 11 06 00 05 00",
+            "refused 15 2\n",
+            "hint 1 of 1 is 5, which step 1 has deleted",
+        ),
+        (
+            "3",
+            "61 11 00 05 04 20 00",
+            "refused 15 1\n",
+            "hint 3 of 3 is 32, which has not been added",
+        ),
+        (
+            "4",
+            "61 13 00 05 04 06 0E 10 00",
+            "refused 16 1\n",
+            "hint 5 of 5, clause 16 (the tail), is true already, by 4",
+        ),
+        (
+            "3",
+            "61 11 00 05 04 06 00",
+            "refused 16 1\n",
+            "hint 3 of 3, clause 6 (block 4, constraint 1, kind preferred-times), has 1 open \
+             literal; the last must be false",
+        ),
+        (
+            "3",
+            "61 11 00 01 05 00",
+            "refused 16 1\n",
+            "hint 1 of 2, clause 1 (block 1, event 1), has 2 open literals; 1 is wanted",
+        ),
+        (
+            "3",
+            "61 11 07 00 05 04 00",
+            "refused 16 1\n",
+            "hint 1 of 2, clause 5 (block 3, event 1), is true already, by 3",
+        ),
+        (
+            "3",
+            "61 11 06 00 05 04 00",
+            "refused 16 1\n",
+            "hint 1 of 2, clause 5 (block 3, event 1), is false before the last hint",
+        ),
+        ("3", "61 11 06 00 00", "refused 16 1\n", "it has no hint"),
+        (
+            "3",
+            "61 11 06 00 05 00 61 12 02 00 11 00",
+            "refused 16 2\n",
+            "hint 1 of 1, clause 17 (step 1), has 1 open literal; the last must be false",
+        ),
+        (
+            "3",
+            &longer,
+            "refused 18 1\n",
+            "step 1 adds the empty clause; bytes after it: 1",
+        ),
+        (
+            "3",
+            "61 11 06 00 05 00",
+            "refused 18 1\n",
+            "the proof ends, and no step has added the empty clause: is it cut short?",
+        ),
+        (
+            "3",
+            "",
+            "refused 18 0\n",
+            "the proof ends, and no step has added the empty clause: is it cut short?",
+        ),
+    ]
+    .into_iter()
+    .enumerate()
+    {
+        let name = file(&format!("proof-{place}"), &hex(proof));
+        let found = run(&["check", &a, bound, &name]);
+        assert_eq!(
+            (found.printed.as_str(), found.status),
+            (printed, 1),
+            "{proof}"
+        );
+        assert_eq!(below(&found.said)[0], reason, "{proof}");
     }
 }
 
 #[test]
-fn check_says_which_step_is_refused_and_where_it_starts() {
-    let a = file("a-to-check", &hex(FILE_A));
-    let steps = "61 11 06 00 05 00 64 05 05 00";
-    let refuted = format!("{PROOF_A} 00");
-    for (name, bound, proof, printed, said) in [
-        (
-            "proof-deleting-twice",
-            "3",
-            steps,
-            "refused 15 2\n",
-            "refusal 15 2: a hint or deletion names a clause that is not live; step 2, which \
-             starts at offset 6\n  bytes from offset 0: 61 11 06 00 05 00 [64] 05 05 00\n",
-        ),
-        (
-            "proof-longer",
-            "3",
-            &refuted,
-            "refused 18 1\n",
-            "refusal 18 1: the proof has no empty clause, or bytes after it; 1 steps were read, \
-             up to offset 9\n  bytes from offset 1: .. 11 00 05 04 06 0e 10 00 [00]\n",
-        ),
-        (
-            "proof-at-the-cost",
-            "4",
-            PROOF_A,
-            "refused 14 1\n",
-            "refusal 14 1: a step is misformed; step 1, which starts at offset 0\n  \
-             bytes from offset 0: [61] 11 00 05 04 06 0e 10 00\n",
-        ),
-        (
-            "proof-empty",
-            "3",
-            "",
-            "refused 18 0\n",
-            "refusal 18 0: the proof has no empty clause, or bytes after it; 0 steps were read, \
-             up to offset 0\n  bytes from offset 0: [end]\n",
-        ),
-    ] {
-        let proof = file(name, &hex(proof));
-        let found = run(&["check", &a, bound, &proof]);
-        assert_eq!((found.printed.as_str(), found.status), (printed, 1));
-        assert_eq!(found.said, format!("timetable check: {name}: {said}"));
-    }
+fn a_step_is_told_with_its_place() {
+    let a = file("a-with-a-proof", &hex(FILE_A));
+    let proof = file("deleting-twice", &hex("61 11 06 00 05 00 64 05 05 00"));
+    assert_eq!(
+        run(&["check", &a, "3", &proof]).said,
+        "timetable check: deleting-twice: refusal 15 2: a hint or deletion names a clause that \
+         is not live; step 2, which starts at offset 6\n  \
+         id 2 of 2 is 5, which it names twice\n  \
+         bytes from offset 0: 61 11 06 00 05 00 [64] 05 05 00\n"
+    );
     let found = run(&["check", &a, "4096", "-"]);
     assert_eq!(found.printed, "refused 7 4096\n");
     assert!(found.said.starts_with("timetable check: bound 4096: "));
+}
+
+#[test]
+fn a_file_of_another_sort_is_recognised() {
+    let a = file("a-of-bytes", &hex(FILE_A));
+    let text = file("some-text", b"s OPTIMUM FOUND\nv 1 2 3 4 0\n");
+    let xml = file(
+        "some-xml",
+        b"<?xml version=\"1.0\"?>\n<fet version=\"6.8\">\n",
+    );
+    let drat = file("binary-drat", &[b'a', 6, 0, b'd', 2, 5, 0, b'a', 0]);
+    for (words, said) in [
+        (
+            vec!["read", &text],
+            "this is text: 'timetable compile' makes an instance of a school's text",
+        ),
+        (
+            vec!["read", &xml],
+            "this is XML: 'timetable import' makes an instance of it",
+        ),
+        (
+            vec!["decode", &a, &text],
+            "this is text: 'timetable model' makes a model of what a solver prints",
+        ),
+        (
+            vec!["score", &a, &text],
+            "this is text: a timetable is what 'timetable decode' writes",
+        ),
+        (
+            vec!["check", &a, "3", &text],
+            "this is text: 'timetable steps' makes steps of a solver's proof",
+        ),
+        (
+            vec!["check", &a, "3", &drat],
+            "this can be read as a solver's binary DRAT proof: 'timetable steps' makes steps of it",
+        ),
+    ] {
+        let found = run(&words);
+        assert_eq!(found.status, 1);
+        assert!(below(&found.said).contains(&said), "{}", found.said);
+    }
 }
 
 #[test]
@@ -172,7 +463,7 @@ fn every_refusal_is_told_in_words_with_its_numbers() {
     let mut told = Vec::new();
     for number in 1..=18 {
         let value = 1_000 + u64::from(number);
-        let message = refusals::in_words(Refusal { number, value }, &[]);
+        let message = refusals::in_words(Refusal { number, value }, &[], &[]);
         assert!(message.starts_with(&format!("refusal {number} {value}: ")));
         assert!(message.contains(refusals::words(number)), "{message}");
         assert!(!message.contains("{}"), "{message}");

@@ -1,6 +1,6 @@
 //! The counted list of a constraint: how long it is, and what its count may be.
 
-use super::fault::Reason;
+use super::fault::{ConstraintEnd, Reason};
 use super::limits::LONGEST_LIST;
 use super::{Instance, Kind};
 
@@ -63,12 +63,13 @@ impl Instance {
     pub fn constraint_end(&self, kind: &Kind) -> Option<Reason> {
         let length = self.counted_length(kind);
         let Range { lo, hi } = kind.range();
+        let end = ConstraintEnd { lo, hi, length };
         if length > LONGEST_LIST {
-            return Some(Reason::LongList(length));
+            return Some(Reason::LongList(end));
         }
         if lo > hi {
-            return Some(Reason::Crossed { lo, hi });
+            return Some(Reason::Crossed(end));
         }
-        (lo > length).then_some(Reason::Unreachable { lo, length })
+        (lo > length).then_some(Reason::Unreachable(end))
     }
 }

@@ -21,20 +21,23 @@ pub enum Reason {
     Nothing,
     /// A list does not ascend.
     NotAscending,
-    /// A counted list of this length.
-    LongList(usize),
+    /// The counted list is too long.
+    LongList(ConstraintEnd),
     /// lo is above hi.
-    Crossed {
-        lo: usize,
-        hi: usize,
-    },
+    Crossed(ConstraintEnd),
     /// lo is above the length of the counted list.
-    Unreachable {
-        lo: usize,
-        length: usize,
-    },
+    Unreachable(ConstraintEnd),
     /// This many bytes are left over.
     LeftOver(usize),
+}
+
+/// What is looked at once a constraint's last field is read: lo and hi as
+/// written, and the length of its counted list.
+#[derive(Clone, Copy, Debug, PartialEq, Eq)]
+pub struct ConstraintEnd {
+    pub lo: usize,
+    pub hi: usize,
+    pub length: usize,
 }
 
 impl Fault {
@@ -45,7 +48,7 @@ impl Fault {
             Reason::Outside => 2,
             Reason::Nothing | Reason::NotAscending => 3,
             Reason::LongList(_) => 4,
-            Reason::Crossed { .. } | Reason::Unreachable { .. } => 5,
+            Reason::Crossed(_) | Reason::Unreachable(_) => 5,
             Reason::LeftOver(_) => 6,
         }
     }
@@ -57,7 +60,7 @@ impl Display for Fault {
         match (self.reason, path.part) {
             // What a constraint's end finds is said of the whole constraint.
             (
-                Reason::LongList(_) | Reason::Crossed { .. } | Reason::Unreachable { .. },
+                Reason::LongList(_) | Reason::Crossed(_) | Reason::Unreachable(_),
                 Part::Constraint(number, Some(kind)),
             ) => write!(
                 out,
@@ -83,6 +86,10 @@ impl Fault {
             }
             Reason::Nothing => format!("{value} names nothing, {least} to {most} are there"),
             Reason::NotAscending => format!("{value} is not above the entry before it"),
+            Reason::LongList(end) | Reason::Crossed(end) | Reason::Unreachable(end) => {
+                let ConstraintEnd { lo, hi, length } = end;
+                format!("{} (lo {lo}, hi {hi}, length {length})", self.reason)
+            }
             reason => reason.to_string(),
         }
     }
@@ -95,17 +102,17 @@ impl Display for Reason {
             Reason::Outside => write!(out, "the value is outside its limits"),
             Reason::Nothing => write!(out, "the reference names nothing"),
             Reason::NotAscending => write!(out, "the list does not ascend"),
-            Reason::LongList(length) => write!(
+            Reason::LongList(ConstraintEnd { length, .. }) => write!(
                 out,
                 "its counted list has {length} entries, {LONGEST_LIST} are the most"
             ),
-            Reason::Crossed { lo, hi } => write!(out, "lo is {lo}, above hi, which is {hi}"),
-            Reason::Unreachable { lo, length } => {
-                write!(
-                    out,
-                    "lo is {lo}, above the {length} entries of its counted list"
-                )
+            Reason::Crossed(ConstraintEnd { lo, hi, .. }) => {
+                write!(out, "lo is {lo}, above hi, which is {hi}")
             }
+            Reason::Unreachable(ConstraintEnd { lo, length, .. }) => write!(
+                out,
+                "lo is {lo}, above the {length} entries of its counted list"
+            ),
             Reason::LeftOver(bytes) => write!(out, "{bytes} bytes are left over"),
         }
     }

@@ -14,7 +14,7 @@ mod read;
 mod write;
 
 pub use counted::Range;
-pub use fault::{Fault, Reason};
+pub use fault::{ConstraintEnd, Fault, Reason};
 pub use field::{Entry, Field, Part, Path};
 pub use kinds::{kind_named, FieldFacts, Kind, KindFacts, Source, Value, KINDS};
 pub use limits::{

@@ -1,6 +1,7 @@
 //! Refusals in words.
 
 use super::given::Given;
+use crate::diagnosis::{reasons, Inputs, Sort};
 use crate::engine::{refusal_facts, Refusal};
 use crate::proof;
 
@@ -17,13 +18,27 @@ pub fn message(given: &Given, refusal: Refusal, operand: Option<&'static str>) -
         names.find(|name| given.has_operand(name)).copied()
     });
     let Some(operand) = operand else {
-        return in_words(refusal, &[]);
+        return in_words(refusal, &[], &[]);
     };
     if operand == "BOUND" {
-        return format!("bound {}: {}", refusal.value, in_words(refusal, &[]));
+        return format!("bound {}: {}", refusal.value, in_words(refusal, &[], &[]));
     }
     let file = given.file(operand);
-    format!("{}: {}", file.name, in_words(refusal, &file.bytes))
+    let inputs = Inputs {
+        instance: given.bytes("INSTANCE"),
+        bound: match given.has_operand("BOUND") {
+            true => given.number_if("BOUND"),
+            false => None,
+        },
+        file: &file.bytes,
+        sort: sort(operand),
+    };
+    let reasons = reasons(refusal, &inputs);
+    format!(
+        "{}: {}",
+        file.name,
+        in_words(refusal, &file.bytes, &reasons)
+    )
 }
 
 /// The operands that can earn refusal `number`.
@@ -36,17 +51,26 @@ fn operands(number: u32) -> &'static [&'static str] {
     }
 }
 
-/// A refusal in words and numbers, with the bytes that it points at.
-pub fn in_words(refusal: Refusal, bytes: &[u8]) -> String {
+/// What the file of an operand should be.
+fn sort(operand: &str) -> Sort {
+    match operand {
+        "TIMETABLE" | "FIRST" | "SECOND" => Sort::Timetable,
+        "MODEL" => Sort::Model,
+        "PROOF" => Sort::Proof,
+        _ => Sort::Instance,
+    }
+}
+
+/// A refusal in words and numbers, with the reasons for it and with the bytes
+/// that it points at.
+pub fn in_words(refusal: Refusal, bytes: &[u8], reasons: &[String]) -> String {
     let Refusal { number, value } = refusal;
     let (when, gives) = entry(number);
     let mut message = format!("refusal {number} {value}: {when}");
     if !gives.is_empty() {
         message += &format!("; {}", gives.replace("{}", &value.to_string()));
     }
-    if gives.contains("offset") {
-        message += &format!("\n  {}", excerpt(bytes, value));
-    }
+    let mut pointed = gives.contains("offset").then_some(value);
     // Where the step that was refused starts, or where the steps that were read end.
     let in_proof = match number {
         14..=17 => Some(("which starts at", value)),
@@ -55,8 +79,15 @@ pub fn in_words(refusal: Refusal, bytes: &[u8]) -> String {
     };
     if let Some((before, step)) = in_proof {
         if let Some(at) = proof::start_of(bytes, step) {
-            message += &format!(", {before} offset {at}\n  {}", excerpt(bytes, at as u64));
+            message += &format!(", {before} offset {at}");
+            pointed = Some(at as u64);
         }
+    }
+    for reason in reasons {
+        message += &format!("\n  {reason}");
+    }
+    if let Some(at) = pointed {
+        message += &format!("\n  {}", excerpt(bytes, at));
     }
     message
 }

@@ -1,0 +1,387 @@
+//! The outline of a formula: its pieces in the order of their clauses, with how
+//! many variables and clauses each has. So a clause's id can be told in words,
+//! and a formula that is too large can be counted.
+
+use crate::instance::{Constraint, Instance, Kind, Range};
+
+/// How much a piece brings in.
+#[derive(Clone, Copy, Debug, Default, PartialEq, Eq)]
+pub struct Size {
+    pub variables: u64,
+    pub clauses: u64,
+}
+
+/// The pieces of the hard clauses, and the weights of the soft units.
+pub struct Outline {
+    pieces: Vec<Piece>,
+    weights: Vec<u32>,
+}
+
+/// Some clauses of one purpose. Events, times, resources, groups and
+/// constraints are indices from 0.
+#[derive(Clone, Copy, Debug, PartialEq, Eq)]
+pub struct Piece {
+    pub owner: Owner,
+    pub purpose: Purpose,
+}
+
+/// What a piece belongs to: the blocks of the formula.
+#[derive(Clone, Copy, Debug, PartialEq, Eq)]
+pub enum Owner {
+    /// Block 1: what a timetable is.
+    Starts { event: usize },
+    /// Block 2: when a resource is used.
+    Uses { resource: usize },
+    /// Block 3: how many times an event takes.
+    Duration { event: usize },
+    /// Block 4.
+    Constraint { index: usize },
+}
+
+#[derive(Clone, Copy, Debug, PartialEq, Eq)]
+pub enum Purpose {
+    /// The two clauses of a time in block 1.
+    Start { time: usize },
+    /// A variable that is the OR of so many literals; of a time or of a group.
+    AnyOf { place: Place, inputs: usize },
+    /// The three variables of one member of a group, for kind 8.
+    Idle { time: usize, members: usize },
+    /// A counter, of one time for kind 1.
+    Counter {
+        time: Option<usize>,
+        rows: usize,
+        columns: usize,
+    },
+    /// The variable for a count from 1 to j − 1, for kind 6.
+    Shortage { j: usize },
+    /// The unit that holds the count up to lo, or that forbids a shortage.
+    AtLeast { time: Option<usize>, lo: usize },
+    /// The unit that holds the count down to hi.
+    AtMost { time: Option<usize>, hi: usize },
+}
+
+#[derive(Clone, Copy, Debug, PartialEq, Eq)]
+pub enum Place {
+    Time(usize),
+    Group(usize),
+}
+
+impl Purpose {
+    pub fn size(self) -> Size {
+        let (variables, clauses) = match self {
+            Purpose::Start { .. } => (2, 2),
+            Purpose::AnyOf { inputs, .. } => (1, inputs + 1),
+            Purpose::Idle { members, .. } => (3, members + 5),
+            Purpose::Counter { rows: 0, .. } => (0, 0),
+            Purpose::Counter { rows, columns, .. } => {
+                (rows * columns, 2 * columns + (rows - 1) * (4 * columns - 1))
+            }
+            Purpose::Shortage { .. } => (1, 3),
+            Purpose::AtLeast { .. } | Purpose::AtMost { .. } => (0, 1),
+        };
+        Size {
+            variables: variables as u64,
+            clauses: clauses as u64,
+        }
+    }
+}
+
+/// A clause of the formula: its piece, and its place in it from 0.
+#[derive(Clone, Copy, Debug, PartialEq, Eq)]
+pub struct Clause {
+    pub piece: Piece,
+    pub place: u64,
+}
+
+impl Outline {
+    pub fn of(instance: &Instance) -> Outline {
+        let mut outline = Outline {
+            pieces: Vec::new(),
+            weights: Vec::new(),
+        };
+        outline.starts(instance);
+        outline.uses(instance);
+        for (event, fields) in instance.events.iter().enumerate() {
+            let range = Range {
+                lo: fields.duration,
+                hi: fields.duration,
+            };
+            let owner = Owner::Duration { event };
+            outline.counted(owner, None, instance.times, range, 0);
+        }
+        for (index, constraint) in instance.constraints.iter().enumerate() {
+            outline.constraint(instance, index, constraint);
+        }
+        outline
+    }
+
+    /// The size of the hard clauses.
+    pub fn size(&self) -> Size {
+        self.pieces.iter().fold(Size::default(), |sum, piece| {
+            let size = piece.purpose.size();
+            Size {
+                variables: sum.variables + size.variables,
+                clauses: sum.clauses + size.clauses,
+            }
+        })
+    }
+
+    /// The size of the tail for `bound`.
+    pub fn tail(&self, bound: u64) -> Size {
+        let columns = bound + 1;
+        let Some((_, further)) = self.weights.split_first() else {
+            return Size::default();
+        };
+        // In a further row, b is constant in the columns up to the weight.
+        let constant = |&weight: &u32| columns.min(u64::from(weight));
+        let further = further.iter().map(|weight| 4 * columns - constant(weight));
+        Size {
+            variables: self.weights.len() as u64 * columns,
+            clauses: 2 * columns + further.sum::<u64>() + 1,
+        }
+    }
+
+    /// The hard clause `id`, from 1.
+    pub fn clause(&self, id: u64) -> Option<Clause> {
+        let mut place = id.checked_sub(1)?;
+        for &piece in &self.pieces {
+            let clauses = piece.purpose.size().clauses;
+            if place < clauses {
+                return Some(Clause { piece, place });
+            }
+            place -= clauses;
+        }
+        None
+    }
+
+    fn starts(&mut self, instance: &Instance) {
+        for event in 0..instance.events.len() {
+            for time in 0..instance.times {
+                self.push(Owner::Starts { event }, Purpose::Start { time });
+            }
+        }
+    }
+
+    fn uses(&mut self, instance: &Instance) {
+        for resource in 0..instance.resources {
+            let inputs = instance.counted_length(&Kind::Clash { resource });
+            for time in 0..instance.times {
+                let place = Place::Time(time);
+                self.push(Owner::Uses { resource }, Purpose::AnyOf { place, inputs });
+            }
+        }
+    }
+
+    fn constraint(&mut self, instance: &Instance, index: usize, constraint: &Constraint) {
+        let owner = Owner::Constraint { index };
+        let Constraint { weight, kind } = constraint;
+        let length = instance.counted_length(kind);
+        match kind {
+            Kind::Clash { .. } => {
+                for time in 0..instance.times {
+                    self.counted(owner, Some(time), length, kind.range(), *weight);
+                }
+                return;
+            }
+            Kind::BusyLimit { .. } => {
+                return self.busy_limit(owner, length, kind.range(), *weight);
+            }
+            Kind::Cluster { groups, .. } => {
+                for &group in groups {
+                    let inputs = instance.groups[group].len();
+                    let place = Place::Group(group);
+                    self.push(owner, Purpose::AnyOf { place, inputs });
+                }
+            }
+            Kind::Idle { groups, .. } => {
+                for &group in groups {
+                    let group = &instance.groups[group];
+                    for &time in group.iter().skip(1).take(group.len().saturating_sub(2)) {
+                        let members = group.len();
+                        self.push(owner, Purpose::Idle { time, members });
+                    }
+                }
+            }
+            _ => {}
+        }
+        self.counted(owner, None, length, kind.range(), *weight);
+    }
+
+    /// A counter with its bounds; `weight` is 0 if they are hard.
+    fn counted(
+        &mut self,
+        owner: Owner,
+        time: Option<usize>,
+        rows: usize,
+        range: Range,
+        weight: u32,
+    ) {
+        let Range { lo, hi } = range;
+        let hi = hi.min(rows);
+        self.counter(owner, time, rows, hi, weight);
+        if weight == 0 && lo >= 1 {
+            self.push(owner, Purpose::AtLeast { time, lo });
+        }
+        if weight > 0 {
+            self.soft(lo, weight);
+        }
+        self.at_most(owner, time, rows, hi, weight);
+    }
+
+    fn busy_limit(&mut self, owner: Owner, rows: usize, range: Range, weight: u32) {
+        let Range { lo, hi } = range;
+        let hi = hi.min(rows);
+        self.counter(owner, None, rows, hi, weight);
+        for j in 2..=lo {
+            self.push(owner, Purpose::Shortage { j });
+            match weight {
+                0 => self.push(owner, Purpose::AtLeast { time: None, lo: j }),
+                _ => self.soft(1, weight),
+            }
+        }
+        self.at_most(owner, None, rows, hi, weight);
+    }
+
+    fn counter(&mut self, owner: Owner, time: Option<usize>, rows: usize, hi: usize, weight: u32) {
+        let columns = match weight {
+            0 => rows.min(hi + 1),
+            _ => rows,
+        };
+        let counter = Purpose::Counter {
+            time,
+            rows,
+            columns,
+        };
+        self.push(owner, counter);
+    }
+
+    fn at_most(&mut self, owner: Owner, time: Option<usize>, rows: usize, hi: usize, weight: u32) {
+        match weight {
+            0 if hi < rows => self.push(owner, Purpose::AtMost { time, hi }),
+            0 => {}
+            _ => self.soft(rows - hi, weight),
+        }
+    }
+
+    fn soft(&mut self, units: usize, weight: u32) {
+        self.weights.extend(std::iter::repeat_n(weight, units));
+    }
+
+    fn push(&mut self, owner: Owner, purpose: Purpose) {
+        self.pieces.push(Piece { owner, purpose });
+    }
+}
+
+impl Clause {
+    /// The clause in words: where it stands, and what is so where it is false.
+    pub fn says(&self, instance: &Instance) -> String {
+        format!("{}: {}", self.owner(instance), self.broken(instance))
+    }
+
+    /// Where the clause stands: its block with the event, resource or
+    /// constraint.
+    pub fn owner(&self, instance: &Instance) -> String {
+        match self.piece.owner {
+            Owner::Starts { event } => format!("block 1, event {}", event + 1),
+            Owner::Uses { resource } => format!("block 2, resource {}", resource + 1),
+            Owner::Duration { event } => format!("block 3, event {}", event + 1),
+            Owner::Constraint { index } => {
+                let kind = instance.constraints[index].kind.facts().name;
+                format!("block 4, constraint {}, kind {kind}", index + 1)
+            }
+        }
+    }
+
+    /// What is so where the clause is false.
+    fn broken(&self, instance: &Instance) -> String {
+        match self.piece.purpose {
+            Purpose::Start { time } => self.broken_start(time + 1),
+            Purpose::AnyOf { place, inputs } => {
+                let place = match place {
+                    Place::Time(time) => format!("at time {}", time + 1),
+                    Place::Group(group) => format!("in group {}", group + 1),
+                };
+                match self.place < inputs as u64 {
+                    true => {
+                        format!("the resource is used {place}, and its variable says it is not")
+                    }
+                    false => {
+                        format!("the resource is not used {place}, and its variable says it is")
+                    }
+                }
+            }
+            Purpose::Idle { time, .. } => {
+                format!(
+                    "a variable for the idle time {} has a wrong value",
+                    time + 1
+                )
+            }
+            Purpose::Counter { time, columns, .. } => {
+                let (row, column) = cell(self.place, columns as u64);
+                format!(
+                    "its counter{} has a wrong value in row {row}, column {column}",
+                    at_time(time)
+                )
+            }
+            Purpose::Shortage { j } => {
+                format!(
+                    "the variable for a count from 1 to {} has a wrong value",
+                    j - 1
+                )
+            }
+            Purpose::AtLeast { time, lo } => {
+                let counted = self.counted(instance);
+                format!("{counted}{} is below {lo}", at_time(time))
+            }
+            Purpose::AtMost { time, hi } => {
+                let counted = self.counted(instance);
+                format!("{counted}{} is above {hi}", at_time(time))
+            }
+        }
+    }
+
+    fn broken_start(&self, time: usize) -> String {
+        match (self.place, time) {
+            (0, _) => format!("it starts at time {time} and does not take it"),
+            (_, 1) => "it takes time 1 and does not start there".to_string(),
+            _ => format!(
+                "it takes time {time}, not time {}, and does not start at {time}",
+                time - 1
+            ),
+        }
+    }
+
+    /// What the count of the piece counts.
+    fn counted(&self, instance: &Instance) -> &'static str {
+        let Owner::Constraint { index } = self.piece.owner else {
+            return "the number of its times";
+        };
+        match instance.constraints[index].kind {
+            Kind::Clash { .. } => "the number of the resource's events",
+            Kind::Unavailable { .. } | Kind::BusyLimit { .. } => {
+                "the number of the resource's times in the group"
+            }
+            Kind::PreferredTimes { .. } => "the number of the event's times outside the group",
+            Kind::Split { .. } => "the number of the event's starts",
+            Kind::Spread { .. } => "the number of the events' starts in the group",
+            Kind::Cluster { .. } => "the number of groups with the resource",
+            Kind::Idle { .. } => "the number of the resource's idle times",
+        }
+    }
+}
+
+fn at_time(time: Option<usize>) -> String {
+    time.map_or(String::new(), |time| format!(" at time {}", time + 1))
+}
+
+/// The row and column, from 1, of a clause of a counter with weights 1: two
+/// clauses to a cell of the first row; in the others three in the first column
+/// and four elsewhere.
+fn cell(place: u64, columns: u64) -> (u64, u64) {
+    if place < 2 * columns {
+        return (1, place / 2 + 1);
+    }
+    let place = place - 2 * columns;
+    let row = 4 * columns - 1;
+    (2 + place / row, (place % row + 1) / 4 + 1)
+}
