@@ -75,6 +75,14 @@ pub fn steps(
     }
 }
 
+/// A step names a variable that the formula has not.
+pub(super) fn extension(step: usize, variable: u32, variables: usize) -> Fault {
+    Fault::Other(format!(
+        "step {step} of the proof names variable {variable}, and the formula has {variables}: an \
+         extension is a RAT step, which no hints spell"
+    ))
+}
+
 /// The lines of a proof in text that are not empty and no comments.
 fn lines(text: &[u8]) -> impl Iterator<Item = &[u8]> {
     let said = |line: &&[u8]| !matches!(line.first(), None | Some(b'c' | b'%'));
