@@ -14,26 +14,22 @@ VERSION := $(shell sed -n 's/^.define TIMETABLE_VERSION "\(.*\)"/\1/p' include/t
 SONAME = libtimetable.so.$(firstword $(subst ., ,$(VERSION)))
 SHARED = libtimetable.so.$(VERSION)
 
-# The proved archive, and where what is made from it goes.
-ARCHIVE = target/staticlib/libengine.a
-MADE = target/package
-COMMAND = host/target/release/timetable
+# The proved library and the command, which ./prove builds, and where what is made from them goes.
+ARCHIVE = build/libtimetable.a
+MADE = build/package
+COMMAND = build/timetable
 HEADERS = include/timetable.h include/timetable.hpp
 
 all: $(MADE)/$(SHARED) $(MADE)/timetable.1 $(MADE)/timetable.bash
 
-$(ARCHIVE):
-	rt staticlib engine
+$(ARCHIVE) $(COMMAND):
+	./prove
 
 $(MADE):
 	mkdir -p $@
 
 $(MADE)/$(SHARED): $(ARCHIVE) | $(MADE)
 	$(CC) -shared -Wl,--whole-archive $(ARCHIVE) -Wl,--no-whole-archive -Wl,-soname,$(SONAME) -Wl,-z,defs -o $@
-
-# cargo knows better than make whether the command is up to date.
-host/target/release/timetable: $(ARCHIVE) FORCE
-	cd host && cargo build --quiet --release --offline --bin timetable
 
 $(MADE)/timetable.1: $(COMMAND) | $(MADE)
 	$(COMMAND) man >$@
@@ -73,6 +69,4 @@ uninstall:
 	rm -f $(patsubst include/%,$(DESTDIR)$(INCLUDEDIR)/%,$(HEADERS)) $(DESTDIR)$(BINDIR)/timetable
 	rm -f $(DESTDIR)$(MANDIR)/timetable.1 $(DESTDIR)$(COMPLETIONDIR)/timetable
 
-FORCE:
-
-.PHONY: all install uninstall FORCE
+.PHONY: all install uninstall

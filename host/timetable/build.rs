@@ -1,10 +1,10 @@
-//! Links the engine's archive, which `rt staticlib engine` writes.
+//! Links the library, which `./prove` in the repository's folder proves and builds.
 
 use std::env;
 use std::path::Path;
 
 /// Where the archive stands, seen from this package.
-const ARCHIVE: &str = "../../target/staticlib/libengine.a";
+const ARCHIVE: &str = "../../build/libtimetable.a";
 
 fn main() {
     println!("cargo::rerun-if-changed=build.rs");
@@ -16,7 +16,7 @@ fn main() {
     println!("cargo::rerun-if-changed={}", archive.display());
     if !archive.is_file() {
         println!(
-            "cargo::error=the engine's archive {} is missing: run `rt staticlib engine` in the \
+            "cargo::error=the library {} is missing: run `./prove` in the \
              repository's folder first",
             ARCHIVE.trim_start_matches("../")
         );

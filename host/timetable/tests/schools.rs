@@ -6,7 +6,7 @@ mod support;
 use std::collections::BTreeSet;
 use std::fs;
 use std::path::{Path, PathBuf};
-use support::{command, folder, host, repository, Run};
+use support::{command, folder, host, repository, stand_ins, Run};
 use timetable::instance::KINDS;
 
 /// Each example with the cost of its timetable.
@@ -110,6 +110,36 @@ fn the_village_is_shown_as_expected() {
     is_as_expected(&show(&[]), "village.txt");
     is_as_expected(&visible(&show(&["--html"])), "village.html.txt");
     is_as_expected(&show(&["--csv", "--class", "Lower"]), "village.csv");
+}
+
+#[test]
+fn a_school_is_compiled_solved_and_shown() {
+    let folder = compiled("solved", "evening");
+    // What clasp and cadical printed and wrote for this school.
+    let solvers = stand_ins(
+        "solved",
+        &[
+            ("clasp", "cat \"$R/evening-clasp.out\""),
+            (
+                "cadical",
+                "cp \"$R/evening-cadical-3.drat\" \"$3\"; cat \"$R/evening-cadical-3.out\"",
+            ),
+        ],
+    );
+    let solve = ["solve", "a.instance", "--solver", &solvers, "-o", "week"];
+    let report = accepted(&folder, &solve);
+    assert!(
+        report.starts_with("costs 4; none at 3 or less, checked\n"),
+        "{report}"
+    );
+    let show = ["show", "a.instance", "week/best.timetable"];
+    is_as_expected(&accepted(&folder, &show), "evening.txt");
+    let page = accepted(&folder, &[&show[..], &["--html"]].concat());
+    is_as_expected(&visible(&page), "evening.html.txt");
+    assert_eq!(
+        fs::read(folder.join("week/best.timetable")).expect("a timetable"),
+        fs::read(examples().join("evening.timetable")).expect("a timetable"),
+    );
 }
 
 #[test]

@@ -11,6 +11,9 @@ pub fn grids_text(view: &View, grids: &[Grid]) -> String {
     grids.collect::<Vec<_>>().join("\n")
 }
 
+/// What stands where a day has no such period.
+const ABSENT: &str = "-";
+
 fn grid_text(view: &View, grid: &Grid) -> String {
     let mut table = vec![vec![Vec::new()]];
     table[0].extend(grid.days.iter().map(|day| vec![day.clone()]));
@@ -18,7 +21,7 @@ fn grid_text(view: &View, grid: &Grid) -> String {
         let mut cells = vec![vec![row.period.clone()]];
         cells.extend(row.cells.iter().map(|cell| match cell {
             Some(cell) => cell_lines(view, grid, cell),
-            None => Vec::new(),
+            None => vec![ABSENT.to_string()],
         }));
         table.push(cells);
     }
