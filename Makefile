@@ -15,15 +15,15 @@ SONAME = libtimetable.so.$(firstword $(subst ., ,$(VERSION)))
 SHARED = libtimetable.so.$(VERSION)
 
 # The proved archive, and where what is made from it goes.
-ARCHIVE = target/staticlib/libengine.a
-MADE = target/package
+ARCHIVE = build/libtimetable.a
+MADE = build/package
 COMMAND = host/target/release/timetable
 HEADERS = include/timetable.h include/timetable.hpp
 
 all: $(MADE)/$(SHARED) $(MADE)/timetable.1 $(MADE)/timetable.bash
 
-$(ARCHIVE):
-	rt staticlib engine
+build/libtimetable.a:
+	./prove
 
 $(MADE):
 	mkdir -p $@

@@ -5,6 +5,7 @@ pub mod command;
 #[cfg(feature = "engine")]
 pub mod diagnosis;
 pub mod engine;
+pub mod import;
 pub mod instance;
 pub mod number;
 pub mod proof;

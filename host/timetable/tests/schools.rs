@@ -1,49 +1,41 @@
 //! The example schools, from their text to the page: the command run as a program.
+#![cfg(feature = "engine")]
+
+mod support;
 
 use std::collections::BTreeSet;
 use std::fs;
 use std::path::{Path, PathBuf};
-use std::process::Command;
+use support::{command, folder, host, repository, Run};
+use timetable::instance::KINDS;
 
+/// Each example with the cost of its timetable.
 const EXAMPLES: [(&str, u64); 3] = [("village", 4), ("town", 3), ("evening", 4)];
 
-/// What a run printed, said and ended with.
-struct Run {
-    printed: Vec<u8>,
-    said: String,
-    status: i32,
-}
-
-impl Run {
-    fn text(&self) -> String {
-        String::from_utf8(self.printed.clone()).expect("text")
-    }
-}
-
 fn run(folder: &Path, words: &[&str]) -> Run {
-    let mut command = Command::new(env!("CARGO_BIN_EXE_timetable"));
-    let output = command.args(words).current_dir(folder).output();
+    let output = command(words).current_dir(folder).output();
     let output = output.expect("the command runs");
     Run {
-        printed: output.stdout,
+        printed: String::from_utf8(output.stdout).expect("text"),
         said: String::from_utf8(output.stderr).expect("text"),
         status: output.status.code().expect("an exit status"),
     }
 }
 
-fn accepted(folder: &Path, words: &[&str]) -> Run {
+/// What a call printed that must be accepted.
+fn accepted(folder: &Path, words: &[&str]) -> String {
     let run = run(folder, words);
     assert_eq!(run.status, 0, "{words:?}: {}", run.said);
-    run
+    run.printed
 }
 
 fn examples() -> PathBuf {
-    Path::new(env!("CARGO_MANIFEST_DIR")).join("../../examples")
+    repository().join("examples")
 }
 
 /// A folder of the test's own with an example compiled and its timetable.
 fn compiled(test: &str, name: &str) -> PathBuf {
-    let folder = Path::new(env!("CARGO_TARGET_TMPDIR")).join(test).join(name);
+    let folder = folder().join(test).join(name);
     // What an earlier run left would be read by this one.
     let _ = fs::remove_dir_all(&folder);
     fs::create_dir_all(&folder).expect("a folder");
@@ -55,12 +47,14 @@ fn compiled(test: &str, name: &str) -> PathBuf {
     folder
 }
 
-/// What stands in `pages/`, which holds what is expected.
-fn expected(name: &str) -> String {
-    let path = Path::new(env!("CARGO_MANIFEST_DIR"))
-        .join("tests/pages")
-        .join(name);
-    fs::read_to_string(&path).unwrap_or_else(|_| panic!("{}", path.display()))
+/// A text is line by line the one in `pages/`.
+fn is_as_expected(text: &str, name: &str) {
+    let path = host().join("timetable/tests/pages").join(name);
+    let expected = fs::read_to_string(&path).unwrap_or_else(|_| panic!("{}", path.display()));
+    for (number, (line, expected)) in text.lines().zip(expected.lines()).enumerate() {
+        assert_eq!(line, expected, "{name}, line {}", number + 1);
+    }
+    assert_eq!(text.lines().count(), expected.lines().count(), "{name}");
 }
 
 #[test]
@@ -92,13 +86,14 @@ fn what_explain_prints_compiles_to_the_same_bytes_and_names() {
 
 #[test]
 fn the_schools_of_the_tests_compile_again() {
-    let schools = Path::new(env!("CARGO_MANIFEST_DIR")).join("../schools");
+    let schools = host().join("schools");
     let folder = compiled("again", "village");
     for name in ["toy.instance", "small.instance"] {
         let file = schools.join(name);
         let text = accepted(&folder, &["explain", &file.to_string_lossy()]);
-        fs::write(folder.join("text"), text.printed).expect("a file");
-        let bytes = accepted(&folder, &["compile", "text"]).printed;
+        fs::write(folder.join("text"), text).expect("a file");
+        let output = command(&["compile", "text"]).current_dir(&folder).output();
+        let bytes = output.expect("the command runs").stdout;
         assert_eq!(bytes, fs::read(&file).expect("a file"), "{name}");
     }
 }
@@ -106,13 +101,15 @@ fn the_schools_of_the_tests_compile_again() {
 #[test]
 fn the_village_is_shown_as_expected() {
     let folder = compiled("shown", "village");
-    let shown = |words: &[&str]| accepted(&folder, words).text();
-    let show = ["show", "a.instance", "a.timetable"];
-    assert_eq!(shown(&show), expected("village.txt"));
-    let page = shown(&[&show[..], &["--html"]].concat());
-    assert_eq!(visible(&page), expected("village.html.txt"));
-    let lessons = shown(&[&show[..], &["--csv", "--class", "Lower"]].concat());
-    assert_eq!(lessons.replace("\r\n", "\n"), expected("village.csv"));
+    let show = |words: &[&str]| {
+        accepted(
+            &folder,
+            &[&["show", "a.instance", "a.timetable"], words].concat(),
+        )
+    };
+    is_as_expected(&show(&[]), "village.txt");
+    is_as_expected(&visible(&show(&["--html"])), "village.html.txt");
+    is_as_expected(&show(&["--csv", "--class", "Lower"]), "village.csv");
 }
 
 #[test]
@@ -120,12 +117,12 @@ fn the_charges_sum_up_to_the_cost() {
     for (name, cost) in EXAMPLES {
         let folder = compiled("charges", name);
         let show = ["show", "a.instance", "a.timetable", "--charges"];
-        let table = accepted(&folder, &show).text();
+        let table = accepted(&folder, &show);
         assert!(
             table.ends_with(&format!("infeasibility 0\nobjective {cost}\n")),
             "{table}"
         );
-        let csv = accepted(&folder, &[&show[..], &["--csv"]].concat()).text();
+        let csv = accepted(&folder, &[&show[..], &["--csv"]].concat());
         let charges = csv.lines().skip(1).map(|line| {
             let field = line.split(',').nth(3).expect("a charge");
             field.parse::<u64>().expect("a number")
@@ -138,7 +135,7 @@ fn the_charges_sum_up_to_the_cost() {
 fn the_page_is_whole_and_accessible() {
     for (name, _) in EXAMPLES {
         let folder = compiled("page", name);
-        let page = accepted(&folder, &["show", "a.instance", "a.timetable", "--html"]).text();
+        let page = accepted(&folder, &["show", "a.instance", "a.timetable", "--html"]);
         assert!(page.starts_with("<!DOCTYPE html>\n<html lang=\"en\">\n"));
         assert!(page.contains("<title>") && page.contains("@media print"));
         for outside in [
@@ -177,7 +174,7 @@ fn names_with_a_meaning_in_html_are_escaped() {
         .replace("Village School", "A < B");
     fs::write(folder.join("a.school"), text).expect("a file");
     accepted(&folder, &["compile", "a.school", "-o", "a.instance"]);
-    let page = accepted(&folder, &["show", "a.instance", "a.timetable", "--html"]).text();
+    let page = accepted(&folder, &["show", "a.instance", "a.timetable", "--html"]);
     assert!(page.contains("<title>A &lt; B</title>"));
     assert!(page.contains("&lt;b&gt;&amp;amp;&quot;Music"));
     assert!(!page.contains("<b>&amp;\"Music"));
@@ -198,7 +195,7 @@ fn one_grid_can_be_asked_for() {
         ("--room", "Gym", "Room Gym"),
         ("--resource", "Lab", "Room Lab"),
     ] {
-        let text = show(&[option, name]).text();
+        let text = show(&[option, name]).printed;
         assert!(text.starts_with(&format!("{title}\n\n")), "{text}");
         assert_eq!(text.matches("\n\nCharges\n").count(), 1);
     }
@@ -219,21 +216,21 @@ fn a_text_that_is_no_school_is_told_with_its_place() {
         text.replace("in Mornings", "in Noon"),
     )
     .expect("a file");
-    let run = run(&folder, &["compile", "b.school", "-o", "b.instance"]);
-    assert_eq!(run.status, 1);
+    let wrong = run(&folder, &["compile", "b.school", "-o", "b.instance"]);
+    assert_eq!(wrong.status, 1);
     assert_eq!(
-        run.said,
+        wrong.said,
         "timetable compile: b.school: line 35, column 43: there is no group 'Noon'\n  \
          preferred-times weight 3 Numbers-Lower in Noon\n  \
          \u{20}                                         ^\n"
     );
     assert!(!folder.join("b.instance").exists() && !folder.join("b.instance.names").exists());
     fs::write(folder.join("c.school"), b"times a\n\nlesson \xff").expect("a file");
-    let run = self::run(&folder, &["compile", "c.school"]);
+    let wrong = run(&folder, &["compile", "c.school"]);
     assert!(
-        run.said.contains("line 3, column 8: this is not UTF-8"),
+        wrong.said.contains("line 3, column 8: this is not UTF-8"),
         "{}",
-        run.said
+        wrong.said
     );
 }
 
@@ -263,17 +260,39 @@ fn diff_says_what_moved() {
     let folder = compiled("diff", "village");
     let diff = |second: &str| run(&folder, &["diff", "a.instance", "a.timetable", second]);
     let same = diff("a.timetable");
-    assert_eq!((same.text().as_str(), same.status), ("nothing moved\n", 0));
+    assert_eq!((same.printed.as_str(), same.status), ("nothing moved\n", 0));
     let second = examples().join("village-moved.timetable");
     let moved = diff(&second.to_string_lossy());
-    assert_eq!((moved.text(), moved.status), (expected("moved.txt"), 1));
+    is_as_expected(&moved.printed, "moved.txt");
+    assert_eq!(moved.status, 1);
     fs::write(folder.join("c.timetable"), [1; 3]).expect("a file");
     let refused = diff("c.timetable");
     assert_eq!(
-        (refused.text().as_str(), refused.status),
+        (refused.printed.as_str(), refused.status),
         ("refused 10 360\n", 1)
     );
     assert!(refused.said.contains("c.timetable"), "{}", refused.said);
+}
+
+#[test]
+fn the_format_is_as_it_is_described() {
+    let format = fs::read_to_string(repository().join("docs/FORMAT.md")).expect("a text");
+    let section = format
+        .split_once("## A worked school")
+        .expect("a section")
+        .1;
+    let worked = section.split("```").nth(1).expect("a school");
+    let folder = compiled("format", "village");
+    fs::write(folder.join("b.school"), worked).expect("a file");
+    let report = accepted(&folder, &["compile", "b.school", "-o", "b.instance"]);
+    assert!(
+        report.starts_with("accepted\ntimes 20\nevents 3\n"),
+        "{report}"
+    );
+    for facts in KINDS {
+        let row = format!("| {} | `{} hard ", facts.number, facts.name);
+        assert!(format.contains(&row), "{row}");
+    }
 }
 
 /// The tags of a page, without their angle brackets; they must be balanced.

@@ -36,6 +36,9 @@ pub fn read(output: &[u8], variables: usize) -> Result<Answer, Fault> {
 pub struct Reading {
     blocks: Blocks,
     unsatisfiable: bool,
+    /// Whether a line of bare numbers would be one of values: as the first
+    /// line, and after the word that there is a model.
+    bare: bool,
 }
 
 impl Reading {
@@ -43,6 +46,7 @@ impl Reading {
         Reading {
             blocks: Blocks::new(variables),
             unsatisfiable: false,
+            bare: true,
         }
     }
 
@@ -52,10 +56,16 @@ impl Reading {
         let models = self.blocks.models;
         match Line::of(&line) {
             Line::Values(words) => self.blocks.values(words)?,
+            Line::Bare(words) if self.bare => self.blocks.values(words)?,
             Line::Defined(text) => self.blocks.defined(text)?,
             Line::Unsatisfiable => self.unsatisfiable = true,
-            Line::Other => self.blocks.end(false),
+            Line::Satisfiable | Line::Bare(_) | Line::Other => self.blocks.end(false),
         }
+        self.bare = match Line::of(&line) {
+            Line::Satisfiable => true,
+            Line::Bare(_) => self.bare,
+            _ => self.bare && line.is_empty(),
+        };
         match self.blocks.models > models {
             true => Ok(self.blocks.whole.as_deref()),
             false => Ok(None),
@@ -90,8 +100,11 @@ pub fn model(output: &[u8], variables: usize) -> Result<Vec<u8>, Fault> {
 enum Line<'a> {
     /// The words of a line of values.
     Values(&'a str),
+    /// Bare numbers, as minisat writes values.
+    Bare(&'a str),
     /// A part of z3's definitions.
     Defined(&'a str),
+    Satisfiable,
     Unsatisfiable,
     Other,
 }
@@ -107,12 +120,15 @@ impl Line<'_> {
         if ["UNSATISFIABLE", "UNSAT", "unsat"].contains(&status) {
             return Line::Unsatisfiable;
         }
+        if ["SATISFIABLE", "SAT", "sat"].contains(&status) {
+            return Line::Satisfiable;
+        }
         if line.starts_with("(define-fun") || line == "true)" || line == "false)" {
             return Line::Defined(line);
         }
         let digits = line.trim_start_matches('-');
         match digits.starts_with(|first: char| first.is_ascii_digit()) {
-            true => Line::Values(line), // minisat's
+            true => Line::Bare(line),
             false => Line::Other,
         }
     }
@@ -249,9 +265,10 @@ mod tests {
         models("v 10111\r\n", [1, 0, 1]);
         models("SAT\n1 -2 3 0\n", [1, 0, 1]);
         models("sat\n-1 2 -3", [0, 1, 0]);
+        models("-1 2\n-3 0\n", [0, 1, 0]);
         models(
             "sat\n(define-fun k!2 () Bool\n  true)\n(define-fun k!1 () Bool\n  false)\n\
-             (define-fun k!3 () Bool true)\n",
+             (define-fun k!3 () Bool true)\n   7\n",
             [0, 1, 1],
         );
     }

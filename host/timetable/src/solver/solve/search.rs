@@ -93,7 +93,7 @@ fn close_gap(week: &mut Week, refuter: &Program, start: Start) -> Result<(), Fau
         }
         let bound = match (start, left_open) {
             (Start::Top, None) => highest,
-            _ => lowest + (highest - lowest) / 2,
+            _ => lowest + (highest - lowest).div_ceil(2),
         };
         if ask(week, refuter, Question::AtMost(bound), time / 2)? == Reply::Open {
             left_open = Some(bound);

@@ -106,7 +106,13 @@ impl<'a> Week<'a> {
     /// Turns a solver's proof over `formula` into steps and has the engine
     /// check them at `bound`. False, with a note, if that fails.
     pub fn refute(&mut self, name: &str, formula: &Formula, bound: u64) -> Result<bool, Fault> {
-        let proof = self.folder.read(&format!("{name}.drat"))?;
+        let proof = match self.folder.read(&format!("{name}.drat")) {
+            Ok(proof) => proof,
+            Err(fault) => {
+                self.note(format!("no proof came: {fault}"));
+                return Ok(false);
+            }
+        };
         // The ids go on after those of the tail, whether the proof uses it or not.
         let highest = engine::sizes(self.file, bound)?.clauses as u32;
         let steps = match proofs::steps(formula, &proof, highest, &mut Turning(self)) {

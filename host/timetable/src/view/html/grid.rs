@@ -108,18 +108,19 @@ impl Table<'_> {
             if moved { " moved" } else { "" },
             escaped(&self.view.school.names.lessons[placed.lesson]),
             escaped(&others(self.view, self.grid, placed.lesson).join(", ")),
-            if moved { "<em>moved</em>" } else { "" },
+            if moved { " <em>moved</em>" } else { "" },
         )
     }
 }
 
-/// Marks, each constraint once.
+/// Marks, each constraint once, with a space before each.
 fn marks<'a>(view: &View, marks: impl Iterator<Item = &'a Mark>) -> String {
     let mut marks: Vec<Mark> = marks.copied().collect();
     // The first mark of a constraint, which shows its cost, before the others.
     marks.sort_unstable_by_key(|mark| (mark.constraint, !mark.first));
     marks.dedup_by_key(|mark| mark.constraint);
-    marks.iter().map(|&one| mark(view, one)).collect()
+    let marks = marks.iter().map(|&one| format!(" {}", mark(view, one)));
+    marks.collect()
 }
 
 /// The number of a broken constraint and what it costs, linked to its row.
