@@ -23,8 +23,9 @@ fn make(target: &str, prefix: &Path) {
         Command::new("make")
             .arg(target)
             .arg(format!("PREFIX={}", prefix.display()))
-            // The command that is tested, in place of a build in the midst of a test.
+            // What is tested, in place of a build in the midst of a test.
             .arg(format!("COMMAND={}", program()))
+            .arg(concat!("ARCHIVE=", env!("TIMETABLE_ARCHIVE")))
             .current_dir(repository()),
     );
 }

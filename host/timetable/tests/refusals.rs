@@ -5,6 +5,7 @@ mod support;
 
 use support::{file, folder, hex, oversized, run, Run, FILE_A, PROOF_A};
 use timetable::command::frame::refusals;
+use timetable::command::SUBCOMMANDS;
 use timetable::engine::Refusal;
 
 /// The lines of a message after its first: the reasons, and the bytes.
@@ -455,6 +456,9 @@ fn a_file_of_another_sort_is_recognised() {
         let found = run(&words);
         assert_eq!(found.status, 1);
         assert!(below(&found.said).contains(&said), "{}", found.said);
+        let (_, name) = said.split_once("'timetable ").expect("a call");
+        let (name, _) = name.split_once('\'').expect("its end");
+        assert!(SUBCOMMANDS.iter().any(|known| known.name == name), "{name}");
     }
 }
 

@@ -16,12 +16,12 @@ pub const SUBCOMMAND: Subcommand = Subcommand {
     prints: "what the shell is to read",
     details: "For bash: source <(timetable completion bash)",
     refusals: &[],
-    run: |given, _| Ok(Answer::text(bash(given.table))),
+    run: |given, _| Ok(Answer::text(given.manual.bash_completion())),
 };
 
 /// A function that offers subcommands, options and the words that an operand or
 /// option may be; elsewhere the shell offers files.
-fn bash(table: &[&Subcommand]) -> String {
+pub fn bash(table: &[&Subcommand]) -> String {
     let names: Vec<&'static str> = table.iter().map(|subcommand| subcommand.name).collect();
     let mut script = String::from(
         "# bash completion of timetable\n_timetable() {\n    \

@@ -2,7 +2,6 @@
 
 use super::frame::answer::{Answer, Fault};
 use super::frame::declare::{Count, Operand, Subcommand, Value};
-use super::frame::usage;
 
 pub const SUBCOMMAND: Subcommand = Subcommand {
     name: "help",
@@ -18,12 +17,13 @@ pub const SUBCOMMAND: Subcommand = Subcommand {
     details: "",
     refusals: &[],
     run: |given, _| {
-        let Some(name) = given.word_if("SUBCOMMAND") else {
-            return Ok(Answer::text(usage::overview(given.table)));
-        };
-        match given.table.iter().find(|known| known.name == name) {
-            Some(subcommand) => Ok(Answer::text(usage::help(subcommand))),
-            None => Err(Fault::Usage(format!("there is no subcommand '{name}'"))),
+        let name = given.word_if("SUBCOMMAND");
+        match given.manual.help(name) {
+            Some(help) => Ok(Answer::text(help)),
+            None => Err(Fault::Usage(format!(
+                "there is no subcommand '{}'",
+                name.unwrap_or_default()
+            ))),
         }
     },
 };

@@ -13,11 +13,11 @@ pub const SUBCOMMAND: Subcommand = Subcommand {
     prints: "the page in the form that man(1) reads",
     details: "",
     refusals: &[],
-    run: |given, _| Ok(Answer::text(page(given.table))),
+    run: |given, _| Ok(Answer::text(given.manual.man_page())),
 };
 
 /// The whole page.
-fn page(table: &[&Subcommand]) -> String {
+pub fn page(table: &[&Subcommand]) -> String {
     let version = env!("CARGO_PKG_VERSION");
     let mut page = format!(".TH TIMETABLE 1 \"\" \"timetable {version}\"\n");
     page += ".SH NAME\ntimetable \\- timetables of schools, priced and proved least\n";

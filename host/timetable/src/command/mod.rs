@@ -32,7 +32,7 @@ use crate::engine::Refusal;
 use frame::answer::{Answer, Fault, ACCEPTED, FAILED, REFUSED};
 use frame::declare::Subcommand;
 use frame::files;
-use frame::given::Given;
+use frame::given::{Given, Manual};
 use frame::json::Json;
 use frame::messages::Messages;
 use frame::operands::{JSON, OUT};
@@ -42,6 +42,30 @@ use frame::words::{self, Asked};
 use std::ffi::OsString;
 use std::io::{ErrorKind, Write};
 pub use table::SUBCOMMANDS;
+
+/// What is told of the command, from the table.
+struct Table;
+
+impl Manual for Table {
+    fn help(&self, subcommand: Option<&str>) -> Option<String> {
+        match subcommand {
+            None => Some(usage::overview(SUBCOMMANDS)),
+            Some(name) => subcommand_named(name).map(usage::help),
+        }
+    }
+
+    fn man_page(&self) -> String {
+        man::page(SUBCOMMANDS)
+    }
+
+    fn bash_completion(&self) -> String {
+        completion::bash(SUBCOMMANDS)
+    }
+}
+
+fn subcommand_named(name: &str) -> Option<&'static Subcommand> {
+    SUBCOMMANDS.iter().copied().find(|known| known.name == name)
+}
 
 /// What goes to standard output, and the exit status.
 struct Outcome {
@@ -75,10 +99,10 @@ fn outcome(words: Vec<OsString>, messages: &mut Messages) -> Outcome {
         }
         Some(name) => name,
     };
-    let Some(subcommand) = SUBCOMMANDS.iter().find(|known| known.name == name) else {
+    let Some(subcommand) = subcommand_named(name) else {
         return misused(messages, &format!("there is no subcommand '{name}'"));
     };
-    let given = match words::read(subcommand, SUBCOMMANDS, words) {
+    let given = match words::read(subcommand, &Table, words) {
         Ok(Asked::Help) => return printed(usage::help(subcommand)),
         Ok(Asked::Run(given)) => given,
         Err(fault) => return told(subcommand, None, fault, messages),

@@ -1,7 +1,7 @@
 //! Files of another sort: text where bytes are wanted, a solver's proof where
 //! steps are wanted, a model where a timetable is wanted.
 
-use super::{Inputs, Sort};
+use super::inputs::{Inputs, Sort};
 use crate::engine::{refusal, Refusal};
 use crate::solver::drat;
 

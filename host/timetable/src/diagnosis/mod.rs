@@ -2,6 +2,7 @@
 //! names. Nothing here decides an answer; the engine has given it before.
 
 mod form;
+mod inputs;
 mod instance;
 pub mod outline;
 mod step;
@@ -9,25 +10,8 @@ mod table;
 
 use crate::engine::{refusal, Refusal};
 use crate::instance::read;
+pub use inputs::{Inputs, Sort};
 use outline::Outline;
-
-/// What a refused call was given.
-pub struct Inputs<'a> {
-    pub instance: &'a [u8],
-    pub bound: Option<u64>,
-    /// The file that earned the refusal, and what it should be.
-    pub file: &'a [u8],
-    pub sort: Sort,
-}
-
-/// What a file should be.
-#[derive(Clone, Copy, Debug, PartialEq, Eq)]
-pub enum Sort {
-    Instance,
-    Timetable,
-    Model,
-    Proof,
-}
 
 /// What can be said of a refusal beside its own words, a line each.
 pub fn reasons(refusal: Refusal, inputs: &Inputs) -> Vec<String> {

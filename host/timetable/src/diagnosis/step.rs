@@ -1,7 +1,7 @@
 //! Refusals 14 to 18: what is wrong with a proof's step, or with its end.
 
+use super::inputs::Inputs;
 use super::outline::Outline;
-use super::Inputs;
 use crate::engine::{refusal, Refusal};
 use crate::instance::{read, Instance};
 use crate::proof::{read_step, start_of, Misread, Step};

@@ -1,8 +1,8 @@
 //! Refusals 10 and 12: the length that was given, and why an event breaks a
 //! timetable.
 
+use super::inputs::{Inputs, Sort};
 use super::outline::Outline;
-use super::{Inputs, Sort};
 use crate::instance::{read, Instance};
 use crate::view::Sheet;
 

@@ -115,13 +115,14 @@ impl Draft {
     fn add_one(&mut self, weight: Weight, wish: &Wish) -> Result<(), String> {
         let kind = self.kind(wish)?;
         match self.instance.constraint_end(&kind) {
-            Some(Reason::LongList(length)) => {
+            Some(Reason::LongList(end)) => {
                 return Err(format!(
-                    "it counts over {length} places, {LONGEST_LIST} are the most"
+                    "it counts over {} places, {LONGEST_LIST} are the most",
+                    end.length
                 ))
             }
-            Some(Reason::Unreachable { lo, length }) => {
-                return Err(format!("it asks for {lo} of {length}"))
+            Some(Reason::Unreachable(end)) => {
+                return Err(format!("it asks for {} of {}", end.lo, end.length))
             }
             Some(_) => return Err("its least is above its most".to_string()),
             None => {}

@@ -1,16 +1,26 @@
 //! What a call was given: the operands and options of a subcommand, by name.
 
-use super::declare::Subcommand;
+use super::parameters::{CommandOption, Operand};
 use std::path::{Path, PathBuf};
 
 /// The operands and options of a call. Asking for a name that the subcommand
 /// does not declare, or for another sort of value, is a mistake of the program
 /// and panics.
 pub struct Given {
-    pub subcommand: &'static Subcommand,
-    /// Every subcommand of the command.
-    pub table: &'static [&'static Subcommand],
-    values: Vec<(&'static str, Content)>,
+    /// What the subcommand declares.
+    pub operands: &'static [Operand],
+    pub options: &'static [CommandOption],
+    pub manual: &'static dyn Manual,
+    pub values: Vec<(&'static str, Content)>,
+}
+
+/// What can be told of the whole command.
+pub trait Manual {
+    /// The help of the command or of one subcommand, if there is one of that name.
+    fn help(&self, subcommand: Option<&str>) -> Option<String>;
+    fn man_page(&self) -> String;
+    /// What bash reads to complete words.
+    fn bash_completion(&self) -> String;
 }
 
 /// A word's value.
@@ -30,27 +40,10 @@ pub struct File {
 }
 
 impl Given {
-    pub fn new(
-        subcommand: &'static Subcommand,
-        table: &'static [&'static Subcommand],
-        values: Vec<(&'static str, Content)>,
-    ) -> Given {
-        Given {
-            subcommand,
-            table,
-            values,
-        }
-    }
-
     /// Every value under `name`, which the subcommand must declare.
     fn all(&self, name: &str) -> impl Iterator<Item = &Content> {
-        let operand = self.subcommand.operands.iter().any(|one| one.name == name);
-        let option = self.subcommand.options.iter().any(|one| one.long == name);
-        assert!(
-            operand || option,
-            "{} declares no {name}",
-            self.subcommand.name
-        );
+        let declared = self.has_operand(name) || self.has_option(name);
+        assert!(declared, "the subcommand declares no {name}");
         let named = name.to_string();
         let values = self.values.iter().filter(move |(known, _)| *known == named);
         values.map(|(_, content)| content)
@@ -134,12 +127,12 @@ impl Given {
 
     /// Whether the subcommand has an operand of this name.
     pub fn has_operand(&self, name: &str) -> bool {
-        self.subcommand.operands.iter().any(|one| one.name == name)
+        self.operands.iter().any(|one| one.name == name)
     }
 
     /// Whether the subcommand has an option of this name.
     pub fn has_option(&self, name: &str) -> bool {
-        self.subcommand.options.iter().any(|one| one.long == name)
+        self.options.iter().any(|one| one.long == name)
     }
 }
 

@@ -8,6 +8,7 @@ pub mod given;
 pub mod json;
 pub mod messages;
 pub mod operands;
+pub mod parameters;
 pub mod refusals;
 pub mod usage;
 pub mod words;

@@ -1,6 +1,6 @@
 //! Operands and options that several subcommands have.
 
-use super::declare::{CommandOption, Count, Operand, Value};
+use super::parameters::{CommandOption, Count, Operand, Value};
 
 const MEBIBYTE: u64 = 1 << 20;
 

@@ -1,6 +1,6 @@
 //! Refusals in words.
 
-use super::given::Given;
+use super::given::{File, Given};
 use crate::diagnosis::{reasons, Inputs, Sort};
 use crate::engine::{refusal_facts, Refusal};
 use crate::proof;
@@ -17,15 +17,16 @@ pub fn message(given: &Given, refusal: Refusal, operand: Option<&'static str>) -
         let mut names = operands(refusal.number).iter();
         names.find(|name| given.has_operand(name)).copied()
     });
-    let Some(operand) = operand else {
-        return in_words(refusal, &[], &[]);
-    };
-    if operand == "BOUND" {
+    if operand == Some("BOUND") {
         return format!("bound {}: {}", refusal.value, in_words(refusal, &[], &[]));
     }
-    let file = given.file(operand);
+    let file = operand.and_then(|name| Some((name, operand_file(given, name)?)));
+    let Some((operand, file)) = file else {
+        return in_words(refusal, &[], &[]);
+    };
+    let instance = operand_file(given, "INSTANCE");
     let inputs = Inputs {
-        instance: given.bytes("INSTANCE"),
+        instance: instance.map_or(&[], |file| &file.bytes),
         bound: match given.has_operand("BOUND") {
             true => given.number_if("BOUND"),
             false => None,
@@ -39,6 +40,14 @@ pub fn message(given: &Given, refusal: Refusal, operand: Option<&'static str>) -
         file.name,
         in_words(refusal, &file.bytes, &reasons)
     )
+}
+
+/// The file of the operand `name`, if the subcommand has one and was given it.
+fn operand_file<'a>(given: &'a Given, name: &str) -> Option<&'a File> {
+    match given.has_operand(name) {
+        true => given.files(name).first().copied(),
+        false => None,
+    }
 }
 
 /// The operands that can earn refusal `number`.

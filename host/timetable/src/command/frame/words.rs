@@ -1,9 +1,10 @@
 //! Reads the words of a call by the declaration of its subcommand.
 
 use super::answer::Fault;
-use super::declare::{CommandOption, Count, Subcommand, Value};
+use super::declare::Subcommand;
 use super::files;
-use super::given::{Content, File, Given};
+use super::given::{Content, File, Given, Manual};
+use super::parameters::{CommandOption, Count, Value};
 use std::ffi::{OsStr, OsString};
 use std::path::PathBuf;
 
@@ -23,7 +24,7 @@ pub enum Asked {
 /// Reads the words after the subcommand's name, and the files that they name.
 pub fn read(
     subcommand: &'static Subcommand,
-    table: &'static [&'static Subcommand],
+    manual: &'static dyn Manual,
     words: impl Iterator<Item = OsString>,
 ) -> Result<Asked, Fault> {
     let Some(words) = sort(subcommand, words)? else {
@@ -33,7 +34,12 @@ pub fn read(
         .into_iter()
         .map(|word| Ok((word.name, content(word.value)?)));
     let values = values.collect::<Result<_, Fault>>()?;
-    Ok(Asked::Run(Given::new(subcommand, table, values)))
+    Ok(Asked::Run(Given {
+        operands: subcommand.operands,
+        options: subcommand.options,
+        manual,
+        values,
+    }))
 }
 
 /// The words under their names, or none where help is asked for.
