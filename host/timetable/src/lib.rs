@@ -3,7 +3,11 @@
 #[cfg(feature = "engine")]
 pub mod command;
 pub mod engine;
+pub mod import;
+pub mod instance;
 pub mod number;
 pub mod proof;
+pub mod school;
 #[cfg(feature = "engine")]
 pub mod solver;
+pub mod view;

@@ -5,16 +5,23 @@
 //! own and on a line of `table`; `frame` is what they have in common.
 
 mod check;
+mod compile;
 mod completion;
 mod decode;
+mod diff;
 mod dimacs;
+mod explain;
+mod export;
 pub mod frame;
 mod help;
+mod import;
 mod man;
 mod model;
+mod names;
 mod read;
 mod same;
 mod score;
+mod show;
 mod sizes;
 mod solve;
 mod steps;

@@ -1,6 +1,6 @@
 //! `timetable read`: whether an instance file is accepted.
 
-use super::frame::answer::Answer;
+use super::frame::answer::{Answer, Fault};
 use super::frame::declare::Subcommand;
 use super::frame::operands::{INSTANCE, JSON};
 use crate::engine;
@@ -14,17 +14,25 @@ pub const SUBCOMMAND: Subcommand = Subcommand {
              number on a line",
     details: "",
     refusals: &[1..=6],
-    run: |given, _| {
-        let found = engine::read(given.bytes("INSTANCE"))?;
-        Ok(Answer::report(
-            Some("accepted"),
-            &[
-                ("times", found.times as u64),
-                ("events", found.events as u64),
-                ("resources", found.resources as u64),
-                ("groups", found.groups as u64),
-                ("constraints", found.constraints as u64),
-            ],
-        ))
-    },
+    run: |given, _| report(given.bytes("INSTANCE")),
 };
+
+/// What is said of an instance file that the engine accepts.
+pub fn report(file: &[u8]) -> Result<Answer, Fault> {
+    Ok(Answer::report(Some(ACCEPTED), &counts(file)?))
+}
+
+/// The verdict on an instance file that the engine accepts.
+pub const ACCEPTED: &str = "accepted";
+
+/// How much an instance file holds.
+pub fn counts(file: &[u8]) -> Result<[(&'static str, u64); 5], Fault> {
+    let found = engine::read(file)?;
+    Ok([
+        ("times", found.times as u64),
+        ("events", found.events as u64),
+        ("resources", found.resources as u64),
+        ("groups", found.groups as u64),
+        ("constraints", found.constraints as u64),
+    ])
+}

@@ -2,11 +2,15 @@
 
 use super::frame::declare::Subcommand;
 use super::{
-    check, completion, decode, dimacs, help, man, model, read, same, score, sizes, solve, steps,
-    text,
+    check, compile, completion, decode, diff, dimacs, explain, export, help, import, man, model,
+    read, same, score, show, sizes, solve, steps, text,
 };
 
 pub const SUBCOMMANDS: &[&Subcommand] = &[
+    &compile::SUBCOMMAND,
+    &import::SUBCOMMAND,
+    &export::SUBCOMMAND,
+    &explain::SUBCOMMAND,
     &read::SUBCOMMAND,
     &sizes::SUBCOMMAND,
     &text::SUBCOMMAND,
@@ -15,6 +19,8 @@ pub const SUBCOMMANDS: &[&Subcommand] = &[
     &decode::SUBCOMMAND,
     &score::SUBCOMMAND,
     &same::SUBCOMMAND,
+    &show::SUBCOMMAND,
+    &diff::SUBCOMMAND,
     &steps::SUBCOMMAND,
     &check::SUBCOMMAND,
     &solve::SUBCOMMAND,
