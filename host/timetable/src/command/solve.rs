@@ -146,28 +146,19 @@ fn stop_at_end_of_input(stop: Arc<AtomicBool>) {
 
 fn answer(outcome: &Outcome) -> Answer {
     let sentence = outcome.sentence();
-    let mut report = String::new();
-    if outcome.interrupted {
-        report += "interrupted\n";
+    let files = files_of(outcome);
+    let mut report = match outcome.interrupted {
+        true => format!("interrupted\n{sentence}\n"),
+        false => format!("{sentence}\n"),
+    };
+    for (name, path) in &files {
+        report += &format!("{name} {path}\n");
     }
-    report += &format!("{sentence}\n");
     let mut fields = vec![
         ("answer", Json::from(sentence.as_str())),
         ("settled", Json::from(outcome.is_settled())),
         ("interrupted", Json::from(outcome.interrupted)),
     ];
-    let mut file = |name: &'static str, path: &Path| {
-        let path = path.display().to_string();
-        report += &format!("{name} {path}\n");
-        fields.push((name, Json::from(path.as_str())));
-    };
-    if let Some(best) = &outcome.best {
-        file("model", &best.model);
-        file("timetable", &best.timetable);
-    }
-    if let Some(refuted) = &outcome.refuted {
-        file("proof", &refuted.proof);
-    }
     if let Some(best) = &outcome.best {
         fields.push(("cost", Json::from(best.cost)));
     }
@@ -175,6 +166,10 @@ fn answer(outcome: &Outcome) -> Answer {
         fields.push(("refuted", Json::from(refuted.bound)));
         fields.push(("steps", Json::from(refuted.steps)));
     }
+    let paths = files
+        .iter()
+        .map(|(name, path)| (*name, Json::from(path.as_str())));
+    fields.extend(paths);
     let notes = outcome.notes.iter().map(|note| format!("{note}\n"));
     Answer {
         report: report.into_bytes(),
@@ -186,6 +181,18 @@ fn answer(outcome: &Outcome) -> Answer {
         },
         ..Answer::default()
     }
+}
+
+/// The files that matter, with what each is.
+fn files_of(outcome: &Outcome) -> Vec<(&'static str, String)> {
+    let best = outcome.best.iter();
+    let best = best.flat_map(|best| [("model", &best.model), ("timetable", &best.timetable)]);
+    let refuted = outcome.refuted.iter();
+    let refuted = refuted.map(|refuted| ("proof", &refuted.proof));
+    let files = best.chain(refuted);
+    files
+        .map(|(name, path)| (name, path.display().to_string()))
+        .collect()
 }
 
 /// Says how far the week is: at once if something is new, else every few seconds.
