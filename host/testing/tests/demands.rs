@@ -11,6 +11,7 @@ use testing::generate::{
 use testing::prover::{clause_list, solve, Verdict};
 use testing::reference::{Infeasibility, Instance, Kind, Literal, Objective, Refusal, Sizes};
 use testing::steps::{encode_steps, Step};
+use timetable::proof::{room, Room};
 
 /// Shapes with at most 12 variables Y and S.
 fn shapes() -> [Shape; 5] {
@@ -381,6 +382,11 @@ fn stores_that_just_fit(file: &[u8], bound: u64, steps: &[Step]) {
     let rows = sizes.clauses + lengths.iter().filter(|&&length| length > 0).count() as u64;
     let last = lengths.iter().rposition(|&length| length > 0);
     let proof = encode_steps(steps);
+    let added = Room {
+        words: (words - sizes.words) as usize,
+        rows: (rows - sizes.clauses) as usize,
+    };
+    assert_eq!(room(&proof), added);
     let run = |words, rows| check(file, bound, &proof, words, rows, sizes.variables);
     assert_eq!(run(words, rows), Ok(steps.len() as u64));
     let refusal = match last {

@@ -1,39 +1,101 @@
-//! The C header: a C program over it, and the functions it declares.
+//! The C header and the C++ wrapper: programs over them, and what the header
+//! declares.
 #![cfg(feature = "engine")]
-#![cfg(feature = "engine")]
+
+mod support;
 
 use std::fs;
-use std::path::{Path, PathBuf};
 use std::process::Command;
-
-fn repository() -> PathBuf {
-    Path::new(env!("CARGO_MANIFEST_DIR")).join("../..")
-}
+use support::{folder, repository};
+use timetable::engine::{LARGEST_BOUND, MOST_VARIABLES, REFUSALS};
 
 fn header() -> String {
     fs::read_to_string(repository().join("include/timetable.h")).expect("the header")
 }
 
+/// Compiles a program of tests/c without a warning, and runs it.
+fn compiled_and_run(compiler: &str, options: &[&str], source: &str) {
+    let program = folder().join(format!("{source}-{}", options.concat()));
+    let compiled = Command::new(compiler)
+        .args(options)
+        .args(["-O1", "-Wall", "-Wextra", "-Wpedantic", "-Werror", "-I"])
+        .arg(repository().join("include"))
+        .arg(repository().join("tests/c").join(source))
+        .args(["-x", "none", env!("TIMETABLE_ARCHIVE"), "-o"])
+        .arg(&program)
+        .output()
+        .expect("the compiler runs");
+    let errors = String::from_utf8_lossy(&compiled.stderr);
+    assert!(compiled.status.success(), "{source} {options:?}: {errors}");
+    let run = Command::new(&program).output().expect("the program runs");
+    let printed = String::from_utf8_lossy(&run.stdout);
+    let said = String::from_utf8_lossy(&run.stderr);
+    assert_eq!((&*printed, &*said), ("ok\n", ""), "{source} {options:?}");
+    assert!(run.status.success(), "{source} {options:?}");
+}
+
+/// What makes a program end where it reaches outside its memory.
+const SANITIZERS: &str = "-fsanitize=address,undefined";
+
 #[test]
 fn the_c_program_compiles_without_a_warning_and_gets_the_answers() {
-    for (language, standard) in [("c", "-std=c99"), ("c++", "-std=c++11")] {
-        let program = Path::new(env!("CARGO_TARGET_TMPDIR")).join(format!("calls-{language}"));
-        let compiled = Command::new("cc")
-            .args(["-x", language, standard, "-O1"])
-            .args(["-Wall", "-Wextra", "-Wpedantic", "-Werror", "-I"])
-            .arg(repository().join("include"))
-            .arg(repository().join("tests/c/calls.c"))
-            .args(["-x", "none"])
-            .arg(env!("TIMETABLE_ARCHIVE"))
-            .arg("-o")
-            .arg(&program)
-            .output()
-            .expect("cc runs");
-        let errors = String::from_utf8_lossy(&compiled.stderr);
-        assert!(compiled.status.success(), "{language}: {errors}");
-        let run = Command::new(&program).output().expect("the program runs");
-        assert_eq!(String::from_utf8_lossy(&run.stdout), "ok\n", "{language}");
-        assert!(run.status.success(), "{language}");
+    for options in [
+        &["-x", "c", "-std=c99"][..],
+        &["-x", "c", "-std=c11", SANITIZERS],
+        &["-x", "c++", "-std=c++11"],
+    ] {
+        compiled_and_run("cc", options, "calls.c");
+    }
+}
+
+#[test]
+fn the_cpp_program_compiles_without_a_warning_and_gets_the_answers() {
+    for options in [&["-std=c++11"][..], &["-std=c++20", SANITIZERS]] {
+        compiled_and_run("c++", options, "wrapper.cpp");
+    }
+}
+
+#[test]
+fn the_version_is_that_of_the_package() {
+    let version = format!(
+        "#define TIMETABLE_VERSION \"{}\"\n",
+        env!("CARGO_PKG_VERSION")
+    );
+    assert!(header().contains(&version));
+}
+
+#[test]
+fn the_enum_has_the_refusals_by_their_names() {
+    let header = header();
+    let (_, members) = header
+        .split_once("enum timetable_refusal {")
+        .expect("the enum");
+    let (members, _) = members.split_once("};").expect("its end");
+    let found: Vec<&str> = members.split(',').map(str::trim).collect();
+    let refusals = REFUSALS.iter();
+    let refusals = refusals.map(|facts| format!("TIMETABLE_{} = {}", facts.name, facts.number));
+    let accepted = "TIMETABLE_ACCEPTED = 0".to_string();
+    let wanted: Vec<String> = [accepted].into_iter().chain(refusals).collect();
+    assert_eq!(found, wanted);
+    // And each stands in the table of the header's first comment.
+    for facts in REFUSALS {
+        let line = header
+            .lines()
+            .find(|line| line.starts_with(&format!(" * {:>4}   ", facts.number)));
+        assert!(line.is_some(), "{}", facts.name);
+    }
+}
+
+#[test]
+fn the_macros_are_the_limits() {
+    let wanted = [
+        ("LARGEST_BOUND", LARGEST_BOUND),
+        ("MOST_VARIABLES", MOST_VARIABLES),
+    ];
+    let header = header();
+    for (name, limit) in wanted {
+        let line = format!("\n#define TIMETABLE_{name} {limit}\n");
+        assert!(header.contains(&line), "{name}");
     }
 }
 

@@ -9,6 +9,7 @@ use support::{file, hex, run, school, FILE_A};
 use timetable::command::frame::declare::Count;
 use timetable::command::frame::refusals;
 use timetable::command::SUBCOMMANDS;
+use timetable::engine::REFUSALS;
 
 #[test]
 fn wrong_usage_is_told_and_prints_nothing() {
@@ -171,8 +172,9 @@ fn the_man_page_shows_every_subcommand_operand_option_and_refusal() {
             assert!(section.contains(&format!(".B {}\n{}\n", option.spelling(), option.about)));
         }
     }
-    for number in refusals::NUMBERS {
-        assert!(seen.contains(&format!(".B {number}\n{}\n", refusals::words(number))));
+    for refusal in REFUSALS {
+        let entry = format!(".B {}\n{}\n", refusal.number, refusal.when);
+        assert!(seen.contains(&entry));
     }
     // No line is read as a request that is none.
     for line in page.printed.lines().filter(|line| line.starts_with('.')) {

@@ -2,7 +2,8 @@
 
 use super::frame::answer::Answer;
 use super::frame::declare::Subcommand;
-use super::frame::{refusals, usage};
+use super::frame::usage;
+use crate::engine::REFUSALS;
 
 pub const SUBCOMMAND: Subcommand = Subcommand {
     name: "man",
@@ -28,9 +29,9 @@ fn page(table: &[&Subcommand]) -> String {
         page += &section(subcommand);
     }
     page += ".SH REFUSALS\n";
-    page += &paragraph(REFUSALS);
-    for number in refusals::NUMBERS {
-        page += &entry(&number.to_string(), refusals::words(number));
+    page += &paragraph(REFUSED);
+    for refusal in REFUSALS {
+        page += &entry(&refusal.number.to_string(), refusal.when);
     }
     page += ".SH EXIT STATUS\n";
     for (status, meaning) in usage::STATUSES {
@@ -46,7 +47,7 @@ solver's proof that no timetable costs a bound or less. Each of these answers is
 which is proved for every input. Answers go to standard output, messages to standard error. A \
 file named - is standard input, or standard output where it is written.";
 
-const REFUSALS: &str = "\
+const REFUSED: &str = "\
 A refusal is the line 'refused NUMBER VALUE' on standard output, and is told in words on standard \
 error. With --json it is an object with the members refused, value and message.";
 

@@ -63,6 +63,7 @@ pub const SUBCOMMAND: Subcommand = Subcommand {
     },
 };
 
+/// An option with a name.
 const fn one(long: &'static str, about: &'static str) -> CommandOption {
     CommandOption {
         long,
@@ -72,7 +73,8 @@ const fn one(long: &'static str, about: &'static str) -> CommandOption {
     }
 }
 
-const fn flag(long: &'static str, about: &'static str) -> CommandOption {
+/// A flag.
+pub const fn flag(long: &'static str, about: &'static str) -> CommandOption {
     CommandOption {
         long,
         short: None,
@@ -150,7 +152,7 @@ fn chosen(given: &Given, school: &School) -> Result<Chosen, Fault> {
 }
 
 /// Every resource: classes, then teachers, rooms and others.
-fn by_sort(school: &School) -> Vec<usize> {
+pub fn by_sort(school: &School) -> Vec<usize> {
     let order = |sort: ResourceSort| match sort {
         ResourceSort::Class => 0,
         ResourceSort::Teacher => 1,

@@ -2,7 +2,7 @@
 
 use super::answers::{accepted, FormulaSize, Refusal};
 use super::call::{self, Row};
-use crate::proof::ADD;
+use crate::proof::room;
 
 /// A word for each literal, a row for each clause, a byte for each variable.
 pub struct Store {
@@ -12,21 +12,13 @@ pub struct Store {
 }
 
 impl Store {
-    /// Room for a formula of `size` and for every clause that `proof` can add,
-    /// so that a check in it gives neither 9 nor 17.
-    ///
-    /// A step that adds a clause begins with the byte 97, and a literal's number
-    /// ends with a byte from 1 to 127: bit 7 is set on every byte of a number
-    /// but its last, which is 0 in its shortest form for the number 0 alone.
-    /// Steps share no byte and numbers share none, so there are at most as many
-    /// clauses and literals as there are such bytes.
+    /// Room for a formula of `size` and for every clause that `proof` adds, so
+    /// that a check in it gives neither 9 nor 17.
     pub fn for_proof(size: FormulaSize, proof: &[u8]) -> Store {
-        let bytes = |wanted: fn(&u8) -> bool| proof.iter().filter(|byte| wanted(byte)).count();
-        let clauses = bytes(|&byte| byte == ADD);
-        let literals = bytes(|byte| (1..=127).contains(byte));
+        let added = room(proof);
         Store {
-            words: vec![0; size.words as usize + literals],
-            rows: vec![Row::default(); size.clauses as usize + clauses],
+            words: vec![0; size.words as usize + added.words],
+            rows: vec![Row::default(); size.clauses as usize + added.rows],
             marks: vec![0; size.variables as usize],
         }
     }

@@ -1,5 +1,7 @@
 //! The counted list of a constraint: how long it is, and what its count may be.
 
+use super::fault::Reason;
+use super::limits::LONGEST_LIST;
 use super::{Instance, Kind};
 
 /// What a count may be, both ends included.
@@ -55,5 +57,18 @@ impl Instance {
                 groups.iter().map(inner).sum()
             }
         }
+    }
+
+    /// What is wrong with a constraint once its last field is read.
+    pub fn constraint_end(&self, kind: &Kind) -> Option<Reason> {
+        let length = self.counted_length(kind);
+        let Range { lo, hi } = kind.range();
+        if length > LONGEST_LIST {
+            return Some(Reason::LongList(length));
+        }
+        if lo > hi {
+            return Some(Reason::Crossed { lo, hi });
+        }
+        (lo > length).then_some(Reason::Unreachable { lo, length })
     }
 }

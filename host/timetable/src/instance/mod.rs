@@ -6,6 +6,7 @@
 //! `kinds`: reading, writing, the names of fields and the text form go by it.
 
 mod counted;
+mod fault;
 mod field;
 mod kinds;
 mod limits;
@@ -13,13 +14,14 @@ mod read;
 mod write;
 
 pub use counted::Range;
+pub use fault::{Fault, Reason};
 pub use field::{Entry, Field, Part, Path};
 pub use kinds::{kind_named, FieldFacts, Kind, KindFacts, Source, Value, KINDS};
 pub use limits::{
     Counts, Sort, Thing, LARGEST_BOUND_OF_COUNT, LARGEST_WEIGHT, LONGEST_LIST, MOST_CONSTRAINTS,
     MOST_EVENTS, MOST_GROUPS, MOST_RESOURCES, MOST_TIMES,
 };
-pub use read::{field_at, read, Fault, Reason};
+pub use read::{field_at, read};
 pub use write::write;
 
 #[derive(Clone, Debug, Default, PartialEq, Eq)]

@@ -2,14 +2,13 @@
 //! where it says `each`, for one with each of the things named.
 
 use super::cursor::Cursor;
-use super::declarations::{limited, Declarations};
+use super::declarations::limited;
 use super::fault::{Place, TextFault};
-use super::names::ResourceSort;
 use super::parse::Builder;
 use super::print::constraint_line;
+use super::scope::{Number, Scope};
 use crate::instance::{
-    Constraint, Counts, FieldFacts, Instance, Kind, KindFacts, Sort, Source, Thing, LARGEST_WEIGHT,
-    MOST_CONSTRAINTS,
+    Constraint, FieldFacts, Kind, KindFacts, Sort, Source, LARGEST_WEIGHT, MOST_CONSTRAINTS,
 };
 use std::convert::Infallible;
 
@@ -107,22 +106,7 @@ impl Source for Picked {
     }
 }
 
-/// What names can refer to.
-pub struct Scope<'a> {
-    declared: &'a Declarations,
-    instance: &'a Instance,
-    counts: Counts,
-}
-
-impl<'a> Scope<'a> {
-    pub fn of(builder: &'a Builder) -> Self {
-        Scope {
-            declared: &builder.declared,
-            instance: &builder.instance,
-            counts: builder.instance.counts(),
-        }
-    }
-
+impl Scope<'_> {
     fn choice(&self, field: &FieldFacts, cursor: &mut Cursor) -> Result<Vec<Given>, TextFault> {
         if !field.lead.is_empty() {
             cursor.expect(field.lead)?;
@@ -178,158 +162,5 @@ impl<'a> Scope<'a> {
         let least = self.number(lo, cursor)?;
         cursor.expect(hi.lead)?;
         pair(least, self.number(hi, cursor)?)
-    }
-
-    /// A list of things, ascending, or `none`.
-    pub fn list(&self, thing: Thing, cursor: &mut Cursor) -> Result<Vec<usize>, TextFault> {
-        let mut members = Vec::new();
-        if cursor.passes("none") {
-            return Ok(members);
-        }
-        loop {
-            let place = cursor.place();
-            let more = match cursor.passes("all") {
-                true => self.several(thing, Number::Plural, cursor)?,
-                false => vec![self.named(thing, cursor)?],
-            };
-            for member in more {
-                if members.contains(&member) {
-                    let name = &self.names(thing)[member];
-                    let message = format!("'{name}' stands twice in a list");
-                    return Err(TextFault::at(place, message));
-                }
-                members.push(member);
-            }
-            if !cursor
-                .peek()
-                .is_some_and(|word| word.is("all") || word.is_name())
-            {
-                members.sort_unstable();
-                return Ok(members);
-            }
-        }
-    }
-
-    /// The thing with the name that stands next.
-    fn named(&self, thing: Thing, cursor: &mut Cursor) -> Result<usize, TextFault> {
-        let one = one(thing);
-        let word = cursor.name(&format!("the name of a {one}"))?;
-        let index = match thing {
-            Thing::Resource => &self.declared.resources,
-            Thing::Group => &self.declared.groups,
-            _ => &self.declared.lessons,
-        };
-        let found = index.get(&word.text).copied();
-        let message = || format!("there is no {one} '{}'", word.text);
-        found.ok_or_else(|| TextFault::at(word.place, message()))
-    }
-
-    /// What `each` or `all` stands for; it is never nothing.
-    fn several(
-        &self,
-        thing: Thing,
-        number: Number,
-        cursor: &mut Cursor,
-    ) -> Result<Vec<usize>, TextFault> {
-        let place = cursor.place();
-        let found = match thing {
-            Thing::Resource => self.several_resources(number, cursor)?,
-            Thing::Group => self.several_groups(number, cursor)?,
-            _ => self.several_lessons(number, cursor)?,
-        };
-        match found.is_empty() {
-            true => Err(TextFault::at(place, "there is none")),
-            false => Ok(found),
-        }
-    }
-
-    /// The resources of a sort. The word for those of no other sort stands for
-    /// every resource here.
-    fn several_resources(
-        &self,
-        number: Number,
-        cursor: &mut Cursor,
-    ) -> Result<Vec<usize>, TextFault> {
-        let word = |sort: ResourceSort| number.pick(sort.one(), sort.many());
-        let sort = ResourceSort::ALL
-            .into_iter()
-            .find(|&sort| cursor.passes(word(sort)));
-        let Some(sort) = sort else {
-            let words = ResourceSort::ALL.map(word);
-            return Err(cursor.expected(&format!("one of {}", words.join(", "))));
-        };
-        let resources = &self.declared.names.resources;
-        let chosen = |&at: &usize| sort == ResourceSort::Other || resources[at].sort == sort;
-        Ok((0..self.counts.resources).filter(chosen).collect())
-    }
-
-    /// Every group, or those with the name of a day.
-    fn several_groups(&self, number: Number, cursor: &mut Cursor) -> Result<Vec<usize>, TextFault> {
-        let all = 0..self.counts.groups;
-        let [group, day] = [number.pick("group", "groups"), number.pick("day", "days")];
-        if cursor.passes(group) {
-            return Ok(all.collect());
-        }
-        if !cursor.passes(day) {
-            return Err(cursor.expected(&format!("'{day}' or '{group}'")));
-        }
-        let names = &self.declared.names;
-        let is_day = |&at: &usize| {
-            let mut days = names.days.iter().filter_map(|day| day.name.as_ref());
-            days.any(|day| *day == names.groups[at])
-        };
-        Ok(all.filter(is_day).collect())
-    }
-
-    /// Every lesson, or those with a resource.
-    fn several_lessons(
-        &self,
-        number: Number,
-        cursor: &mut Cursor,
-    ) -> Result<Vec<usize>, TextFault> {
-        cursor.expect(number.pick("lesson", "lessons"))?;
-        let all = 0..self.counts.events;
-        if !cursor.passes("with") {
-            return Ok(all.collect());
-        }
-        let resource = self.named(Thing::Resource, cursor)?;
-        Ok(all
-            .filter(|&lesson| self.instance.uses(lesson, resource))
-            .collect())
-    }
-
-    fn names(&self, thing: Thing) -> Vec<String> {
-        let names = &self.declared.names;
-        match thing {
-            Thing::Resource => names.resources.iter().map(|r| r.name.clone()).collect(),
-            Thing::Group => names.groups.clone(),
-            Thing::Event => names.lessons.clone(),
-            Thing::Time => names.times(),
-        }
-    }
-}
-
-/// Which of a word's two forms is wanted: after `each` or after `all`.
-#[derive(Clone, Copy)]
-enum Number {
-    Singular,
-    Plural,
-}
-
-impl Number {
-    fn pick<'a>(self, one: &'a str, many: &'a str) -> &'a str {
-        match self {
-            Number::Singular => one,
-            Number::Plural => many,
-        }
-    }
-}
-
-fn one(thing: Thing) -> &'static str {
-    match thing {
-        Thing::Resource => "resource",
-        Thing::Group => "group",
-        Thing::Event => "lesson",
-        Thing::Time => "time",
     }
 }

@@ -110,7 +110,7 @@ pub fn limited(count: usize, most: u32, things: &str, place: Place) -> Result<()
 }
 
 /// The sort of resources that a statement's first word declares.
-fn sort_named(word: &str) -> Option<ResourceSort> {
+pub fn sort_named(word: &str) -> Option<ResourceSort> {
     let mut sorts = ResourceSort::ALL.into_iter();
     sorts.find(|sort| word == sort.many() || word == sort.one())
 }

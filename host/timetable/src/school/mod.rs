@@ -9,6 +9,9 @@ mod names;
 mod names_file;
 mod parse;
 mod print;
+mod scope;
+#[cfg(test)]
+mod tests;
 mod times;
 mod words;
 

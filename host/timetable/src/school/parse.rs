@@ -1,9 +1,11 @@
 //! The text form of a school, read statement by statement.
 
-use super::constraints::{self, Scope};
+use super::constraints;
 use super::cursor::Cursor;
-use super::declarations::Declarations;
+use super::declarations::{sort_named, Declarations};
 use super::fault::{Place, TextFault};
+use super::names::ResourceSort;
+use super::scope::Scope;
 use super::words::{statements, Statement, Word};
 use super::School;
 use crate::instance::{kind_named, Event, Instance, Thing, KINDS};
@@ -141,32 +143,22 @@ impl Builder {
     }
 }
 
-/// The first words of statements that declare something.
+/// The first words of statements that declare something, beside those for resources.
 const DECLARATIONS: &[&str] = &[
-    "school",
-    "days",
-    "times",
-    "teachers",
-    "classes",
-    "rooms",
-    "resources",
-    "lesson",
-    "group",
-    "groups",
+    "school", "day", "days", "time", "times", "lesson", "group", "groups",
 ];
 
 /// Whether the statement would be one if it stood earlier.
 fn is_declaration(keyword: &Word) -> bool {
-    let plural =
-        |known: &&str| keyword.text == **known || keyword.text == known.trim_end_matches('s');
-    DECLARATIONS.iter().any(plural) || keyword.text == "class"
+    DECLARATIONS.contains(&keyword.text.as_str()) || sort_named(&keyword.text).is_some()
 }
 
 fn unknown(word: &str) -> String {
-    let kinds = KINDS.iter().map(|facts| facts.name);
-    let known: Vec<&str> = DECLARATIONS.iter().copied().chain(kinds).collect();
+    let sorts = ResourceSort::ALL.map(ResourceSort::many).join(", ");
+    let kinds: Vec<&str> = KINDS.iter().map(|facts| facts.name).collect();
     format!(
-        "expected a statement ({}), found '{word}'",
-        known.join(", ")
+        "expected a statement (school, days, times, {sorts}, lesson, group, groups) or a \
+         constraint ({}), found '{word}'",
+        kinds.join(", ")
     )
 }

@@ -4,7 +4,7 @@
 use super::grid::Grid;
 use super::text::{weight, CHARGE_COLUMNS};
 use super::View;
-use crate::school::{constraint_line, ResourceSort};
+use crate::school::ResourceSort;
 
 /// The lessons in `grids`, grid by grid, by time.
 pub fn lessons_csv(view: &View, grids: &[Grid]) -> String {
@@ -20,11 +20,9 @@ pub fn lessons_csv(view: &View, grids: &[Grid]) -> String {
                 };
                 for placed in &cell.lessons {
                     let starts = view.sheet.starts(placed.lesson, cell.time);
-                    let broken = [&placed.broken[..], &cell.broken].concat();
-                    let broken: Vec<String> = broken
-                        .iter()
-                        .map(|number| (number + 1).to_string())
-                        .collect();
+                    let marks = placed.marks.iter().chain(&cell.marks);
+                    let broken = marks.map(|mark| (mark.constraint + 1).to_string());
+                    let broken: Vec<String> = broken.collect();
                     let [teachers, classes, rooms, others] =
                         ResourceSort::ALL.map(|sort| resources(view, placed.lesson, sort));
                     text += &line([
@@ -59,13 +57,12 @@ fn resources(view: &View, lesson: usize, sort: ResourceSort) -> String {
 pub fn charges_csv(view: &View) -> String {
     let mut text = line(CHARGE_COLUMNS);
     for (number, charge) in view.charges.iter().enumerate() {
-        let constraint = &view.school.instance.constraints[number];
         text += &line([
             (number + 1).to_string().as_str(),
             &charge.deviation.to_string(),
             &weight(charge),
             &charge.amount().to_string(),
-            &constraint_line(&view.school.names, constraint),
+            &view.constraint_line(number),
         ]);
     }
     text

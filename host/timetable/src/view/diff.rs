@@ -22,6 +22,12 @@ impl Diff {
     pub fn is_empty(&self) -> bool {
         self.moved.is_empty() && self.charged.is_empty()
     }
+
+    /// Whether a block that `lesson` moved to holds `time`.
+    pub fn has_entered(&self, lesson: usize, time: usize) -> bool {
+        let mut moved = self.moved.iter().filter(|moved| moved.lesson == lesson);
+        moved.any(|moved| moved.entered.iter().any(|block| block.contains(&time)))
+    }
 }
 
 /// Compares two timetables of one school.

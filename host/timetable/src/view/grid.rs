@@ -4,6 +4,7 @@ use super::charges::{Place, Subject};
 use super::View;
 use crate::instance::{Kind, Thing, Value};
 use crate::school::{Day, ResourceSort};
+use std::collections::HashSet;
 
 /// The week of one resource, or of the lessons that have none.
 pub struct Grid {
@@ -25,8 +26,8 @@ pub struct Row {
 pub struct Cell {
     pub time: usize,
     pub lessons: Vec<Placed>,
-    /// The constraints that the resource breaks at this time, from 0.
-    pub broken: Vec<usize>,
+    /// What the resource breaks at this time.
+    pub marks: Vec<Mark>,
 }
 
 /// A lesson in a cell.
@@ -34,8 +35,17 @@ pub struct Placed {
     pub lesson: usize,
     /// Whether its block began in the cell above.
     pub continues: bool,
-    /// The constraints that the lesson breaks at this time, from 0.
-    pub broken: Vec<usize>,
+    /// What the lesson breaks at this time.
+    pub marks: Vec<Mark>,
+}
+
+/// A constraint that is broken at a place of a grid.
+#[derive(Clone, Copy, Debug, PartialEq, Eq, PartialOrd, Ord)]
+pub struct Mark {
+    /// From 0.
+    pub constraint: usize,
+    /// Whether the grid has no earlier mark of it: here its cost is shown.
+    pub first: bool,
 }
 
 /// The grids of `resources`, in that order; `others` adds the lessons without
@@ -57,13 +67,22 @@ fn grid(view: &View, resource: Option<usize>) -> Grid {
         None => instance.events[lesson].resources.is_empty(),
     };
     let lessons: Vec<usize> = (0..instance.events.len()).filter(here).collect();
-    let spans = names.spans();
+    let mut marked = HashSet::new();
+    let mut cells: Vec<Option<Cell>> = Vec::new();
+    for (_, span) in names.spans() {
+        for time in span.clone() {
+            let goes_on = time > span.start;
+            let cell = cell(view, resource, &lessons, time, goes_on);
+            cells.push(Some(cell.with_costs_once(&mut marked)));
+        }
+    }
     let rows = periods(&names.days).into_iter().map(|period| Row {
-        cells: spans
-            .iter()
+        cells: names
+            .spans()
+            .into_iter()
             .map(|(day, span)| {
                 let at = day.periods.iter().position(|name| *name == period)?;
-                Some(cell(view, resource, &lessons, span.start + at, at == 0))
+                cells[span.start + at].take()
             })
             .collect(),
         period,
@@ -110,13 +129,24 @@ fn periods(days: &[Day]) -> Vec<String> {
     periods
 }
 
-fn cell(view: &View, resource: Option<usize>, lessons: &[usize], time: usize, first: bool) -> Cell {
-    let broken_by = |subject: Subject| -> Vec<usize> {
+/// The cell at `time`; `goes_on` if the cell above is the time before.
+fn cell(
+    view: &View,
+    resource: Option<usize>,
+    lessons: &[usize],
+    time: usize,
+    goes_on: bool,
+) -> Cell {
+    let marks_on = |subject: Subject| -> Vec<Mark> {
         let place = Place { subject, time };
         let broken = view
             .broken()
             .filter(|(_, charge)| charge.places.contains(&place));
-        broken.map(|(number, _)| number).collect()
+        let mark = |(constraint, _)| Mark {
+            constraint,
+            first: false,
+        };
+        broken.map(mark).collect()
     };
     let taken = lessons
         .iter()
@@ -126,13 +156,22 @@ fn cell(view: &View, resource: Option<usize>, lessons: &[usize], time: usize, fi
         lessons: taken
             .map(|&lesson| Placed {
                 lesson,
-                continues: !first && !view.sheet.starts(lesson, time),
-                broken: broken_by(Subject::Event(lesson)),
+                continues: goes_on && !view.sheet.starts(lesson, time),
+                marks: marks_on(Subject::Event(lesson)),
             })
             .collect(),
-        broken: resource.map_or(Vec::new(), |resource| {
-            broken_by(Subject::Resource(resource))
-        }),
+        marks: resource.map_or(Vec::new(), |resource| marks_on(Subject::Resource(resource))),
+    }
+}
+
+impl Cell {
+    /// The cell with the first mark of each constraint found.
+    fn with_costs_once(mut self, marked: &mut HashSet<usize>) -> Cell {
+        let of_lessons = self.lessons.iter_mut().flat_map(|placed| &mut placed.marks);
+        for mark in of_lessons.chain(&mut self.marks) {
+            mark.first = marked.insert(mark.constraint);
+        }
+        self
     }
 }
 

@@ -12,12 +12,13 @@ mod text;
 pub use charges::{charges, Charge, Place, Subject, Totals};
 pub use csv::{charges_csv, lessons_csv};
 pub use diff::{diff, Diff, Moved};
-pub use grid::{grids, Cell, Grid, Placed, Row};
-pub use html::page;
+pub use grid::{grids, Cell, Grid, Mark, Placed, Row};
+pub use html::{diff_page, page};
 pub use sheet::Sheet;
 pub use text::{charges_text, diff_text, grids_text};
 
-use crate::school::School;
+use crate::school::{constraint_line, School};
+use std::ops::Range;
 
 /// A school with one of its timetables.
 pub struct View<'a> {
@@ -47,5 +48,21 @@ impl<'a> View<'a> {
     pub fn broken(&self) -> impl Iterator<Item = (usize, &Charge)> {
         let all = self.charges.iter().enumerate();
         all.filter(|(_, charge)| charge.deviation > 0)
+    }
+
+    /// The constraint `number`, from 0, in the text form.
+    pub fn constraint_line(&self, number: usize) -> String {
+        let School { instance, names } = self.school;
+        constraint_line(names, &instance.constraints[number])
+    }
+
+    /// Blocks by the names of their times.
+    pub fn blocks_line(&self, blocks: &[Range<usize>]) -> String {
+        let times = self.school.names.times();
+        let block = |block: &Range<usize>| match block.len() {
+            1 => times[block.start].clone(),
+            _ => format!("{} to {}", times[block.start], times[block.end - 1]),
+        };
+        blocks.iter().map(block).collect::<Vec<_>>().join(", ")
     }
 }

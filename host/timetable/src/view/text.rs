@@ -2,9 +2,8 @@
 
 use super::charges::{Charge, Totals};
 use super::diff::{Diff, Moved};
-use super::grid::{Cell, Grid};
+use super::grid::{Cell, Grid, Mark};
 use super::View;
-use crate::school::constraint_line;
 
 /// The grids one below the other, each with what is broken in it.
 pub fn grids_text(view: &View, grids: &[Grid]) -> String {
@@ -24,8 +23,15 @@ fn grid_text(view: &View, grid: &Grid) -> String {
         table.push(cells);
     }
     let mut text = format!("{}\n\n{}", grid.title, ruled(&table));
-    for &number in &grid.broken {
-        text += &format!("  {}\n", broken_line(view, number));
+    for &constraint in &grid.broken {
+        let mark = mark(
+            view,
+            Mark {
+                constraint,
+                first: true,
+            },
+        );
+        text += &format!("  {mark}  {}\n", view.constraint_line(constraint));
     }
     text
 }
@@ -43,9 +49,9 @@ fn cell_lines(view: &View, grid: &Grid, cell: &Cell) -> Vec<String> {
             let others = others(view, grid, placed.lesson);
             lines.extend((!others.is_empty()).then(|| format!("  {}", others.join(", "))));
         }
-        lines.extend(placed.broken.iter().map(|&number| mark(view, number)));
+        lines.extend(placed.marks.iter().map(|&one| mark(view, one)));
     }
-    lines.extend(cell.broken.iter().map(|&number| mark(view, number)));
+    lines.extend(cell.marks.iter().map(|&one| mark(view, one)));
     lines
 }
 
@@ -58,9 +64,14 @@ pub fn others<'a>(view: &'a View, grid: &Grid, lesson: usize) -> Vec<&'a str> {
         .collect()
 }
 
-/// "!12 +5": constraint 12 is broken, which costs 5.
-fn mark(view: &View, number: usize) -> String {
-    format!("!{} {}", number + 1, amount(&view.charges[number]))
+/// "!12 +5": constraint 12 is broken, which costs 5; further marks of it in a
+/// grid are "!12".
+fn mark(view: &View, mark: Mark) -> String {
+    let number = mark.constraint + 1;
+    match mark.first {
+        true => format!("!{number} {}", amount(&view.charges[mark.constraint])),
+        false => format!("!{number}"),
+    }
 }
 
 /// What a charge adds: "+5" to the cost, "hard 2" to the infeasibility.
@@ -69,12 +80,6 @@ pub fn amount(charge: &Charge) -> String {
         true => format!("hard {}", charge.amount()),
         false => format!("+{}", charge.amount()),
     }
-}
-
-fn broken_line(view: &View, number: usize) -> String {
-    let names = &view.school.names;
-    let line = constraint_line(names, &view.school.instance.constraints[number]);
-    format!("{}  {line}", mark(view, number))
 }
 
 /// Cells of several lines in columns as wide as their widest line, a rule
@@ -110,17 +115,15 @@ fn ruled(table: &[Vec<Vec<String>>]) -> String {
 
 /// The charges that are not 0, or all, and their sums.
 pub fn charges_text(view: &View, all: bool) -> String {
-    let names = &view.school.names;
     let mut table: Vec<Vec<String>> = vec![CHARGE_COLUMNS.map(str::to_string).to_vec()];
     for (number, charge) in view.charges.iter().enumerate() {
         if all || charge.deviation > 0 {
-            let line = constraint_line(names, &view.school.instance.constraints[number]);
             table.push(vec![
                 (number + 1).to_string(),
                 charge.deviation.to_string(),
                 weight(charge),
                 charge.amount().to_string(),
-                line,
+                view.constraint_line(number),
             ]);
         }
     }
@@ -158,14 +161,6 @@ pub fn diff_text(first: &View, second: &View, diff: &Diff) -> String {
         return "nothing moved\n".to_string();
     }
     let names = &first.school.names;
-    let times = names.times();
-    let list = |blocks: &[std::ops::Range<usize>]| {
-        let block = |block: &std::ops::Range<usize>| match block.len() {
-            1 => times[block.start].clone(),
-            _ => format!("{} to {}", times[block.start], times[block.end - 1]),
-        };
-        blocks.iter().map(block).collect::<Vec<_>>().join(", ")
-    };
     let mut text = format!("moved {}\n", diff.moved.len());
     for Moved {
         lesson,
@@ -174,12 +169,13 @@ pub fn diff_text(first: &View, second: &View, diff: &Diff) -> String {
     } in &diff.moved
     {
         let name = &names.lessons[*lesson];
-        text += &format!("  {name}: {} -> {}\n", list(left), list(entered));
+        let [from, to] = [left, entered].map(|blocks| first.blocks_line(blocks));
+        text += &format!("  {name}: {from} -> {to}\n");
     }
     text += &format!("charged otherwise {}\n", diff.charged.len());
     for &number in &diff.charged {
         let [before, after] = [first, second].map(|view| amount(&view.charges[number]));
-        let line = constraint_line(names, &first.school.instance.constraints[number]);
+        let line = first.constraint_line(number);
         text += &format!("  {}: {before} -> {after}  {line}\n", number + 1);
     }
     let [before, after] = [first.totals(), second.totals()];

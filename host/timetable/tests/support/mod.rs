@@ -75,6 +75,11 @@ pub fn host() -> PathBuf {
     Path::new(env!("CARGO_MANIFEST_DIR")).join("..")
 }
 
+/// The folder of the whole repository.
+pub fn repository() -> PathBuf {
+    host().join("..")
+}
+
 pub fn schools() -> PathBuf {
     host().join("schools")
 }

@@ -1,65 +1,8 @@
 //! Refusals in words.
 
 use super::given::Given;
-use crate::engine::Refusal;
+use crate::engine::{refusal_facts, Refusal};
 use crate::proof;
-use std::ops::RangeInclusive;
-
-/// The numbers of the refusals.
-pub const NUMBERS: RangeInclusive<u32> = 1..=18;
-
-/// When each refusal is given, from 1, and what its value is: `{}` stands for
-/// the value, and nothing for a value that says nothing.
-const WORDS: [(&str, &str); 18] = [
-    (
-        "a number is cut short, overlong or too large",
-        "it starts at offset {}",
-    ),
-    ("a value is outside its limit", "it starts at offset {}"),
-    (
-        "a reference to nothing, or a list that does not ascend",
-        "the number starts at offset {}",
-    ),
-    (
-        "a counted list is longer than 255",
-        "the constraint's kind is at offset {}",
-    ),
-    (
-        "lo is above hi, or above the length of the counted list",
-        "the constraint's kind is at offset {}",
-    ),
-    (
-        "bytes are left over after the last constraint",
-        "the first is at offset {}",
-    ),
-    ("the bound is above 4,095", "it is {}"),
-    ("the formula has more than 8,000,000 variables", ""),
-    (
-        "an output or store that was lent is too short for the formula",
-        "",
-    ),
-    ("the length is wrong", "{} bytes are wanted"),
-    ("a byte is above 1", "the first is at offset {}"),
-    (
-        "this is not a timetable",
-        "event {} is the first to break it",
-    ),
-    ("a hard clause is false", "{} is the lowest such id"),
-    ("a step is misformed", "step {}"),
-    (
-        "a hint or deletion names a clause that is not live",
-        "step {}",
-    ),
-    (
-        "a hint, or the ending of the hints, breaks the rule",
-        "step {}",
-    ),
-    ("a clause does not fit the store", "step {}"),
-    (
-        "the proof has no empty clause, or bytes after it",
-        "{} steps were read",
-    ),
-];
 
 /// When refusal `number` is given.
 pub fn words(number: u32) -> &'static str {
@@ -118,12 +61,13 @@ pub fn in_words(refusal: Refusal, bytes: &[u8]) -> String {
     message
 }
 
-/// A number that no refusal has is told as it is.
+/// When refusal `number` is given, and what its value is. A number that no
+/// refusal has is told as it is.
 fn entry(number: u32) -> (&'static str, &'static str) {
-    let known = (number as usize)
-        .checked_sub(1)
-        .and_then(|at| WORDS.get(at));
-    *known.unwrap_or(&("no refusal has this number", "its value is {}"))
+    match refusal_facts(number) {
+        Some(facts) => (facts.when, facts.gives),
+        None => ("no refusal has this number", "its value is {}"),
+    }
 }
 
 /// The bytes around `offset` in hexadecimal, the one there in brackets. Past
