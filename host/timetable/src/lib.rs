@@ -8,4 +8,6 @@ pub mod instance;
 pub mod number;
 pub mod proof;
 pub mod school;
+#[cfg(feature = "engine")]
+pub mod solver;
 pub mod view;

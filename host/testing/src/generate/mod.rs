@@ -5,6 +5,7 @@ mod damage;
 mod file;
 mod instances;
 mod models;
+mod planned;
 mod proofs;
 mod random;
 mod school;
@@ -14,6 +15,7 @@ pub use damage::{damaged_bytes, damaged_instance, damaged_numbers, damaged_table
 pub use file::encode;
 pub use instances::{instance, Shape};
 pub use models::{model, model_with_tail};
+pub use planned::{planned_school, Plan};
 pub use proofs::{lent, proof};
 pub use random::Random;
 pub use school::school;

@@ -2,8 +2,8 @@
 
 use super::frame::declare::Subcommand;
 use super::{
-    check, compile, completion, decode, diff, explain, export, help, import, man, read, same,
-    score, show, sizes, text,
+    check, compile, completion, decode, diff, dimacs, explain, export, help, import, man, model,
+    read, same, score, show, sizes, solve, steps, text,
 };
 
 pub const SUBCOMMANDS: &[&Subcommand] = &[
@@ -14,12 +14,16 @@ pub const SUBCOMMANDS: &[&Subcommand] = &[
     &read::SUBCOMMAND,
     &sizes::SUBCOMMAND,
     &text::SUBCOMMAND,
+    &dimacs::SUBCOMMAND,
+    &model::SUBCOMMAND,
     &decode::SUBCOMMAND,
     &score::SUBCOMMAND,
     &same::SUBCOMMAND,
     &show::SUBCOMMAND,
     &diff::SUBCOMMAND,
+    &steps::SUBCOMMAND,
     &check::SUBCOMMAND,
+    &solve::SUBCOMMAND,
     &help::SUBCOMMAND,
     &man::SUBCOMMAND,
     &completion::SUBCOMMAND,

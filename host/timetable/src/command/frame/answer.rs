@@ -2,6 +2,7 @@
 
 use super::json::Json;
 use crate::engine::Refusal;
+use crate::solver;
 use std::path::PathBuf;
 
 /// The exit status of an accepted call.
@@ -88,6 +89,17 @@ impl From<Refusal> for Fault {
         Fault::Refused {
             refusal,
             operand: None,
+        }
+    }
+}
+
+impl From<solver::Fault> for Fault {
+    fn from(fault: solver::Fault) -> Self {
+        match fault {
+            solver::Fault::Refused(refusal) => Fault::from(refusal),
+            solver::Fault::Other(words) => Fault::Rejected(words),
+            solver::Fault::Failed(words) => Fault::Failed(words),
+            solver::Fault::Stopped => Fault::Failed("stopped".to_string()),
         }
     }
 }
