@@ -1,5 +1,6 @@
 // What the operations answer. specs/ has the definitions that a reader of document 01 must believe; specs/Answers.antt says
 // for each case below which number and values of document 01 it stands for.
+pub mod refusals;
 
 // A refusal: its number in document 01's table, and the value that it gives.
 pub struct Refusal {
