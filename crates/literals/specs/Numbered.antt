@@ -5,7 +5,7 @@ use mathlib.Core.Bool.{Bool, true, false}
 use mathlib.Core.List.{List, [], _∷_, _++_, map, flatMap}
 use lib.ListN.{length, getD, take, drop}
 use Rattle.scope.specs.Kinds.{Constraint, Kind, clash, unavailable, preferred, split, spread, busy, cluster, idle, upTo, outside}
-use Rattle.scope.specs.Cnf.{pos, Gate, or, idling, Item, gate, hard, gates}
+use Rattle.scope.specs.Cnf.{pos, opp, Gate, or, and, Item, gate, hard, gates}
 use Rattle.scope.specs.Formula.{countItems}
 use Rattle.literals.specs.Variables.{yAt, sAt, xAt}
 use Rattle.literals.specs.Outputs.{every}
@@ -38,7 +38,7 @@ allNumbered w (c ∷ cs) v = numberedItems w c v ++ allNumbered w cs (v + gates 
 unfoldable pub gapGates : (xs : List ℕ) (k n v : ℕ) → List Gate
 gapGates xs k zero v = []
 gapGates xs k (suc n) v =
-    or (take k xs) ∷ or (drop (suc k) xs) ∷ idling (getD xs k 0) (pos v) (pos (v + 1)) ∷ gapGates xs (suc k) n (v + 3)
+    or (take k xs) ∷ or (drop (suc k) xs) ∷ and (opp (getD xs k 0) ∷ pos v ∷ pos (v + 1) ∷ []) ∷ gapGates xs (suc k) n (v + 3)
 
 -- for each group, and each member but first and last
 unfoldable pub idleGates : List (List ℕ) → ℕ → List Gate
