@@ -1,4 +1,5 @@
 // Block 1: the clauses of starts, event by event and time by time.
+use scope::Layout;
 use sink::Job;
 use sink::Sink;
 ghost use mathlib.Core.List.{flatMap};
@@ -18,15 +19,15 @@ fn write_event_starts(
     words: &mut [u32],
     s: Sink,
     times: u32,
-    cells: u32,
+    l: Layout,
     e: u32,
 ) -> Sink
-    requires { ⌜ Sizes times cells × (e < 1024) ⌝ }
-    ensures { λ r. ⌜ Ran (step job (now (model .entry))) (lines (2 * cells + 1) (flatMap (startClauses times cells (e + 1)) (upTo times)))
+    requires { ⌜ Sizes times l × (e < 1024) ⌝ }
+    ensures { λ r. ⌜ Ran (step job (now (model .entry))) (lines (l .primary + 1) (flatMap (startClauses times l (e + 1)) (upTo times)))
         (world s (now (text .entry)) (now (words .entry))) (world r (now (text .exit)) (now (words .exit))) ⌝ }
 {
     let y = e * times;
-    let v = cells + y;
+    let v = l.starts + y;
     let mut z = s;
     for t in 0..times {
         z = gates::clauses::write_start(
@@ -52,16 +53,16 @@ pub fn write_starts(
     s: Sink,
     events: u32,
     times: u32,
-    cells: u32,
+    l: Layout,
 ) -> Sink
-    requires { ⌜ Sizes times cells × (events ≤ 1024) ⌝ }
+    requires { ⌜ Sizes times l × (events ≤ 1024) ⌝ }
     ensures { λ r. ⌜ Ran (step job (now (model .entry)))
-        (lines (2 * cells + 1) (flatMap (λ e. flatMap (startClauses times cells e) (upTo times)) (upTo events)))
+        (lines (l .primary + 1) (flatMap (λ e. flatMap (startClauses times l e) (upTo times)) (upTo events)))
         (world s (now (text .entry)) (now (words .entry))) (world r (now (text .exit)) (now (words .exit))) ⌝ }
 {
     let mut z = s;
     for e in 0..events {
-        z = write_event_starts(job, model, text, words, z, times, cells, e);
+        z = write_event_starts(job, model, text, words, z, times, l, e);
     }
     z
 }

@@ -7,7 +7,7 @@ use lib.Dec.{leb, ltb}
 use Rattle.scope.specs.Kinds.{Event, Constraint, Atom, Y, S, Entry, atom, anyOf, gap, Rule, between, from, upTo, users, takesAt}
 use Rattle.scope.specs.Instance.{Instance}
 use Rattle.scope.specs.Cnf.{pos, neg, opp, Gate, or, and, cell, Item, gate, hard, soft, hardClauses, gates, softUnits}
-use Rattle.scope.specs.Score.{cells, var, rules, eventCount}
+use Rattle.scope.specs.Score.{layout, var, rules, eventCount}
 
 -- The literals of a counter's row by column. Column 0 is the constant true. Above the first row the others are the constant
 -- false; in the row whose first variable is v, column j is variable v + j − 1
@@ -155,10 +155,10 @@ module _ (i : Instance) where
 
   -- the variables that are no gate's output: Y and S
   abbrev pub primary : ℕ
-  primary = 2 * cells i
+  primary = layout i .primary
 
   unfoldable pub formula : List Item
-  formula = starts ++ map gate uses ++ rulesItems num allRules (primary + i .resources * i .times + 1)
+  formula = starts ++ map gate uses ++ rulesItems num allRules (layout i .others + 1)
 
   -- the number of variables, and the hard clauses in the order of their ids
   unfoldable pub variables : ℕ
