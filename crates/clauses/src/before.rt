@@ -28,7 +28,7 @@ pub fn write_before(
     let events = head.events;
     let count = head.resources;
     let l = literals::numbering(times, events, count);
-    let a = blocks::write_starts(job, model, text, words, s, events, times, l);
+    let a = blocks::write_starts(job, model, text, words, s, events, times, l.starts);
     let v = l.primary + 1;
     let b = blocks::write_uses(job, model, text, words, a, users, count, times, v);
     let next = l.others + 1;

@@ -48,16 +48,16 @@ module _ (i : Instance) where
   before-literal e (suc zero) = refl
   before-literal e (suc (suc t)) = rw (← (y-literal i e (suc t)))
 
-  pub start-clauses : (e t : ℕ) → startItems i e t ≡ startClauses (i .times) (layout i) e t
+  pub start-clauses : (e t : ℕ) → startItems i e t ≡ startClauses (i .times) (layout i .starts) e t
   unfolding startClauses
   start-clauses e t = rw (before-literal e t, ← (y-literal i e t), ← (s-literal i e t))
 
-  pub starts-clauses : starts i ≡ flatMap (λ e. flatMap (startClauses (i .times) (layout i) e) (upTo (i .times))) (upTo (eventCount i))
+  pub starts-clauses : starts i ≡ flatMap (λ e. flatMap (startClauses (i .times) (layout i .starts) e) (upTo (i .times))) (upTo (eventCount i))
   unfolding starts
   starts-clauses =
       flat-same (λ e. flatMap (startItems i e) (upTo (i .times)))
-      (λ e. flatMap (startClauses (i .times) (layout i) e) (upTo (i .times)))
-      (λ e. flat-same (startItems i e) (startClauses (i .times) (layout i) e) (start-clauses e) (upTo (i .times)))
+      (λ e. flatMap (startClauses (i .times) (layout i .starts) e) (upTo (i .times)))
+      (λ e. flat-same (startItems i e) (startClauses (i .times) (layout i .starts) e) (start-clauses e) (upTo (i .times)))
       (upTo (eventCount i))
 
   -- 2. the uses

@@ -90,15 +90,16 @@ unfoldable pub durationLists : (T e : ℕ) → List ℕ → List Numbered
 durationLists T e [] = []
 durationLists T e (d ∷ ds) = plain d d (map (yAt T e) (upTo T)) ∷ durationLists T (suc e) ds
 
--- the clauses of a start: "(Y, not S) and then (not Y, Y before, S)"
+-- the clauses of a start, where the block of S comes after `starts` variables: "(Y, not S) and then (not Y, Y before, S)"
 abbrev pub earlier : (T e t : ℕ) → List ℕ
 earlier T e zero = []
 earlier T e (suc zero) = []
 earlier T e (suc (suc t)) = yAt T e (suc t) ∷ []
 
-unfoldable pub startClauses : (T : ℕ) (L : Layout) (e t : ℕ) → List Item
-startClauses T L e t =
-    hard (yAt T e t ∷ (sAt T L e t + 1) ∷ []) ∷ hard (earlier T e t ++ (yAt T e t + 1) ∷ sAt T L e t ∷ []) ∷ []
+unfoldable pub startClauses : (T starts e t : ℕ) → List Item
+startClauses T starts e t =
+    let s = inBlock T starts e t in
+    hard (yAt T e t ∷ (s + 1) ∷ []) ∷ hard (earlier T e t ++ (yAt T e t + 1) ∷ s ∷ []) ∷ []
 
 -- X of a resource at each time: an OR over its users
 unfoldable pub useGates : (T : ℕ) → List ℕ → List Gate
@@ -122,6 +123,6 @@ module _ (T : ℕ) (L : Layout) (users group : ℕ → List ℕ) where
 unfoldable pub numberedFormula : (T : ℕ) (users group : ℕ → List ℕ) (E R : ℕ) (ds : List ℕ) → List Constraint → List Item
 numberedFormula T users group E R ds cs =
     let L : Layout = layoutAt T E R in
-    flatMap (λ e. flatMap (startClauses T L e) (upTo T)) (upTo E)
+    flatMap (λ e. flatMap (startClauses T (L .starts) e) (upTo T)) (upTo E)
     ++ map gate (flatMap (λ r. useGates T (users r)) (upTo R))
     ++ listItems T L users group ds cs (L .others + 1)

@@ -4,7 +4,6 @@ use mathlib.Core.List.{List, flatMap}
 use Prim.Native.Nat.{ℕ, _+_, _-_, _*_, _≤_}
 use native.Mathlib.Omega.{arith}
 use lib.ListN.{length}
-use Rattle.scope.specs.declared.Layout.{Layout}
 use Rattle.scope.specs.Kinds.{upTo}
 use Rattle.scope.specs.Cnf.{Item}
 use Rattle.sink.specs.World.{world, step}
@@ -17,18 +16,18 @@ use Rattle.blocks.proofs.starts.write_starts.Statement.{statement}
 use Rattle.blocks.proofs.starts.write_starts.Tie as tie
 
 -- the clauses of an event
-abbrev ofEvent : ℕ → Layout → ℕ → List Item
-ofEvent T L e = flatMap (startClauses T L e) (upTo T)
+abbrev ofEvent : (T starts : ℕ) → ℕ → List Item
+ofEvent T starts e = flatMap (startClauses T starts e) (upTo T)
 
 abbrev Inv-loop : tie.InvT-loop
-Inv-loop job model text₀ words₀ events times l z₀ e₀ text words z e =
+Inv-loop job model text₀ words₀ events times starts z₀ e₀ text words z e =
     (e ≤ events) × (length text ≡ length text₀) × (length words ≡ length words₀)
-    × Left (step job model) (l .primary + 1) (flatMap (ofEvent times l) (after events e))
-    (l .primary + 1) (flatMap (ofEvent times l) (after events 0))
+    × Left (step job model) 0 (flatMap (ofEvent times starts) (after events e))
+    0 (flatMap (ofEvent times starts) (after events 0))
     (world z₀ text₀ words₀) (world z text words)
 
 abbrev μ-loop : tie.MeasureT-loop
-μ-loop job model text₀ words₀ events times l z₀ e₀ text words z e = events - e
+μ-loop job model text₀ words₀ events times starts z₀ e₀ text words z e = events - e
 
 loop-holds : tie.Need-loop-holds Inv-loop μ-loop
 loop-holds c = (omega arith, refl, refl, left-start refl)
@@ -49,8 +48,8 @@ loop-again c =
       omega arith,
       search needs,
       search needs,
-      left-turn (flat-turn (a .events) (l .e) (ofEvent (a .times) (a .l)) (c .before .before .before .before .before .before .before .loop-test .taken)) (l .inv .3)
-          (event-wrote (a .times) (a .l) (l .e + 1) (upTo (a .times)) (a .l .primary + 1) (c .before .before .before .before .write-event-starts .ensures)),
+      left-turn (flat-turn (a .events) (l .e) (ofEvent (a .times) (a .starts)) (c .before .before .before .before .before .before .before .loop-test .taken)) (l .inv .3)
+          (event-wrote (a .times) (a .starts) (l .e + 1) (upTo (a .times)) 0 (c .before .before .before .before .write-event-starts .ensures)),
     )
 
 same-length : tie.Need-same-length Inv-loop μ-loop
@@ -64,7 +63,7 @@ returns c =
     let a = c .before .before .before .before .before .args in
     let l = c .before .loop in
     rw (← (after-start (a .events)))
-    (left-end (flat-end (a .events) (l .e) (ofEvent (a .times) (a .l)) (c .loop-test .left)) (l .inv .3) .ran)
+    (left-end (flat-end (a .events) (l .e) (ofEvent (a .times) (a .starts)) (c .loop-test .left)) (l .inv .3) .ran)
 
 pub write-starts-spec : {M : Type 1} → statement M
 write-starts-spec =
