@@ -41,9 +41,9 @@ module _ {d us : List ℕ} {h : Head} (b : Begun d us h) where
     (b .resources, (b .durations .times, (omega arith, omega (arith, begun-sizes .primary, begun-count)))),
   )
 
-  pub begun-durations : {v u : ℕ} → v ≡ layoutOf h .primary + 1 → u ≡ layoutOf h .others + 1
+  pub begun-durations : {u : ℕ} → u ≡ layoutOf h .others + 1
       → Durations d (h .events) (h .times) × Room u (allNumbered 0 (durationLists (h .times) 1 (take (h .events) d)) u)
-  begun-durations {v} {u} e f = (
+  begun-durations {u} e = (
     b .durations,
-    blocks-room (h .times) (usersAt us) (h .events) (h .resources) (take (h .events) d) (omega arith) (b .room),
+    blocks-room (h .times) (usersAt us) (h .events) (h .resources) (take (h .events) d) e (b .room),
   )
