@@ -14,10 +14,10 @@ use Rattle.literals.specs.Variables.{baseOf, literalAt}
 use Rattle.literals.specs.Numbered.{startClauses}
 use Rattle.items.specs.Written.{Wrote}
 
-module _ (T C e : ℕ) where
+module _ (T starts e : ℕ) where
   -- events and times count from 0 here
-  start-lines : (t n : ℕ) → lines n (startClauses T C (e + 1) (t + 1))
-      ≡ map clauseLine (units.startClauses (eqb t 0) (e * T + (t + 1)) (C + e * T + (t + 1)))
+  start-lines : (t n : ℕ) → lines n (startClauses T starts (e + 1) (t + 1))
+      ≡ map clauseLine (units.startClauses (eqb t 0) (e * T + (t + 1)) (starts + e * T + (t + 1)))
   unfolding lines startClauses literalAt baseOf
   start-lines zero n =
       let k : e + 1 - 1 ≡ e = omega arith in
@@ -31,18 +31,18 @@ module _ (T C e : ℕ) where
       rw (s, k, y, ne-eqb (suc t) 0 (λ q. omega arith), b)
 
   pub start-wrote : {f : Line → World → World} (t n : ℕ) {w w′ : World}
-      → Ran f (map clauseLine (units.startClauses (eqb t 0) (e * T + (t + 1)) (C + e * T + (t + 1)))) w w′
-      → Wrote f n (startClauses T C (e + 1) (t + 1)) w w′ n
+      → Ran f (map clauseLine (units.startClauses (eqb t 0) (e * T + (t + 1)) (starts + e * T + (t + 1)))) w w′
+      → Wrote f n (startClauses T starts (e + 1) (t + 1)) w w′ n
   unfolding startClauses
   start-wrote t n r = record { ran = rw (start-lines t n) r; next = omega arith }
 
   -- an event's clauses have no gate
-  event-gates : (ts : List ℕ) → gates (flatMap (startClauses T C e) ts) ≡ 0
+  event-gates : (ts : List ℕ) → gates (flatMap (startClauses T starts e) ts) ≡ 0
   unfolding flatMap startClauses
   event-gates [] = refl
   event-gates (t ∷ ts) = event-gates ts
 
   pub event-wrote : {f : Line → World → World} (ts : List ℕ) (n : ℕ) {w w′ : World}
-      → Ran f (lines n (flatMap (startClauses T C e) ts)) w w′
-      → Wrote f n (flatMap (startClauses T C e) ts) w w′ n
+      → Ran f (lines n (flatMap (startClauses T starts e) ts)) w w′
+      → Wrote f n (flatMap (startClauses T starts e) ts) w w′ n
   event-wrote ts n r = record { ran = r; next = omega (arith, event-gates ts) }

@@ -2,15 +2,15 @@
 use sink::Job;
 use sink::Sink;
 ghost use mathlib.Core.List.{flatMap};
-ghost use Prim.Native.Nat.{_+_, _*_, _≤_, _<_};
+ghost use Prim.Native.Nat.{_+_, _≤_, _<_};
 ghost use Rattle.scope.specs.Kinds.{upTo};
 ghost use Rattle.sink.specs.Run.{Ran};
 ghost use Rattle.sink.specs.Lines.{lines};
 ghost use Rattle.sink.specs.World.{world, step};
-ghost use Rattle.literals.specs.Variables.{Sizes};
+ghost use Rattle.literals.specs.Variables.{Block};
 ghost use Rattle.literals.specs.Numbered.{startClauses};
 
-// Those of one event; events count from 0 here.
+// Those of one event; events count from 0 here. They have no gates, and so the number of the next variable is of no matter.
 fn write_event_starts(
     job: Job,
     model: &[u8],
@@ -18,15 +18,15 @@ fn write_event_starts(
     words: &mut [u32],
     s: Sink,
     times: u32,
-    cells: u32,
+    starts: u32,
     e: u32,
 ) -> Sink
-    requires { ⌜ Sizes times cells × (e < 1024) ⌝ }
-    ensures { λ r. ⌜ Ran (step job (now (model .entry))) (lines (2 * cells + 1) (flatMap (startClauses times cells (e + 1)) (upTo times)))
+    requires { ⌜ Block times starts × (e < 1024) ⌝ }
+    ensures { λ r. ⌜ Ran (step job (now (model .entry))) (lines 0 (flatMap (startClauses times starts (e + 1)) (upTo times)))
         (world s (now (text .entry)) (now (words .entry))) (world r (now (text .exit)) (now (words .exit))) ⌝ }
 {
     let y = e * times;
-    let v = cells + y;
+    let v = starts + y;
     let mut z = s;
     for t in 0..times {
         z = gates::clauses::write_start(
@@ -52,16 +52,16 @@ pub fn write_starts(
     s: Sink,
     events: u32,
     times: u32,
-    cells: u32,
+    starts: u32,
 ) -> Sink
-    requires { ⌜ Sizes times cells × (events ≤ 1024) ⌝ }
+    requires { ⌜ Block times starts × (events ≤ 1024) ⌝ }
     ensures { λ r. ⌜ Ran (step job (now (model .entry)))
-        (lines (2 * cells + 1) (flatMap (λ e. flatMap (startClauses times cells e) (upTo times)) (upTo events)))
+        (lines 0 (flatMap (λ e. flatMap (startClauses times starts e) (upTo times)) (upTo events)))
         (world s (now (text .entry)) (now (words .entry))) (world r (now (text .exit)) (now (words .exit))) ⌝ }
 {
     let mut z = s;
     for e in 0..events {
-        z = write_event_starts(job, model, text, words, z, times, cells, e);
+        z = write_event_starts(job, model, text, words, z, times, starts, e);
     }
     z
 }

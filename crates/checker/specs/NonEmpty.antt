@@ -9,7 +9,7 @@ use borrow.Author.Tests.{ne-eqb}
 use Rattle.laws.specs.Lists.{All, All-append}
 use Rattle.scope.specs.Kinds.{Atom, Rule, from, upTo}
 use Rattle.scope.specs.Instance.{Instance}
-use Rattle.scope.specs.Cnf.{pos, neg, opp, hasTrue, withoutFalse, tidy, implied, Gate, or, cell, idling, short, gateClauses, Item, gate, hard, soft, hardClauses, gates}
+use Rattle.scope.specs.Cnf.{pos, neg, opp, hasTrue, withoutFalse, tidy, pairs, Gate, or, and, cell, gateClauses, Item, gate, hard, soft, hardClauses, gates}
 use Rattle.scope.specs.Score.{eventCount}
 use Rattle.scope.specs.Formula.{noRow, counter, lastRow, ones, columns, unit, lowUnits, highUnits, shortUnits, boundItems, countInto, countItems, allAdded, listGates, listLiterals, ruleItems, rulesItems, num, yBefore, startItems, starts, uses, allRules, primary, formula, variables, softOf, negated, tail, bounded, boundedHard}
 use Rattle.theory.specs.Variables.{atomsEnd, formula-parts}
@@ -41,15 +41,19 @@ tidy-last ls l h = go (hasTrue (ls ++ l ∷ []))
     go true = tt
     go false = (withoutFalse-last ls l h, tt)
 
-implied-nonempty : (ls : List ℕ) (o : ℕ) → All NonEmpty (implied ls o)
-unfolding implied
-implied-nonempty [] o = tt
-implied-nonempty (l ∷ ls) o = (tt, implied-nonempty ls o)
+pairs-nonempty : (ls : List ℕ) (p : ℕ) → All NonEmpty (pairs ls p)
+unfolding pairs
+pairs-nonempty [] p = tt
+pairs-nonempty (l ∷ ls) p = (tt, pairs-nonempty ls p)
+
+joined-nonempty : (xs ys : List ℕ) (p q : ℕ) → All NonEmpty (pairs xs p ++ (ys ++ q ∷ []) ∷ [])
+joined-nonempty xs ys p q = All-append NonEmpty (pairs xs p) _ (pairs-nonempty xs p) (nonempty-last ys q [], tt)
 
 -- each clause of a gate has its output's literal
 gate-nonempty : (g : Gate) (o : ℕ) → 1 ≤ o → All NonEmpty (gateClauses g o)
 unfolding gateClauses
-gate-nonempty (or ls) o h = All-append NonEmpty (implied ls o) _ (implied-nonempty ls o) (nonempty-last ls (neg o) [], tt)
+gate-nonempty (or ls) o h = joined-nonempty (map opp ls) ls (pos o) (neg o)
+gate-nonempty (and ls) o h = joined-nonempty ls (map opp ls) (neg o) (pos o)
 gate-nonempty (cell x a b) o h =
     let c1 = opp a ∷ pos o ∷ [] in
     let c2 = opp x ∷ opp b ∷ pos o ∷ [] in
@@ -61,8 +65,6 @@ gate-nonempty (cell x a b) o h =
     (tidy-last (opp x ∷ opp b ∷ []) (pos o) (omega arith)))
     (tidy-last (x ∷ a ∷ []) (neg o) (omega arith)))
     (tidy-last (b ∷ a ∷ []) (neg o) (omega arith))
-gate-nonempty (idling x g k) o h = (tt, (tt, (tt, (tt, tt))))
-gate-nonempty (short c d) o h = (tt, (tt, (tt, tt)))
 
 -- an item that is no empty clause
 abbrev pub Filled : Item → Type 0

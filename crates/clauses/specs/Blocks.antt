@@ -7,48 +7,43 @@ use native.Mathlib.Omega.{arith}
 use lib.ListN.{take}
 use Rattle.scope.specs.Cnf.{Item}
 use Rattle.constraint.specs.declared.kinds.Head.{Head}
-use Rattle.literals.specs.Variables.{Sizes}
+use Rattle.literals.specs.Variables.{Sizes, layout-sizes}
 use Rattle.literals.specs.Filled.{usersAt, UserRows}
 use Rattle.literals.specs.Numbered.{allNumbered, durationLists}
-use Rattle.kinds.specs.Ground.{cellsOf}
+use Rattle.kinds.specs.Ground.{layoutOf}
 use Rattle.items.specs.Written.{Room}
 use Rattle.blocks.specs.Durations.{Durations}
 use Rattle.clauses.specs.Before.{blockItems, blocks-room}
 
 -- the items of the blocks, by the tables
 abbrev pub beforeItems : (durations users : List ℕ) → Head → List Item
-beforeItems d us h = blockItems (h .times) (cellsOf h) (usersAt us) (h .events) (h .resources) (take (h .events) d)
+beforeItems d us h = blockItems (h .times) (usersAt us) (h .events) (h .resources) (take (h .events) d)
 
 pub record Begun (d us : List ℕ) (h : Head) : Type 0 where
   pub durations : Durations d (h .events) (h .times)
   pub resources : h .resources ≤ 99
   pub rows : UserRows us
-  pub room : Room (2 * cellsOf h + 1) (beforeItems d us h)
+  pub room : Room (layoutOf h .primary + 1) (beforeItems d us h)
 
 -- so each of their writers can be called, from the variables v and u on
 module _ {d us : List ℕ} {h : Head} (b : Begun d us h) where
-  pub begun-sizes : Sizes (h .times) (cellsOf h)
+  pub begun-sizes : Sizes (h .times) (layoutOf h)
   begun-sizes =
-      record {
-        times = b .durations .times;
-        cells =
-            omega
-            (arith, mul-le-mul {n₁ = h .events} {m₁ = h .times} {n₂ = 1024} {m₂ = 125} (b .durations .events) (b .durations .times));
-      }
+      layout-sizes (h .times) (h .events) (h .resources) (b .durations .times) (b .durations .events) (omega (arith, b .resources))
 
   pub begun-count : h .resources * h .times ≤ 12375
   begun-count = omega (arith, mul-le-mul {n₁ = h .resources} {m₁ = h .times} {n₂ = 99} {m₂ = 125} (b .resources) (b .durations .times))
 
-  pub begun-uses : {v : ℕ} → v ≡ 2 * cellsOf h + 1
+  pub begun-uses : {v : ℕ} → v ≡ layoutOf h .primary + 1
       → UserRows us × ((h .resources ≤ 99) × ((h .times ≤ 125) × ((1 ≤ v) × (v + h .resources * h .times ≤ 1073741824))))
   begun-uses e = (
     b .rows,
-    (b .resources, (b .durations .times, (omega arith, omega (arith, begun-sizes .cells, begun-count)))),
+    (b .resources, (b .durations .times, (omega arith, omega (arith, begun-sizes .primary, begun-count)))),
   )
 
-  pub begun-durations : {v u : ℕ} → v ≡ 2 * cellsOf h + 1 → u ≡ v + h .resources * h .times
+  pub begun-durations : {u : ℕ} → u ≡ layoutOf h .others + 1
       → Durations d (h .events) (h .times) × Room u (allNumbered 0 (durationLists (h .times) 1 (take (h .events) d)) u)
-  begun-durations {v} {u} e f = (
+  begun-durations {u} e = (
     b .durations,
-    blocks-room (h .times) (cellsOf h) (usersAt us) (h .events) (h .resources) (take (h .events) d) (omega arith) (b .room),
+    blocks-room (h .times) (usersAt us) (h .events) (h .resources) (take (h .events) d) e (b .room),
   )

@@ -19,7 +19,7 @@ use Rattle.literals.specs.Filled.{Filled, usersAt, filled-users, filled-rows}
 use Rattle.literals.specs.Numbered.{Numbered}
 use Rattle.literals.specs.Laws.{Means, Mean, mean-none, mean-more, kind-means}
 use Rattle.literals.specs.Tables.{groupIn, numbered-same}
-use Rattle.kinds.specs.Ground.{cellsOf}
+use Rattle.kinds.specs.Ground.{layoutOf}
 use Rattle.rules.specs.Fits.{Short, Fits, listsIn}
 use Rattle.clauses.specs.Known.{groups-within, known-groups}
 
@@ -67,7 +67,7 @@ module _ {s d te tg us : List ℕ} {h : Head} (a : Accepted s d te tg h) (f : Fi
   table-means k i =
       let same =
       numbered-same (λ r. users r (eventsOf d te (h .events))) (usersAt us) (groupAt (rows tg (h .groups))) (groupIn tg)
-      (λ r. users-in d te (h .events) r ∙ sym (filled-users te (h .events) f r)) (h .times) (cellsOf h) k
+      (λ r. users-in d te (h .events) r ∙ sym (filled-users te (h .events) f r)) (h .times) (layoutOf h) k
       (each-map (λ g w. group-row tg (h .groups) g (w .low) (w .high)) (groups-within (countsIn h) k i))
       in
       rw same at (rw (length-events d te (h .events)) at (kind-means (instanceOf s d te tg h) k))

@@ -20,7 +20,7 @@ use Rattle.literals.specs.Users.{usersIn}
 use Rattle.literals.specs.Filled.{EventRows}
 use Rattle.literals.specs.Numbered.{numberedFormula}
 use Rattle.literals.specs.Tables.{groupsOf, groupIn, Held, formula-tables}
-use Rattle.kinds.specs.Ground.{Ground, cellsOf}
+use Rattle.kinds.specs.Ground.{Ground}
 use Rattle.blocks.specs.Durations.{Durations}
 
 -- the groups that a kind refers to are there
@@ -83,6 +83,6 @@ module _ {s d te tg : List ℕ} {h : Head} (a : Accepted s d te tg h) where
 
   pub known-formula : length d ≡ 1024
       → formula (instanceOf s d te tg h)
-      ≡ numberedFormula (h .times) (cellsOf h) (usersIn te (h .events)) (groupIn tg) (h .events) (h .resources) (take (h .events) d)
+      ≡ numberedFormula (h .times) (usersIn te (h .events)) (groupIn tg) (h .events) (h .resources) (take (h .events) d)
       (constraintsIn h s)
   known-formula l = formula-tables (known-held l) ∙ rw (a .constraints)

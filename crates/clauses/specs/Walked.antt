@@ -20,14 +20,14 @@ use Rattle.literals.specs.Users.{usersIn}
 use Rattle.literals.specs.Filled.{Filled, usersAt}
 use Rattle.literals.specs.Numbered.{constraintItems}
 use Rattle.literals.specs.Tables.{groupIn}
-use Rattle.kinds.specs.Ground.{cellsOf}
+use Rattle.kinds.specs.Ground.{layoutOf}
 use Rattle.items.specs.Written.{Room, Wrote, Left, room-first, room-same, left-start, left-turn, left-end, left-room}
 use Rattle.rules.specs.Fits.{Fits, constraintPart}
 use Rattle.clauses.specs.Fitting.{known-fits}
 
 -- the items of some constraints, from the variable v on
 abbrev pub itemsOf : (users groups : List ℕ) → Head → List Constraint → ℕ → List Item
-itemsOf us tg h cs v = constraintItems (h .times) (cellsOf h) (usersAt us) (groupIn tg) cs v
+itemsOf us tg h cs v = constraintItems (h .times) (layoutOf h) (usersAt us) (groupIn tg) cs v
 
 module _ (us tg : List ℕ) (h : Head) (v : ℕ) where
   -- those of the first constraint, and the others

@@ -16,7 +16,7 @@ use Rattle.sink.specs.World.{World}
 use Rattle.literals.specs.Users.{usersIn}
 use Rattle.literals.specs.Filled.{Filled, usersAt, filled-users, filled-rows}
 use Rattle.literals.specs.Tables.{groupIn}
-use Rattle.kinds.specs.Ground.{cellsOf}
+use Rattle.kinds.specs.Ground.{layoutOf}
 use Rattle.items.specs.Written.{Room, Wrote, room-first, room-rest}
 use Rattle.clauses.specs.Writable.{Writable, formulaLines}
 use Rattle.clauses.specs.Before.{formula-parts}
@@ -27,7 +27,7 @@ use Rattle.clauses.specs.Walked.{itemsOf, Walkable}
 module _ {s d te tg list us : List ℕ} {h : Head} (w : Writable s d te tg list h) (u : Filled us (usersIn te (h .events))) where
   -- the variables of the blocks start here, and those of the constraints after them
   abbrev start : ℕ
-  start = 2 * cellsOf h + 1
+  start = layoutOf h .primary + 1
 
   abbrev constraintsFrom : ℕ → List Item
   constraintsFrom v = itemsOf us tg h (constraintsIn h s) v
@@ -38,7 +38,7 @@ module _ {s d te tg list us : List ℕ} {h : Head} (w : Writable s d te tg list 
   whole-items : formula (instanceOf s d te tg h) ≡ beforeItems d us h ++ constraintsFrom (start + gates (beforeItems d us h))
   whole-items =
       (rw (← whole-users) at (known-formula (w .accepted) (w .stores .tables .durations-long)))
-      ∙ formula-parts (h .times) (cellsOf h) (usersAt us) (h .events) (h .resources) (take (h .events) d) (groupIn tg) (constraintsIn h s)
+      ∙ formula-parts (h .times) (usersAt us) (h .events) (h .resources) (take (h .events) d) (groupIn tg) (constraintsIn h s)
 
   whole-start : primary (instanceOf s d te tg h) + 1 ≡ start
   whole-start = rw (length-events d te (h .events))

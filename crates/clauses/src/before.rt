@@ -3,9 +3,9 @@ use constraint::Head;
 use items::Written;
 use sink::Job;
 use sink::Sink;
-ghost use Prim.Native.Nat.{_+_, _*_};
+ghost use Prim.Native.Nat.{_+_};
 ghost use Rattle.sink.specs.World.{world, step};
-ghost use Rattle.kinds.specs.Ground.{cellsOf};
+ghost use Rattle.kinds.specs.Ground.{layoutOf};
 ghost use Rattle.items.specs.Written.{Wrote};
 ghost use Rattle.clauses.specs.Blocks.{Begun, beforeItems};
 
@@ -21,16 +21,16 @@ pub fn write_before(
     users: &[u16],
 ) -> Written
     requires { ⌜ Begun (now durations) (now users) head ⌝ }
-    ensures { λ r. ⌜ Wrote (step job (now (model .entry))) (2 * cellsOf head + 1) (beforeItems (now (durations .entry)) (now (users .entry)) head)
+    ensures { λ r. ⌜ Wrote (step job (now (model .entry))) (layoutOf head .primary + 1) (beforeItems (now (durations .entry)) (now (users .entry)) head)
         (world s (now (text .entry)) (now (words .entry))) (world (r .sink) (now (text .exit)) (now (words .exit))) (r .next) ⌝ }
 {
     let times = head.times;
     let events = head.events;
-    let cells = events * times;
-    let a = blocks::write_starts(job, model, text, words, s, events, times, cells);
-    let v = 2 * cells + 1;
     let count = head.resources;
+    let l = literals::numbering(times, events, count);
+    let a = blocks::write_starts(job, model, text, words, s, events, times, l.starts);
+    let v = l.primary + 1;
     let b = blocks::write_uses(job, model, text, words, a, users, count, times, v);
-    let next = v + count * times;
+    let next = l.others + 1;
     blocks::write_durations(job, model, text, words, b, durations, events, times, next)
 }

@@ -8,7 +8,7 @@ use native.Mathlib.Omega.{arith}
 use lib.Dec.{leb}
 use borrow.Author.Tests.{le-leb, lt-ltb, le-ltb, leb-true, leb-false}
 use Rattle.scope.specs.Kinds.{from}
-use Rattle.scope.specs.Cnf.{pos, neg, opp, Gate, Item, gate, soft, gates, short}
+use Rattle.scope.specs.Cnf.{pos, neg, opp, Gate, and, Item, gate, soft, gates}
 use Rattle.scope.specs.Formula.{unit, lowUnits, highUnits, shortUnits}
 use Rattle.sink.specs.Lines.{Line, softLine, lines, lines-append}
 use Rattle.sink.specs.World.{rowOver}
@@ -91,7 +91,7 @@ shortsFrom w q v n i = lines (v + i) (shortUnits w q (2 + i) (n - i) (v + i))
 
 -- one variable with its unit
 abbrev pub shortLines : ℕ → ℕ → ℕ → ℕ → List Line
-shortLines w c1 cj v = lines v (gate (short c1 cj) ∷ []) ++ (unitLine w (neg v) ∷ [])
+shortLines w c1 cj v = lines v (gate (and (c1 ∷ opp cj ∷ [])) ∷ []) ++ (unitLine w (neg v) ∷ [])
 
 unit-gates : (w l : ℕ) → gates (unit w l ∷ []) ≡ 0
 unit-gates zero l = refl
@@ -117,7 +117,7 @@ module _ (w : ℕ) (q : ℕ → ℕ) (v n : ℕ) where
       let s : v + (i + 1) ≡ suc (v + i) = omega arith in
       let t : 2 + (i + 1) ≡ suc (2 + i) = omega arith in
       let rest : List Item = shortUnits w q (suc (2 + i)) (n - (i + 1)) (suc (v + i)) in
-      rw (k, s, t) (pair-lines (v + i) (short (q 1) (q (2 + i))) w (neg (v + i)) rest)
+      rw (k, s, t) (pair-lines (v + i) (and (q 1 ∷ opp (q (2 + i)) ∷ [])) w (neg (v + i)) rest)
 
   pub shorts-end : (i : ℕ) → n ≤ i → shortsFrom w q v n i ≡ []
   unfolding lines shortUnits

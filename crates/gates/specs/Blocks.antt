@@ -8,7 +8,7 @@ use native.Mathlib.Omega.{arith}
 use lib.ListN.{length, take, drop, getD, set, drop-of-length-le}
 use lib.Seq.{sets, sets-eq, length-sets, take-at, take-suc-set, drop-cons}
 use borrow.Author.Tests.{ne-eqb}
-use Rattle.scope.specs.Cnf.{pos, neg, opp, hasTrue, withoutFalse, tidy, implied, Gate, or, cell, idling, short, gate, gateClauses}
+use Rattle.scope.specs.Cnf.{pos, neg, opp, hasTrue, withoutFalse, tidy, pairs, Gate, or, and, cell, gate, gateClauses}
 use Rattle.sink.specs.Run.{Ran, then}
 use Rattle.sink.specs.Lines.{Line, clauseLine, lines, map-append}
 use Rattle.sink.specs.World.{World, rowOver}
@@ -157,22 +157,26 @@ pub gate-ran : {f : Line → World → World} (g : Gate) (o : ℕ) {b : List ℕ
 unfolding lines
 gate-ran g o h r = rw (append-nil (map clauseLine (gateClauses g o)), ← h .clauses) r
 
--- an idle time and its clauses
+-- the opposite of the opposite
+opposite-twice : (l : ℕ) → opp (opp l) ≡ l
+opposite-twice l = omega arith
+
+-- an idle time, the AND of not x, g and h, and its clauses
 pub idling-block : {x g h o nx ng nh : ℕ} → x < 2147483648 → g < 2147483648 → h < 2147483648 → o < 1073741824
     → nx ≡ opp x → ng ≡ opp g → nh ≡ opp h
     → Marks (nx ∷ (2 * o + 1 + 2147483648) ∷ g ∷ (2 * o + 1 + 2147483648) ∷ h ∷ (2 * o + 1 + 2147483648) ∷ x ∷ ng ∷ nh ∷ (2 * o + 2147483648) ∷ [])
-    (gateClauses (idling x g h) o)
-unfolding gateClauses mark flatMap
+    (gateClauses (and (opp x ∷ g ∷ h ∷ [])) o)
+unfolding gateClauses pairs mark flatMap
 idling-block {x} {g} {h} {o} sx sg sh so ex eg eh =
-    rw (ex, eg, eh)
+    rw (ex, eg, eh, opposite-twice x)
     (marks ((opp x ∷ neg o ∷ []) ∷ (g ∷ neg o ∷ []) ∷ (h ∷ neg o ∷ []) ∷ (x ∷ opp g ∷ opp h ∷ pos o ∷ []) ∷ []) (omega arith))
 
--- kind 6's variable and its clauses
+-- kind 6's variable, the AND of c1 and not cj, and its clauses
 pub short-block : {c1 cj o n1 nj : ℕ} → c1 < 2147483648 → cj < 2147483648 → o < 1073741824 → n1 ≡ opp c1 → nj ≡ opp cj
-    → Marks (c1 ∷ (2 * o + 1 + 2147483648) ∷ nj ∷ (2 * o + 1 + 2147483648) ∷ n1 ∷ cj ∷ (2 * o + 2147483648) ∷ []) (gateClauses (short c1 cj) o)
-unfolding gateClauses mark flatMap
+    → Marks (c1 ∷ (2 * o + 1 + 2147483648) ∷ nj ∷ (2 * o + 1 + 2147483648) ∷ n1 ∷ cj ∷ (2 * o + 2147483648) ∷ []) (gateClauses (and (c1 ∷ opp cj ∷ [])) o)
+unfolding gateClauses pairs mark flatMap
 short-block {c1} {cj} {o} s1 sj so e1 ej =
-    rw (e1, ej) (marks ((c1 ∷ neg o ∷ []) ∷ (opp cj ∷ neg o ∷ []) ∷ (opp c1 ∷ cj ∷ pos o ∷ []) ∷ []) (omega arith))
+    rw (e1, ej, opposite-twice cj) (marks ((c1 ∷ neg o ∷ []) ∷ (opp cj ∷ neg o ∷ []) ∷ (opp c1 ∷ cj ∷ pos o ∷ []) ∷ []) (omega arith))
 
 -- the clauses of an OR: a pair for each literal, then all of them
 pub pair-block : {l o nl : ℕ} → l < 2147483648 → o < 1073741824 → nl ≡ opp l
@@ -213,20 +217,22 @@ clauses-ran h r = rw (h .clauses) at r
 
 -- the pairs of an OR from member i on
 pub pairs-turn : (ls : List ℕ) (o i : ℕ) → i < length ls
-    → map clauseLine (implied (drop i ls) o) ≡ map clauseLine ((opp (getD ls i 0) ∷ pos o ∷ []) ∷ []) ++ map clauseLine (implied (drop (i + 1) ls) o)
-unfolding implied
+    → map clauseLine (pairs (map opp (drop i ls)) (pos o))
+    ≡ map clauseLine ((opp (getD ls i 0) ∷ pos o ∷ []) ∷ []) ++ map clauseLine (pairs (map opp (drop (i + 1) ls)) (pos o))
+unfolding pairs
 pairs-turn ls o i h = rw (drop-cons ls i 0 h, add-one i)
 
-pub pairs-end : (ls : List ℕ) (o i : ℕ) → length ls ≤ i → map clauseLine (implied (drop i ls) o) ≡ []
-unfolding implied
+pub pairs-end : (ls : List ℕ) (o i : ℕ) → length ls ≤ i → map clauseLine (pairs (map opp (drop i ls)) (pos o)) ≡ []
+unfolding pairs
 pairs-end ls o i h = rw (drop-of-length-le ls h)
 
 -- the pairs of an OR, and then all its literals
-pub or-ran : {f : Line → World → World} (ls : List ℕ) (o : ℕ) {b : List ℕ} {w₀ w₁ w₂ : World} → Ran f (map clauseLine (implied ls o)) w₀ w₁
+pub or-ran : {f : Line → World → World} (ls : List ℕ) (o : ℕ) {b : List ℕ} {w₀ w₁ w₂ : World} → Ran f (map clauseLine (pairs (map opp ls) (pos o))) w₀ w₁
     → Marks b ((ls ++ neg o ∷ []) ∷ []) → Ran f (map clauseLine (split b)) w₁ w₂ → Ran f (lines o (gate (or ls) ∷ [])) w₀ w₂
 unfolding lines gateClauses
 or-ran ls o p h q =
-    rw (append-nil (map clauseLine (implied ls o ++ (ls ++ neg o ∷ []) ∷ [])), map-append clauseLine (implied ls o) ((ls ++ neg o ∷ []) ∷ []))
+    let ps = pairs (map opp ls) (pos o) in
+    rw (append-nil (map clauseLine (ps ++ (ls ++ neg o ∷ []) ∷ [])), map-append clauseLine ps ((ls ++ neg o ∷ []) ∷ []))
     (then p (clauses-ran h q))
 
 -- the literals of an OR with its output after them

@@ -3,7 +3,7 @@ ghost use mathlib.Core.Path.{_≡_};
 ghost use mathlib.Core.List.{[], _∷_, map};
 ghost use Prim.Native.Nat.{_+_, _*_, _≤_, _<_};
 ghost use lib.ListN.{length, take, set};
-ghost use Rattle.scope.specs.Cnf.{or, idling, short, implied, gate};
+ghost use Rattle.scope.specs.Cnf.{pos, opp, or, and, pairs, gate};
 ghost use Rattle.sink.specs.Run.{Ran};
 ghost use Rattle.sink.specs.Lines.{clauseLine, lines};
 ghost use Rattle.sink.specs.World.{world, step};
@@ -13,7 +13,7 @@ use super::LAST;
 use sink::Job;
 use sink::Sink;
 
-// An idle time: o is true where x is false, and g and h are true.
+// An idle time: o is the AND of not x, g and h.
 pub fn write_idling(
     job: Job,
     model: &[u8],
@@ -26,7 +26,7 @@ pub fn write_idling(
     o: u32,
 ) -> Sink
     requires { ⌜ Literal x × Literal g × Literal h × (o < 1073741824) ⌝ }
-    ensures { λ r. ⌜ Ran (step job (now (model .entry))) (lines o (gate (idling x g h) ∷ []))
+    ensures { λ r. ⌜ Ran (step job (now (model .entry))) (lines o (gate (and (opp x ∷ g ∷ h ∷ [])) ∷ []))
         (world s (now (text .entry)) (now (words .entry))) (world r (now (text .exit)) (now (words .exit))) ⌝ }
 {
     let yes = 2 * o + LAST;
@@ -52,7 +52,7 @@ pub fn write_idling(
     )
 }
 
-// Kind 6's variable: o is true where c1 is true and cj is false.
+// Kind 6's variable: o is the AND of c1 and not cj.
 pub fn write_short(
     job: Job,
     model: &[u8],
@@ -64,7 +64,7 @@ pub fn write_short(
     o: u32,
 ) -> Sink
     requires { ⌜ Literal c1 × Literal cj × (o < 1073741824) ⌝ }
-    ensures { λ r. ⌜ Ran (step job (now (model .entry))) (lines o (gate (short c1 cj) ∷ []))
+    ensures { λ r. ⌜ Ran (step job (now (model .entry))) (lines o (gate (and (c1 ∷ opp cj ∷ [])) ∷ []))
         (world s (now (text .entry)) (now (words .entry))) (world r (now (text .exit)) (now (words .exit))) ⌝ }
 {
     let yes = 2 * o + LAST;
@@ -98,7 +98,7 @@ fn write_pairs(
     o: u32,
 ) -> Sink
     requires { ⌜ Literals (now lits) × (o < 1073741824) ⌝ }
-    ensures { λ r. ⌜ Ran (step job (now (model .entry))) (map clauseLine (implied (now (lits .entry)) o))
+    ensures { λ r. ⌜ Ran (step job (now (model .entry))) (map clauseLine (pairs (map opp (now (lits .entry))) (pos o)))
         (world s (now (text .entry)) (now (words .entry))) (world r (now (text .exit)) (now (words .exit))) ⌝ }
 {
     let yes = 2 * o + LAST;

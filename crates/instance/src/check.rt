@@ -6,6 +6,8 @@ use constraint::Kind;
 use constraint::Next;
 use constraint::constraint_at;
 use scope::Refusal;
+use scope::refusals::BAD_BOUNDS;
+use scope::refusals::LIST_TOO_LONG;
 ghost use mathlib.Core.Path.{_≡_};
 ghost use mathlib.Core.List.{List};
 ghost use Prim.Native.Nat.{ℕ};
@@ -13,11 +15,6 @@ ghost use Rattle.scope.specs.Kinds.{lowOf, highOf};
 ghost use Rattle.scope.specs.Instance.{ended as endedAt};
 ghost use Rattle.constraint.specs.Answers.{kindOf, saidNext};
 ghost use Rattle.instance.specs.Ready.{Ready, checkedBy, byCounts};
-
-// "a counted list is longer than 255"
-const LIST_TOO_LONG: u8 = 4;
-// "lo > hi as written, or lo above the list's length"
-const BAD_BOUNDS: u8 = 5;
 
 struct Bounds {
     lo: u32,

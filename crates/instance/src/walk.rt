@@ -4,15 +4,13 @@ use constraint::Head;
 use constraint::Next;
 use number::Number;
 use scope::Refusal;
+use scope::refusals::BYTES_LEFT;
 use tables::count_members;
 ghost use mathlib.Core.Path.{_≡_};
 ghost use Rattle.number.specs.Answers.{said};
 ghost use Rattle.instance.specs.Answers.{refusalOfNext};
 ghost use Rattle.instance.specs.Ends.{ends};
 ghost use Rattle.instance.specs.Ready.{Ready, Lent, checkedAll, checkedWhole, byCounts, byRows};
-
-// "bytes left over"
-const BYTES_LEFT: u8 = 6;
 
 fn refusal_of_next(x: Next) -> Refusal
     ensures { λ r. ⌜ r ≡ refusalOfNext x ⌝ }

@@ -6,7 +6,7 @@ use native.Mathlib.Numerals.{add-one}
 use native.Mathlib.Omega.{arith}
 use lib.ListN.{length, take, drop, set, getD, length-drop, length-set}
 use lib.Seq.{take-all, drop-at, take-add, take-take, take-append-add, take-append-le, length-take-le, set-set, set-getD, take-set-le, getD-take, getD-drop}
-use Rattle.scope.specs.Cnf.{or, idling, Item, gate}
+use Rattle.scope.specs.Cnf.{opp, or, and, Item, gate}
 use Rattle.sink.specs.Run.{Ran}
 use Rattle.sink.specs.Lines.{Line, lines}
 use Rattle.sink.specs.World.{World}
@@ -58,7 +58,7 @@ module _ {f : Line → World → World} (b : List ℕ) (n k v : ℕ) {w₀ w₁ 
   pub gap-ran : k < n
       → Ran f (lines v (gate (or (take k b)) ∷ [])) w₀ w₁
       → Ran f (lines (v + 1) (gate (or (drop (k + 1) (take n b))) ∷ [])) w₁ w₂
-      → Ran f (lines (v + 2) (gate (idling (getD b k 0) (2 * v) (2 * (v + 1))) ∷ [])) w₂ w₃
+      → Ran f (lines (v + 2) (gate (and (opp (getD b k 0) ∷ (2 * v) ∷ (2 * (v + 1)) ∷ [])) ∷ [])) w₂ w₃
       → Ran f (lines v (map gate (gapGates (take n b) k 1 v))) w₀ w₃
   unfolding gapGates
   gap-ran h p q r =

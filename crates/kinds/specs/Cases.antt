@@ -4,6 +4,7 @@ use mathlib.Core.List.{List, [], map}
 use Prim.Native.Nat.{ℕ, zero, suc, _+_, _-_, _*_, _/_, _≤_}
 use native.Mathlib.Omega.{arith}
 use lib.ListN.{length, take, length-map}
+use Rattle.scope.specs.declared.Layout.{Layout}
 use Rattle.scope.specs.Cnf.{or}
 use Rattle.scope.specs.Kinds.{from, clash, spread, cluster, idle}
 use Rattle.number.specs.Each.{Each}
@@ -14,20 +15,20 @@ use Rattle.constraint.specs.declared.kinds.Head.{Head}
 use Rattle.literals.specs.Variables.{sAt, xAt, Within}
 use Rattle.literals.specs.Numbered.{numbered, xsOf, innerCount, idleGates}
 use Rattle.literals.specs.Tables.{groupIn}
-use Rattle.kinds.specs.Ground.{Ground, cellsOf, ground-events}
+use Rattle.kinds.specs.Ground.{Ground, layoutOf, ground-events}
 use Rattle.kinds.specs.Counted.{countedList, Fit, GatesIn}
 use Rattle.kinds.specs.Lengths.{length-every, length-each, length-idle}
 
 -- a clash has no gates, and none of its literals is counted here
-pub clash-literals : (T C : ℕ) (group : ℕ → List ℕ) (r v : ℕ) → countedList T C group (clash r) .literals v ≡ []
+pub clash-literals : (T : ℕ) (L : Layout) (group : ℕ → List ℕ) (r v : ℕ) → countedList T L group (clash r) .literals v ≡ []
 unfolding countedList numbered from
-clash-literals zero C group r v = refl
-clash-literals (suc T) C group r v = refl
+clash-literals zero L group r v = refl
+clash-literals (suc T) L group r v = refl
 
-pub clash-gates : (T C : ℕ) (group : ℕ → List ℕ) (r v : ℕ) → countedList T C group (clash r) .gates v ≡ []
+pub clash-gates : (T : ℕ) (L : Layout) (group : ℕ → List ℕ) (r v : ℕ) → countedList T L group (clash r) .gates v ≡ []
 unfolding countedList numbered from
-clash-gates zero C group r v = refl
-clash-gates (suc T) C group r v = refl
+clash-gates zero L group r v = refl
+clash-gates (suc T) L group r v = refl
 
 -- the first n events of a list, and how many literals a spread has at the times of a group
 pub record Events (groups list : List ℕ) (n g : ℕ) : Type 0 where
@@ -50,11 +51,11 @@ pub record Idles (times v next : ℕ) : Type 0 where
 -- how many gates a cluster and an idle limit have
 module _ (groups : List ℕ) (h : Head) (r : ℕ) (hs : List ℕ) where
   abbrev pub groupXs : List (List ℕ)
-  groupXs = xsOf (h .times) (cellsOf h) (groupIn groups) r hs
+  groupXs = xsOf (h .times) (layoutOf h .uses) (groupIn groups) r hs
 
   pub cluster-gates : length (map or groupXs) ≡ length hs
   cluster-gates =
-      length-map groupXs or ∙ length-map hs (λ g. map (xAt (h .times) (cellsOf h) r) (groupIn groups g))
+      length-map groupXs or ∙ length-map hs (λ g. map (xAt (h .times) (layoutOf h) r) (groupIn groups g))
 
   pub idle-gates : (v : ℕ) → length (idleGates groupXs v) ≡ 3 * innerCount groupXs
   idle-gates v = length-idle groupXs v
@@ -67,7 +68,7 @@ module _ (groups list : List ℕ) (h : Head) where
       let a = ascending-length (h .events) 0 (leading n list) (f .range .0) (omega arith) in
       let r : n ≤ length list = omega (arith, f .ground .events, f .store) in
       let e = leading-take n list r in
-      let c = rw i at (length-each (sAt (h .times) (cellsOf h)) (groupIn groups g) (leading n list)) in
+      let c = rw i at (length-each (sAt (h .times) (layoutOf h)) (groupIn groups g) (leading n list)) in
       record {
         room = r;
         within = rw (← e) (ground-events (f .ground) (f .range .0));

@@ -1,14 +1,15 @@
 -- What the writers of constraints are lent: the sizes of an instance, the rows of its groups, a constraint's fields and list.
 use Prim.Native.Nat.{ℕ, _-_, _*_, _≤_, _<_}
 use mathlib.Core.List.{List}
-use native.Mathlib.Nat.{mul-le-mul}
 use native.Mathlib.Omega.{arith}
+use Rattle.scope.specs.declared.Layout.{Layout}
+use Rattle.scope.specs.Score.{layoutAt}
 use Rattle.number.specs.Each.{Each, each-none, each-more}
 use Rattle.number.specs.Laws.{Ascending, none, more}
 use Rattle.tables.specs.Rows.{rowAt, RowsIn}
 use Rattle.constraint.specs.declared.kinds.Head.{Head}
 use Rattle.constraint.specs.Valid.{OneOf}
-use Rattle.literals.specs.Variables.{Sizes, Within, GroupIn}
+use Rattle.literals.specs.Variables.{Sizes, Within, GroupIn, layout-sizes}
 
 -- the sizes, and the rows of the groups, each of which ascends
 pub record Ground (groups : List ℕ) (h : Head) : Type 0 where
@@ -19,17 +20,13 @@ pub record Ground (groups : List ℕ) (h : Head) : Type 0 where
   pub rows : RowsIn groups (h .groups)
   pub ascends : (g : ℕ) → g < h .groups → Ascending (h .times) 0 (rowAt groups g)
 
--- E×T
-abbrev pub cellsOf : Head → ℕ
-cellsOf h = h .events * h .times
+-- the numbering of the variables
+abbrev pub layoutOf : Head → Layout
+layoutOf h = layoutAt (h .times) (h .events) (h .resources)
 
 module _ {groups : List ℕ} {h : Head} (g : Ground groups h) where
-  pub ground-sizes : Sizes (h .times) (cellsOf h)
-  ground-sizes =
-      record {
-        times = g .times;
-        cells = omega (arith, mul-le-mul {n₁ = h .events} {m₁ = h .times} {n₂ = 1024} {m₂ = 125} (g .events) (g .times));
-      }
+  pub ground-sizes : Sizes (h .times) (layoutOf h)
+  ground-sizes = layout-sizes (h .times) (h .events) (h .resources) (g .times) (g .events) (g .resources)
 
   -- an event, a resource and a group that exist
   pub ground-event : {e : ℕ} → OneOf (h .events) e → Within 1024 e

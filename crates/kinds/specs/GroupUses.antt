@@ -14,13 +14,13 @@ use Rattle.constraint.specs.Valid.{OneOf}
 use Rattle.sink.specs.Run.{Ran}
 use Rattle.sink.specs.Lines.{Line, lines}
 use Rattle.sink.specs.World.{World}
-use Rattle.literals.specs.Variables.{xAt}
+use Rattle.literals.specs.Variables.{inBlock, xAt}
 use Rattle.literals.specs.Words.{Holds}
 use Rattle.literals.specs.Proper.{Proper, times-proper, ascending-within}
 use Rattle.literals.specs.Numbered.{xsOf}
 use Rattle.literals.specs.Tables.{groupIn}
 use Rattle.items.specs.Written.{Wrote}
-use Rattle.kinds.specs.Ground.{Ground, cellsOf, ground-sizes, ground-resource, ground-group, ground-ascends}
+use Rattle.kinds.specs.Ground.{Ground, layoutOf, ground-sizes, ground-resource, ground-group, ground-ascends}
 
 -- the members of a list in a store that are left after i of them
 module _ (l : List ℕ) (n i : ℕ) where
@@ -38,20 +38,20 @@ module _ (l : List ℕ) (n i : ℕ) where
 
 -- X of resource r in group n: as many as its members, all of them literals
 module _ {groups : List ℕ} {h : Head} (g : Ground groups h) {r n : ℕ} (x : OneOf (h .resources) r) (o : OneOf (h .groups) n) where
-  pub uses-proper : Each Proper (map (xAt (h .times) (cellsOf h) r) (groupIn groups n))
+  pub uses-proper : Each Proper (map (xAt (h .times) (layoutOf h) r) (groupIn groups n))
   uses-proper =
-      times-proper (2 * cellsOf h) (h .times) r (omega (arith, ground-sizes g .cells)) (g .times) (ground-resource g x)
+      times-proper (layoutOf h .uses) (h .times) r (ground-sizes g .uses) (g .times) (ground-resource g x)
       (ascending-within 125 (g .times) (ground-ascends g o))
 
-  pub uses-count : length (map (xAt (h .times) (cellsOf h) r) (groupIn groups n)) ≤ 125
-  uses-count = omega (arith, length-map (groupIn groups n) (xAt (h .times) (cellsOf h) r), ground-group g o .row .count)
+  pub uses-count : length (map (xAt (h .times) (layoutOf h) r) (groupIn groups n)) ≤ 125
+  uses-count = omega (arith, length-map (groupIn groups n) (xAt (h .times) (layoutOf h) r), ground-group g o .row .count)
 
 -- the ORs that are left after i groups
-module _ (T C : ℕ) (f : ℕ → List ℕ) (r : ℕ) (l : List ℕ) (n : ℕ) where
+module _ (T uses : ℕ) (f : ℕ → List ℕ) (r : ℕ) (l : List ℕ) (n : ℕ) where
   abbrev pub orsLeft : (i : ℕ) → List Item
-  orsLeft i = map gate (map or (xsOf T C f r (drop i (leading n l))))
+  orsLeft i = map gate (map or (xsOf T uses f r (drop i (leading n l))))
 
-  pub ors-turn : (i : ℕ) → i < n → orsLeft i ≡ (gate (or (map (xAt T C r) (f (getD l i 0)))) ∷ []) ++ orsLeft (i + 1)
+  pub ors-turn : (i : ℕ) → i < n → orsLeft i ≡ (gate (or (map (inBlock T uses r) (f (getD l i 0)))) ∷ []) ++ orsLeft (i + 1)
   ors-turn i h = rw (leading-turn l n i h)
 
   pub ors-end : (i : ℕ) → n ≤ i → orsLeft i ≡ []

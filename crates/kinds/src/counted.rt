@@ -6,15 +6,16 @@ ghost use Prim.Native.Nat.{_≤_};
 ghost use lib.ListN.{length};
 ghost use Rattle.constraint.specs.Answers.{kindOf};
 ghost use Rattle.literals.specs.Words.{Holds};
-ghost use Rattle.kinds.specs.Ground.{cellsOf};
+ghost use Rattle.kinds.specs.Ground.{layoutOf};
 ghost use Rattle.kinds.specs.Counted.{listIn, Fit, GatesIn};
 
-// How many pairs of an event and a time there are.
-pub fn cells(head: Head) -> u32
-    requires { ⌜ (head .times ≤ 125) × (head .events ≤ 1024) ⌝ }
-    ensures { λ r. ⌜ r ≡ cellsOf head ⌝ }
+// The last variable before those of X.
+pub fn uses_before(head: Head) -> u32
+    requires { ⌜ (head .times ≤ 125) × ((head .events ≤ 1024) × (head .resources ≤ 255)) ⌝ }
+    ensures { λ r. ⌜ r ≡ layoutOf head .uses ⌝ }
 {
-    head.events * head.times
+    let l = literals::numbering(head.times, head.events, head.resources);
+    l.uses
 }
 
 // Those of a constraint that adds its gates' variables from v up to next; a clash has none here.
@@ -31,19 +32,19 @@ pub fn gather(
     ensures { λ n. ⌜ Holds (now (out .exit)) n (listIn (now (groups .entry)) head (kindOf (now (list .entry)) kind) .literals v) ⌝ }
 {
     let times = head.times;
-    let cells = cells(head);
+    let l = literals::numbering(times, head.events, head.resources);
     match kind {
         Kind::Clash(_) => 0,
         Kind::Unavailable(f) => {
-            literals::x_of_group(groups, f.group, times, cells, f.resource, out)
+            literals::x_of_group(groups, f.group, times, l.uses, f.resource, out)
         }
         Kind::Preferred(f) => literals::y_outside(groups, f.group, times, f.event, out),
-        Kind::Split(f) => literals::s_of_event(times, cells, f.event, out),
+        Kind::Split(f) => literals::s_of_event(times, l.starts, f.event, out),
         Kind::Spread(f) => {
             let n = f.events as usize;
-            literals::s_spread(list, n, groups, f.group, times, cells, out)
+            literals::s_spread(list, n, groups, f.group, times, l.starts, out)
         }
-        Kind::Busy(f) => literals::x_of_group(groups, f.group, times, cells, f.resource, out),
+        Kind::Busy(f) => literals::x_of_group(groups, f.group, times, l.uses, f.resource, out),
         Kind::Cluster(f) => literals::outputs(v, 1, f.groups as usize, out),
         Kind::Idle(_) => literals::outputs(v + 2, 3, ((next - v) / 3) as usize, out),
     }

@@ -1,5 +1,5 @@
 // Kind 8's gates.
-use crate::counted::cells;
+use crate::counted::uses_before;
 use constraint::Head;
 use items::Written;
 use sink::Job;
@@ -19,7 +19,7 @@ ghost use Rattle.gates.specs.Literals.{LiteralsTo};
 ghost use Rattle.literals.specs.Numbered.{xsOf, gapGates, idleGates};
 ghost use Rattle.literals.specs.Tables.{groupIn};
 ghost use Rattle.items.specs.Written.{Room, Wrote};
-ghost use Rattle.kinds.specs.Ground.{Ground, cellsOf};
+ghost use Rattle.kinds.specs.Ground.{Ground, layoutOf};
 
 // G: the OR of the first k words of buf, which stays as it was.
 fn write_earlier(
@@ -128,20 +128,20 @@ pub fn write_gaps(
 ) -> Written
     requires { ⌜ Ground (now groups) head × (OneOf (head .resources) resource × (Each (OneOf (head .groups)) (leading count (now list))
         × ((count ≤ length (now list)) × Room v
-        (map gate (idleGates (xsOf (head .times) (cellsOf head) (groupIn (now groups)) resource (leading count (now list))) v))))) ⌝ }
+        (map gate (idleGates (xsOf (head .times) (layoutOf head .uses) (groupIn (now groups)) resource (leading count (now list))) v))))) ⌝ }
     ensures { λ r. ⌜ Wrote (step job (now (model .entry))) v
-        (map gate (idleGates (xsOf (head .times) (cellsOf head) (groupIn (now (groups .entry))) resource (leading count (now (list .entry)))) v))
+        (map gate (idleGates (xsOf (head .times) (layoutOf head .uses) (groupIn (now (groups .entry))) resource (leading count (now (list .entry)))) v))
         (world s (now (text .entry)) (now (words .entry))) (world (r .sink) (now (text .exit)) (now (words .exit))) (r .next) ⌝ }
 {
     let mut buf = [0u32; 126];
     let times = head.times;
-    let cells = cells(head);
+    let uses = uses_before(head);
     let mut sink = s;
     let mut next = v;
     for i in 0..count {
         let k = i as usize;
         let g = list[k] as u32;
-        let n = literals::x_of_group(groups, g, times, cells, resource, &mut buf);
+        let n = literals::x_of_group(groups, g, times, uses, resource, &mut buf);
         let w = write_group_gaps(job, model, text, words, sink, &mut buf, n, next);
         sink = w.sink;
         next = w.next;

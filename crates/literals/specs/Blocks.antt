@@ -7,7 +7,7 @@ use native.Mathlib.Omega.{arith}
 use native.Mathlib.Nat.{add-zero}
 use Rattle.scope.specs.Kinds.{Event, Constraint, Atom, Y, Rule, upTo, users, groupAt}
 use Rattle.scope.specs.Instance.{Instance}
-use Rattle.scope.specs.Score.{cells, rules, eventCount}
+use Rattle.scope.specs.Score.{layout, rules, eventCount}
 use Rattle.scope.specs.Cnf.{or, Item, gate, hard, soft, gates}
 use Rattle.scope.specs.Formula.{num, yBefore, startItems, starts, uses, durationRules, constraintRules, rulesItems, ruleItems, formula}
 use Rattle.literals.specs.Variables.{yAt}
@@ -48,16 +48,16 @@ module _ (i : Instance) where
   before-literal e (suc zero) = refl
   before-literal e (suc (suc t)) = rw (← (y-literal i e (suc t)))
 
-  pub start-clauses : (e t : ℕ) → startItems i e t ≡ startClauses (i .times) (cells i) e t
+  pub start-clauses : (e t : ℕ) → startItems i e t ≡ startClauses (i .times) (layout i .starts) e t
   unfolding startClauses
   start-clauses e t = rw (before-literal e t, ← (y-literal i e t), ← (s-literal i e t))
 
-  pub starts-clauses : starts i ≡ flatMap (λ e. flatMap (startClauses (i .times) (cells i) e) (upTo (i .times))) (upTo (eventCount i))
+  pub starts-clauses : starts i ≡ flatMap (λ e. flatMap (startClauses (i .times) (layout i .starts) e) (upTo (i .times))) (upTo (eventCount i))
   unfolding starts
   starts-clauses =
       flat-same (λ e. flatMap (startItems i e) (upTo (i .times)))
-      (λ e. flatMap (startClauses (i .times) (cells i) e) (upTo (i .times)))
-      (λ e. flat-same (startItems i e) (startClauses (i .times) (cells i) e) (start-clauses e) (upTo (i .times)))
+      (λ e. flatMap (startClauses (i .times) (layout i .starts) e) (upTo (i .times)))
+      (λ e. flat-same (startItems i e) (startClauses (i .times) (layout i .starts) e) (start-clauses e) (upTo (i .times)))
       (upTo (eventCount i))
 
   -- 2. the uses
@@ -84,7 +84,7 @@ module _ (i : Instance) where
   -- 4. the constraints
   pub constraint-items : (cs : List Constraint) (v : ℕ)
       → rulesItems (num i) (constraintRules i cs) v
-      ≡ constraintItems (i .times) (cells i) (λ r. users r (i .events)) (groupAt (i .groups)) cs v
+      ≡ constraintItems (i .times) (layout i) (λ r. users r (i .events)) (groupAt (i .groups)) cs v
   unfolding constraintRules rulesItems constraintItems flatMap
   constraint-items [] v = refl
   constraint-items (c ∷ cs) v =
@@ -93,11 +93,11 @@ module _ (i : Instance) where
 
   -- the whole
   pub formula-numbers : formula i
-      ≡ numberedFormula (i .times) (cells i) (λ r. users r (i .events)) (groupAt (i .groups)) (eventCount i) (i .resources)
+      ≡ numberedFormula (i .times) (λ r. users r (i .events)) (groupAt (i .groups)) (eventCount i) (i .resources)
       (map (λ x. x .duration) (i .events))
       (i .constraints)
   unfolding formula numberedFormula listItems
   formula-numbers =
-      let v = 2 * cells i + i .resources * i .times + 1 in
+      let v = layout i .others + 1 in
       let r = rules-both (num i) (durationRules i 1 (i .events)) (constraintRules i (i .constraints)) v in
       rw (starts-clauses, uses-gates, r, duration-items 1 (i .events) v, constraint-items (i .constraints) _)

@@ -7,7 +7,7 @@ use native.Mathlib.Nat.{add-zero, add-assoc}
 use lib.ListN.{length, length-append, length-map}
 use lib.Seq.{take-at, drop-at, getD-at}
 use Rattle.scope.specs.Kinds.{Atom, Entry, atom, anyOf, gap, gapsAfter, gaps}
-use Rattle.scope.specs.Cnf.{pos, Gate, or, idling}
+use Rattle.scope.specs.Cnf.{pos, opp, Gate, or, and}
 use Rattle.scope.specs.Formula.{added, allAdded, entryGates, entryLiteral, listGates, listLiterals}
 use Rattle.literals.specs.Outputs.{every, every-both}
 use Rattle.literals.specs.Numbered.{gapGates, idleGates, innerCount}
@@ -106,7 +106,7 @@ gaps-one before x = refl
 
 gates-step : (before rest : List ℕ) (x n v : ℕ)
     → gapGates (before ++ x ∷ rest) (length before) (suc n) v
-    ≡ or before ∷ or rest ∷ idling x (pos v) (pos (v + 1)) ∷ gapGates ((before ++ (x ∷ [])) ++ rest) (length (before ++ (x ∷ []))) n (v + 3)
+    ≡ or before ∷ or rest ∷ and (opp x ∷ pos v ∷ pos (v + 1) ∷ []) ∷ gapGates ((before ++ (x ∷ [])) ++ rest) (length (before ++ (x ∷ []))) n (v + 3)
 unfolding gapGates
 gates-step before rest x n v =
     let k = length before in

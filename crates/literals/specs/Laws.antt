@@ -7,7 +7,7 @@ use native.Mathlib.Omega.{arith}
 use lib.ListN.{length}
 use Rattle.scope.specs.Kinds.{Kind, clash, unavailable, preferred, split, spread, busy, cluster, idle, Atom, Y, S, X, Entry, atom, Rule, between, upTo, users, outside, groupAt, usesAt, takesAt, startsAt, rulesOf}
 use Rattle.scope.specs.Instance.{Instance}
-use Rattle.scope.specs.Score.{cells}
+use Rattle.scope.specs.Score.{layout}
 use Rattle.scope.specs.Cnf.{Gate, Item, gate, gates}
 use Rattle.scope.specs.Formula.{num, countInto, countItems, boundItems, ruleItems, rulesItems}
 use Rattle.literals.specs.Variables.{baseOf, literalAt, yAt, sAt, xAt}
@@ -63,11 +63,11 @@ module _ (i : Instance) where
   unfolding baseOf literalAt
   y-literal e t = omega arith
 
-  pub s-literal : (e t : ℕ) → num i (S e t) ≡ sAt (i .times) (cells i) e t
+  pub s-literal : (e t : ℕ) → num i (S e t) ≡ sAt (i .times) (layout i) e t
   unfolding baseOf literalAt
   s-literal e t = omega arith
 
-  pub x-literal : (r t : ℕ) → num i (X r t) ≡ xAt (i .times) (cells i) r t
+  pub x-literal : (r t : ℕ) → num i (X r t) ≡ xAt (i .times) (layout i) r t
   unfolding baseOf literalAt
   x-literal r t = omega arith
 
@@ -78,28 +78,28 @@ module _ (i : Instance) where
   pub takes-add : (e : ℕ) (ts : List ℕ) (v : ℕ) → Adds (num i) (takesAt e ts) v [] (map (yAt (i .times) e) ts)
   takes-add e ts v = adds-atoms (λ t. Y e t) (yAt (i .times) e) (y-literal e) ts v
 
-  pub starts-add : (e : ℕ) (ts : List ℕ) (v : ℕ) → Adds (num i) (startsAt e ts) v [] (map (sAt (i .times) (cells i) e) ts)
-  starts-add e ts v = adds-atoms (λ t. S e t) (sAt (i .times) (cells i) e) (s-literal e) ts v
+  pub starts-add : (e : ℕ) (ts : List ℕ) (v : ℕ) → Adds (num i) (startsAt e ts) v [] (map (sAt (i .times) (layout i) e) ts)
+  starts-add e ts v = adds-atoms (λ t. S e t) (sAt (i .times) (layout i) e) (s-literal e) ts v
 
-  pub uses-add : (r : ℕ) (ts : List ℕ) (v : ℕ) → Adds (num i) (map atom (usesAt r ts)) v [] (map (xAt (i .times) (cells i) r) ts)
+  pub uses-add : (r : ℕ) (ts : List ℕ) (v : ℕ) → Adds (num i) (map atom (usesAt r ts)) v [] (map (xAt (i .times) (layout i) r) ts)
   uses-add r ts v =
-      rw (map-map atom (λ (t : ℕ). X r t) ts) (adds-atoms (λ t. X r t) (xAt (i .times) (cells i) r) (x-literal r) ts v)
+      rw (map-map atom (λ (t : ℕ). X r t) ts) (adds-atoms (λ t. X r t) (xAt (i .times) (layout i) r) (x-literal r) ts v)
 
   pub spread-add : (ts vs : List ℕ) (v : ℕ)
-      → Adds (num i) (flatMap (λ e. startsAt e ts) vs) v [] (flatMap (λ e. map (sAt (i .times) (cells i) e) ts) vs)
-  spread-add ts vs v = adds-lists (λ e. startsAt e ts) (λ e. map (sAt (i .times) (cells i) e) ts) (λ e v. starts-add e ts v) vs v
+      → Adds (num i) (flatMap (λ e. startsAt e ts) vs) v [] (flatMap (λ e. map (sAt (i .times) (layout i) e) ts) vs)
+  spread-add ts vs v = adds-lists (λ e. startsAt e ts) (λ e. map (sAt (i .times) (layout i) e) ts) (λ e v. starts-add e ts v) vs v
 
   -- X of a resource in a group
   abbrev atomsOf : (r g : ℕ) → List Atom
   atomsOf r g = usesAt r (groupAt (i .groups) g)
 
   abbrev literalsOf : (r g : ℕ) → List ℕ
-  literalsOf r g = map (xAt (i .times) (cells i) r) (groupAt (i .groups) g)
+  literalsOf r g = map (xAt (i .times) (layout i) r) (groupAt (i .groups) g)
 
   group-literals : (r g : ℕ) → map (num i) (atomsOf r g) ≡ literalsOf r g
   group-literals r g = by (groupAt (i .groups) g)
     where
-      by : (ts : List ℕ) → map (num i) (usesAt r ts) ≡ map (xAt (i .times) (cells i) r) ts
+      by : (ts : List ℕ) → map (num i) (usesAt r ts) ≡ map (xAt (i .times) (layout i) r) ts
       by [] = refl
       by (t ∷ ts) = rw (← (x-literal r t), ← (by ts))
 
@@ -112,7 +112,7 @@ module _ (i : Instance) where
   -- those of each kind
   pub kind-means : (k : Kind)
       → Mean (num i) (rulesOf (i .times) (i .events) (i .groups) k)
-      (numbered (i .times) (cells i) (λ r. users r (i .events)) (groupAt (i .groups)) k)
+      (numbered (i .times) (layout i) (λ r. users r (i .events)) (groupAt (i .groups)) k)
   unfolding rulesOf numbered
   kind-means (clash r) = clash-means (users r (i .events)) (upTo (i .times))
   kind-means (unavailable r g) = mean-more (bounded 0 0 false (uses-add r (groupAt (i .groups) g))) mean-none

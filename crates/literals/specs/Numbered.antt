@@ -1,13 +1,15 @@
--- The formula's lists by numbers: for T times and C = E×T, from the users of a resource, the times of a group and the durations.
+-- The formula's lists by numbers: for T times and the numbering L, from the users of a resource, the times of a group and the durations.
 -- No atom or entry is left. Laws and Blocks have the equations with the formula.
 use Prim.Native.Nat.{ℕ, zero, suc, _+_, _-_, _*_, min}
 use mathlib.Core.Bool.{Bool, true, false}
 use mathlib.Core.List.{List, [], _∷_, _++_, map, flatMap}
 use lib.ListN.{length, getD, take, drop}
+use Rattle.scope.specs.declared.Layout.{Layout}
 use Rattle.scope.specs.Kinds.{Constraint, Kind, clash, unavailable, preferred, split, spread, busy, cluster, idle, upTo, outside}
-use Rattle.scope.specs.Cnf.{pos, Gate, or, idling, Item, gate, hard, gates}
+use Rattle.scope.specs.Cnf.{pos, opp, Gate, or, and, Item, gate, hard, gates}
+use Rattle.scope.specs.Score.{layoutAt}
 use Rattle.scope.specs.Formula.{countItems}
-use Rattle.literals.specs.Variables.{yAt, sAt, xAt}
+use Rattle.literals.specs.Variables.{inBlock, yAt, sAt, xAt}
 use Rattle.literals.specs.Outputs.{every}
 
 -- a counted list: its bounds, its gates and the literals that it counts, from a variable on
@@ -38,7 +40,7 @@ allNumbered w (c ∷ cs) v = numberedItems w c v ++ allNumbered w cs (v + gates 
 unfoldable pub gapGates : (xs : List ℕ) (k n v : ℕ) → List Gate
 gapGates xs k zero v = []
 gapGates xs k (suc n) v =
-    or (take k xs) ∷ or (drop (suc k) xs) ∷ idling (getD xs k 0) (pos v) (pos (v + 1)) ∷ gapGates xs (suc k) n (v + 3)
+    or (take k xs) ∷ or (drop (suc k) xs) ∷ and (opp (getD xs k 0) ∷ pos v ∷ pos (v + 1) ∷ []) ∷ gapGates xs (suc k) n (v + 3)
 
 -- for each group, and each member but first and last
 unfoldable pub idleGates : List (List ℕ) → ℕ → List Gate
@@ -50,26 +52,26 @@ unfoldable pub innerCount : List (List ℕ) → ℕ
 innerCount [] = 0
 innerCount (xs ∷ xss) = (length xs - 2) + innerCount xss
 
--- X of resource r in each of some groups
-abbrev pub xsOf : (T C : ℕ) (group : ℕ → List ℕ) (r : ℕ) → List ℕ → List (List ℕ)
-xsOf T C group r hs = map (λ g. map (xAt T C r) (group g)) hs
+-- X of resource r in each of some groups, in the block after `uses` variables
+abbrev pub xsOf : (T uses : ℕ) (group : ℕ → List ℕ) (r : ℕ) → List ℕ → List (List ℕ)
+xsOf T uses group r hs = map (λ g. map (inBlock T uses r) (group g)) hs
 
-module _ (T C : ℕ) (users group : ℕ → List ℕ) where
+module _ (T : ℕ) (L : Layout) (users group : ℕ → List ℕ) where
   -- the counted lists of a kind
   unfoldable pub numbered : Kind → List Numbered
   numbered (clash r) = map (λ t. plain 0 1 (map (λ e. yAt T e t) (users r))) (upTo T)
-  numbered (unavailable r g) = plain 0 0 (map (xAt T C r) (group g)) ∷ []
+  numbered (unavailable r g) = plain 0 0 (map (xAt T L r) (group g)) ∷ []
   numbered (preferred e g) = plain 0 0 (map (yAt T e) (outside (group g) (upTo T))) ∷ []
-  numbered (split e lo hi) = plain lo hi (map (sAt T C e) (upTo T)) ∷ []
-  numbered (spread vs g lo hi) = plain lo hi (flatMap (λ e. map (sAt T C e) (group g)) vs) ∷ []
+  numbered (split e lo hi) = plain lo hi (map (sAt T L e) (upTo T)) ∷ []
+  numbered (spread vs g lo hi) = plain lo hi (flatMap (λ e. map (sAt T L e) (group g)) vs) ∷ []
   numbered (busy r g lo hi) =
-      record { lo = lo; hi = hi; zeroFree = true; gates = λ v. []; literals = λ v. map (xAt T C r) (group g) } ∷ []
+      record { lo = lo; hi = hi; zeroFree = true; gates = λ v. []; literals = λ v. map (xAt T L r) (group g) } ∷ []
   numbered (cluster r hs lo hi) =
       record {
         lo = lo;
         hi = hi;
         zeroFree = false;
-        gates = λ v. map or (xsOf T C group r hs);
+        gates = λ v. map or (xsOf T (L .uses) group r hs);
         literals = λ v. every 1 v (length hs);
       }
       ∷ []
@@ -78,8 +80,8 @@ module _ (T C : ℕ) (users group : ℕ → List ℕ) where
         lo = lo;
         hi = hi;
         zeroFree = false;
-        gates = idleGates (xsOf T C group r hs);
-        literals = λ v. every 3 (v + 2) (innerCount (xsOf T C group r hs));
+        gates = idleGates (xsOf T (L .uses) group r hs);
+        literals = λ v. every 3 (v + 2) (innerCount (xsOf T (L .uses) group r hs));
       }
       ∷ []
 
@@ -88,26 +90,27 @@ unfoldable pub durationLists : (T e : ℕ) → List ℕ → List Numbered
 durationLists T e [] = []
 durationLists T e (d ∷ ds) = plain d d (map (yAt T e) (upTo T)) ∷ durationLists T (suc e) ds
 
--- the clauses of a start: "(Y, not S) and then (not Y, Y before, S)"
+-- the clauses of a start, where the block of S comes after `starts` variables: "(Y, not S) and then (not Y, Y before, S)"
 abbrev pub earlier : (T e t : ℕ) → List ℕ
 earlier T e zero = []
 earlier T e (suc zero) = []
 earlier T e (suc (suc t)) = yAt T e (suc t) ∷ []
 
-unfoldable pub startClauses : (T C e t : ℕ) → List Item
-startClauses T C e t =
-    hard (yAt T e t ∷ (sAt T C e t + 1) ∷ []) ∷ hard (earlier T e t ++ (yAt T e t + 1) ∷ sAt T C e t ∷ []) ∷ []
+unfoldable pub startClauses : (T starts e t : ℕ) → List Item
+startClauses T starts e t =
+    let s = inBlock T starts e t in
+    hard (yAt T e t ∷ (s + 1) ∷ []) ∷ hard (earlier T e t ++ (yAt T e t + 1) ∷ s ∷ []) ∷ []
 
 -- X of a resource at each time: an OR over its users
 unfoldable pub useGates : (T : ℕ) → List ℕ → List Gate
 useGates T us = map (λ t. or (map (λ e. yAt T e t) us)) (upTo T)
 
-module _ (T C : ℕ) (users group : ℕ → List ℕ) where
+module _ (T : ℕ) (L : Layout) (users group : ℕ → List ℕ) where
   -- constraints in file order, from the variable v on
   unfoldable pub constraintItems : List Constraint → ℕ → List Item
   constraintItems [] v = []
   constraintItems (c ∷ cs) v =
-      let is = allNumbered (c .weight) (numbered T C users group (c .kind)) v in
+      let is = allNumbered (c .weight) (numbered T L users group (c .kind)) v in
       is ++ constraintItems cs (v + gates is)
 
   -- the durations of events and then the constraints
@@ -116,9 +119,10 @@ module _ (T C : ℕ) (users group : ℕ → List ℕ) where
       let is = allNumbered 0 (durationLists T 1 ds) v in
       is ++ constraintItems cs (v + gates is)
 
-  -- the formula of E events and R resources
-  unfoldable pub numberedFormula : (E R : ℕ) (ds : List ℕ) → List Constraint → List Item
-  numberedFormula E R ds cs =
-      flatMap (λ e. flatMap (startClauses T C e) (upTo T)) (upTo E)
-      ++ map gate (flatMap (λ r. useGates T (users r)) (upTo R))
-      ++ listItems ds cs (2 * C + R * T + 1)
+-- the formula of T times, E events and R resources
+unfoldable pub numberedFormula : (T : ℕ) (users group : ℕ → List ℕ) (E R : ℕ) (ds : List ℕ) → List Constraint → List Item
+numberedFormula T users group E R ds cs =
+    let L : Layout = layoutAt T E R in
+    flatMap (λ e. flatMap (startClauses T (L .starts) e) (upTo T)) (upTo E)
+    ++ map gate (flatMap (λ r. useGates T (users r)) (upTo R))
+    ++ listItems T L users group ds cs (L .others + 1)

@@ -5,8 +5,10 @@ use mathlib.Core.List.{List, [], _∷_, map, map-append}
 use native.Mathlib.Omega.{arith}
 use lib.ListN.{length, getD, take}
 use lib.Seq.{take-suc}
+use Rattle.scope.specs.declared.Layout.{Layout}
 use Rattle.scope.specs.Kinds.{Event, Kind, clash, unavailable, preferred, split, spread, busy, cluster, idle, Constraint, users, groupAt, upTo}
 use Rattle.scope.specs.Instance.{Instance}
+use Rattle.scope.specs.Score.{layoutAt}
 use Rattle.scope.specs.Formula.{formula}
 use Rattle.number.specs.Each.{Each, each-none, each-more, each-map}
 use Rattle.tables.specs.Rows.{rowAt, rows, eventsOf}
@@ -33,34 +35,34 @@ groupIn t g = rowAt t (g - 1)
 
 -- the times of the groups, and the users of the resources, found otherwise
 module _ (us vs f h : ℕ → List ℕ) (e : (r : ℕ) → us r ≡ vs r) where
-  xs-same : (T C r : ℕ) {hs : List ℕ} → Each (λ g. f g ≡ h g) hs → xsOf T C f r hs ≡ xsOf T C h r hs
-  xs-same T C r each-none = refl
-  xs-same T C r (each-more p ps) = rw (p, xs-same T C r ps)
+  xs-same : (T uses r : ℕ) {hs : List ℕ} → Each (λ g. f g ≡ h g) hs → xsOf T uses f r hs ≡ xsOf T uses h r hs
+  xs-same T uses r each-none = refl
+  xs-same T uses r (each-more p ps) = rw (p, xs-same T uses r ps)
 
-  pub numbered-same : (T C : ℕ) (k : Kind) → Each (λ g. f g ≡ h g) (groupsOf k) → numbered T C us f k ≡ numbered T C vs h k
+  pub numbered-same : (T : ℕ) (L : Layout) (k : Kind) → Each (λ g. f g ≡ h g) (groupsOf k) → numbered T L us f k ≡ numbered T L vs h k
   unfolding numbered groupsOf
-  numbered-same T C (clash r) p = rw (e r)
-  numbered-same T C (unavailable r g) (each-more p ps) = rw p
-  numbered-same T C (preferred x g) (each-more p ps) = rw p
-  numbered-same T C (split x lo hi) p = refl
-  numbered-same T C (spread xs g lo hi) (each-more p ps) = rw p
-  numbered-same T C (busy r g lo hi) (each-more p ps) = rw p
-  numbered-same T C (cluster r hs lo hi) p = rw (xs-same T C r p)
-  numbered-same T C (idle r hs lo hi) p = rw (xs-same T C r p)
+  numbered-same T L (clash r) p = rw (e r)
+  numbered-same T L (unavailable r g) (each-more p ps) = rw p
+  numbered-same T L (preferred x g) (each-more p ps) = rw p
+  numbered-same T L (split x lo hi) p = refl
+  numbered-same T L (spread xs g lo hi) (each-more p ps) = rw p
+  numbered-same T L (busy r g lo hi) (each-more p ps) = rw p
+  numbered-same T L (cluster r hs lo hi) p = rw (xs-same T (L .uses) r p)
+  numbered-same T L (idle r hs lo hi) p = rw (xs-same T (L .uses) r p)
 
-  constraints-same : (T C : ℕ) (cs : List Constraint) (v : ℕ)
+  constraints-same : (T : ℕ) (L : Layout) (cs : List Constraint) (v : ℕ)
       → Each (λ c. Each (λ g. f g ≡ h g) (groupsOf (c .kind))) cs
-      → constraintItems T C us f cs v ≡ constraintItems T C vs h cs v
+      → constraintItems T L us f cs v ≡ constraintItems T L vs h cs v
   unfolding constraintItems
-  constraints-same T C [] v p = refl
-  constraints-same T C (c ∷ cs) v (each-more p ps) = rw (numbered-same T C (c .kind) p, constraints-same T C cs _ ps)
+  constraints-same T L [] v p = refl
+  constraints-same T L (c ∷ cs) v (each-more p ps) = rw (numbered-same T L (c .kind) p, constraints-same T L cs _ ps)
 
-  formula-same : (T C E R : ℕ) (ds : List ℕ) (cs : List Constraint)
+  formula-same : (T E R : ℕ) (ds : List ℕ) (cs : List Constraint)
       → Each (λ c. Each (λ g. f g ≡ h g) (groupsOf (c .kind))) cs
-      → numberedFormula T C us f E R ds cs ≡ numberedFormula T C vs h E R ds cs
+      → numberedFormula T us f E R ds cs ≡ numberedFormula T vs h E R ds cs
   unfolding numberedFormula listItems
-  formula-same T C E R ds cs p =
-      rw (flat-same (λ r. useGates T (us r)) (λ r. useGates T (vs r)) (λ r. ap (useGates T) (e r)) (upTo R), constraints-same T C cs _ p)
+  formula-same T E R ds cs p =
+      rw (flat-same (λ r. useGates T (us r)) (λ r. useGates T (vs r)) (λ r. ap (useGates T) (e r)) (upTo R), constraints-same T (layoutAt T E R) cs _ p)
 
 -- the durations in their table
 pub durations-in : (d t : List ℕ) (n : ℕ) → n ≤ length d → map (λ x. x .duration) (eventsOf d t n) ≡ take n d
@@ -81,11 +83,11 @@ pub record Held (i : Instance) (T E R G : ℕ) (d t gs : List ℕ) : Type 0 wher
 
 -- its formula
 pub formula-tables : {i : Instance} {T E R G : ℕ} {d t gs : List ℕ} → Held i T E R G d t gs
-    → formula i ≡ numberedFormula T (E * T) (usersIn t E) (groupIn gs) E R (take E d) (i .constraints)
+    → formula i ≡ numberedFormula T (usersIn t E) (groupIn gs) E R (take E d) (i .constraints)
 formula-tables {i} {T} {E} {R} {G} {d} {t} {gs} h =
     formula-numbers i
     ∙ rw (h .times, h .resources, h .events, h .groups, length-events d t E, durations-in d t E (h .room))
-    (formula-same (λ r. users r (eventsOf d t E)) (usersIn t E) (groupAt (rows gs G)) (groupIn gs) (users-in d t E) T (E * T) E R
+    (formula-same (λ r. users r (eventsOf d t E)) (usersIn t E) (groupAt (rows gs G)) (groupIn gs) (users-in d t E) T E R
     (take E d)
     (i .constraints)
     (each-map (λ c p. each-map (λ g q. group-row gs G g (q .low) (q .high)) p) (h .refers)))

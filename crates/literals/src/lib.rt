@@ -14,6 +14,4 @@ pub use times::x_of_group;
 pub use times::y_of_event;
 pub use times::y_outside;
 pub use users::fill_users;
-pub use variable::s_literal;
-pub use variable::x_literal;
-pub use variable::y_literal;
+pub use variable::numbering;

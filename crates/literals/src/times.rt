@@ -9,7 +9,7 @@ ghost use lib.ListN.{length, take, drop};
 ghost use Rattle.scope.specs.Kinds.{upTo, outside};
 ghost use Rattle.number.specs.Laws.{Ascending};
 ghost use Rattle.tables.specs.Rows.{rowAt, RowIn};
-ghost use Rattle.literals.specs.Variables.{literalAt, yAt, sAt, xAt, Sizes, Within, GroupIn};
+ghost use Rattle.literals.specs.Variables.{literalAt, yAt, inBlock, Block, Within, GroupIn};
 ghost use Rattle.literals.specs.Words.{Holds, Indicator, startsWith};
 
 // The literals of the row after a base, at all times.
@@ -89,21 +89,21 @@ pub fn y_of_event(times: u32, e: u32, out: &mut [u32]) -> usize
     all_times(b, times, out)
 }
 
-// S of an event at all times.
-pub fn s_of_event(times: u32, cells: u32, e: u32, out: &mut [u32]) -> usize
-    requires { ⌜ Sizes times cells × (Within 1024 e × (times ≤ length (now out))) ⌝ }
-    ensures { λ r. ⌜ Holds (now (out .exit)) r (map (sAt times cells e) (upTo times)) ⌝ }
+// S of an event at all times, in the block after `starts` variables.
+pub fn s_of_event(times: u32, starts: u32, e: u32, out: &mut [u32]) -> usize
+    requires { ⌜ Block times starts × (Within 1024 e × (times ≤ length (now out))) ⌝ }
+    ensures { λ r. ⌜ Holds (now (out .exit)) r (map (inBlock times starts e) (upTo times)) ⌝ }
 {
-    let b = base(cells, times, e);
+    let b = base(starts, times, e);
     all_times(b, times, out)
 }
 
-// X of a resource at the times of a group.
-pub fn x_of_group(groups: &[u8], g: u32, times: u32, cells: u32, r: u32, out: &mut [u32]) -> usize
-    requires { ⌜ GroupIn (now groups) g × (Sizes times cells × (Within 1024 r × (125 ≤ length (now out)))) ⌝ }
-    ensures { λ n. ⌜ Holds (now (out .exit)) n (map (xAt times cells r) (rowAt (now (groups .entry)) (g - 1))) ⌝ }
+// X of a resource at the times of a group, in the block after `uses` variables.
+pub fn x_of_group(groups: &[u8], g: u32, times: u32, uses: u32, r: u32, out: &mut [u32]) -> usize
+    requires { ⌜ GroupIn (now groups) g × (Block times uses × (Within 1024 r × (125 ≤ length (now out)))) ⌝ }
+    ensures { λ n. ⌜ Holds (now (out .exit)) n (map (inBlock times uses r) (rowAt (now (groups .entry)) (g - 1))) ⌝ }
 {
-    let b = base(2 * cells, times, r);
+    let b = base(uses, times, r);
     group_times(groups, g, b, 0, out)
 }
 

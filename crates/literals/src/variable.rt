@@ -1,8 +1,26 @@
 // Variables and literals. Y, S and X are three blocks of variables, each with a row of `times` of them for every event or
-// resource: Y comes first, S after E×T variables, X after twice as many.
+// resource; where each begins is said here alone.
+use scope::Layout;
 ghost use mathlib.Core.Path.{_≡_};
 ghost use Prim.Native.Nat.{_+_, _*_, _≤_, _<_};
-ghost use Rattle.literals.specs.Variables.{Within, Sizes, Based, literalAt, yAt, sAt, xAt};
+ghost use Rattle.scope.specs.Score.{layoutAt};
+ghost use Rattle.literals.specs.Variables.{Within, Based, literalAt};
+
+// The numbering of an instance's variables.
+pub fn numbering(times: u32, events: u32, resources: u32) -> Layout
+    requires { ⌜ (times ≤ 125) × ((events ≤ 1024) × (resources ≤ 255)) ⌝ }
+    ensures { λ r. ⌜ r ≡ layoutAt times events resources ⌝ }
+{
+    let cells = events * times;
+    let both = 2 * cells;
+    let others = both + resources * times;
+    Layout {
+        starts: cells,
+        primary: both,
+        uses: both,
+        others,
+    }
+}
 
 // The last variable before row k, from 1, of the block after so many variables.
 pub fn base(before: u32, times: u32, k: u32) -> u32
@@ -18,28 +36,4 @@ pub fn literal(base: u32, t: u32) -> u32
     ensures { λ r. ⌜ r ≡ literalAt base t ⌝ }
 {
     2 * (base + t)
-}
-
-// Y: event e takes time t.
-pub fn y_literal(times: u32, e: u32, t: u32) -> u32
-    requires { ⌜ (times ≤ 125) × (Within 1024 e × (t ≤ 125)) ⌝ }
-    ensures { λ r. ⌜ r ≡ yAt times e t ⌝ }
-{
-    literal(base(0, times, e), t)
-}
-
-// S: event e starts at time t; cells is E×T.
-pub fn s_literal(times: u32, cells: u32, e: u32, t: u32) -> u32
-    requires { ⌜ Sizes times cells × (Within 1024 e × (t ≤ 125)) ⌝ }
-    ensures { λ r. ⌜ r ≡ sAt times cells e t ⌝ }
-{
-    literal(base(cells, times, e), t)
-}
-
-// X: some event that uses resource r takes time t.
-pub fn x_literal(times: u32, cells: u32, r: u32, t: u32) -> u32
-    requires { ⌜ Sizes times cells × (Within 1024 r × (t ≤ 125)) ⌝ }
-    ensures { λ l. ⌜ l ≡ xAt times cells r t ⌝ }
-{
-    literal(base(2 * cells, times, r), t)
 }

@@ -6,6 +6,7 @@ use constraint::Head;
 use scope::DecodeAnswer;
 use scope::Objective;
 use scope::Refusal;
+use scope::refusals::CLAUSE_FALSE;
 use sink::Sink;
 use sizes::Measured;
 use sizes::measure;
@@ -18,9 +19,6 @@ ghost use Rattle.instance.specs.Stores.{Stores};
 ghost use Rattle.sizes.specs.Measured.{SizedBy};
 ghost use Rattle.scope.specs.Operations.{decodeOf};
 ghost use Rattle.model.specs.Answers.{judgedOf, EvaluatedAs, partOf, partLength, answerOf, returned};
-
-// "a hard clause is false"
-const CLAUSE_FALSE: u8 = 13;
 
 // How many bytes of the model hold Y and S, with the weight of the soft clauses that it falsifies; or a refusal.
 pub enum Evaluation {

@@ -1,13 +1,10 @@
 // Refusals 10 and 11: whether a model has a byte, 0 or 1, for each variable.
 use scope::Refusal;
+use scope::refusals::ABOVE_ONE;
+use scope::refusals::WRONG_LENGTH;
 use timetable::bytes::Found;
 use timetable::bytes::first_above;
 ghost use Rattle.model.specs.Answers.{FormOf};
-
-// "wrong length"
-const WRONG_LENGTH: u8 = 10;
-// "a byte above 1"
-const ABOVE_ONE: u8 = 11;
 
 // Bytes that may be a model, or their refusal.
 pub enum Form {

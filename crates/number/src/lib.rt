@@ -1,16 +1,12 @@
 // Reading a number: groups of seven bits, lowest first, in the shortest form. The instance file and proofs are made of them.
 // The work is one turn for each byte.
 use scope::Refusal;
+use scope::refusals::BAD_NUMBER;
+use scope::refusals::BAD_REFERENCE;
+use scope::refusals::OUTSIDE_LIMIT;
 ghost use mathlib.Core.Path.{_≡_};
 ghost use Rattle.scope.specs.Number.{number as numberAt, limited as limitedAt, reference as referenceAt};
 ghost use Rattle.number.specs.Answers.{said, refusalOf};
-
-// "number cut short, overlong or too large"
-pub const BAD_NUMBER: u8 = 1;
-// "value outside its limit"
-pub const OUTSIDE_LIMIT: u8 = 2;
-// "reference to nothing, or list not ascending"
-pub const BAD_REFERENCE: u8 = 3;
 
 // A number with the offset after it, or a refusal.
 pub enum Number {

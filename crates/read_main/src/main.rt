@@ -4,6 +4,7 @@ use libc::STDIN_FILENO;
 use read_line::print_answer;
 use read_line::print_refusal;
 use scope::Refusal;
+use scope::refusals::TOO_SHORT;
 ghost use mathlib.Core.Path.{_≡_};
 ghost use lib.ListN.{length};
 
@@ -19,7 +20,7 @@ fn main() {
     let n = io::read_full(STDIN_FILENO, &mut file);
     if 262144 < n {
         print_refusal(Refusal {
-            number: 9,
+            number: TOO_SHORT,
             value: 0,
         });
         return;

@@ -12,11 +12,11 @@ use Rattle.constraint.specs.Valid.{InRange}
 use Rattle.literals.specs.Filled.{usersAt, UserRows}
 use Rattle.literals.specs.Tables.{groupIn}
 use Rattle.literals.specs.Numbered.{Numbered, numbered, allNumbered}
-use Rattle.kinds.specs.Ground.{Ground, cellsOf}
+use Rattle.kinds.specs.Ground.{Ground, layoutOf}
 
 -- the counted lists of a kind, from the table of users and the rows of the groups
 abbrev pub listsIn : (users groups : List ℕ) → Head → Kind → List Numbered
-listsIn users groups h k = numbered (h .times) (cellsOf h) (usersAt users) (groupIn groups) k
+listsIn users groups h k = numbered (h .times) (layoutOf h) (usersAt users) (groupIn groups) k
 
 -- the items of a constraint of the weight w, from the variable v on
 abbrev pub constraintPart : (users groups : List ℕ) → Head → Kind → (w v : ℕ) → List Item

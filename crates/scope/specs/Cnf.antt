@@ -1,7 +1,7 @@
 -- Literals, clauses, gates, and what an assignment makes of them.
 -- Literal v is 2v, not v is 2v + 1. There is no variable 0: its literals 0 and 1 are the constants false and true.
 use mathlib.Core.Bool.{Bool, true, false, not, _&&_, _||_, cond}
-use mathlib.Core.List.{List, [], _∷_, _++_}
+use mathlib.Core.List.{List, [], _∷_, _++_, map}
 use Prim.Native.Nat.{ℕ, zero, suc, _+_, _-_, _*_, _/_, _%_}
 use lib.ListN.{getD}
 use lib.Dec.{eqb}
@@ -25,7 +25,7 @@ neg v = 2 * v + 1
 abbrev pub opp : ℕ → ℕ
 opp l = l + 1 - 2 * (l % 2)
 
--- whether a literal, a clause, all clauses are true
+-- whether a literal, a clause, all clauses, a cube are true
 abbrev pub signed : ℕ → Bool → Bool
 signed zero b = b
 signed (suc k) b = not b
@@ -41,6 +41,10 @@ unfoldable pub clauses : Assignment → List (List ℕ) → Bool
 clauses ν [] = true
 clauses ν (c ∷ cs) = clause ν c && clauses ν cs
 
+unfoldable pub cube : Assignment → List ℕ → Bool
+cube ν [] = true
+cube ν (l ∷ ls) = lit ν l && cube ν ls
+
 -- "a clause with a true constant is dropped, a false constant is left out"
 unfoldable pub hasTrue : List ℕ → Bool
 hasTrue [] = false
@@ -53,34 +57,31 @@ withoutFalse (l ∷ ls) = cond (eqb l 0) (withoutFalse ls) (l ∷ withoutFalse l
 unfoldable pub tidy : List ℕ → List (List ℕ)
 tidy c = cond (hasTrue c) [] (withoutFalse c ∷ [])
 
--- What makes a variable, its output, a function of earlier literals: an OR; a counter's cell, from x and the literals a and b
--- of the row above; an idle time, from X and the ORs G and H; kind 6's v, true where the count is at least 1 and below j
+-- What makes a variable, its output, a function of earlier literals: an OR; an AND; a counter's cell, from x and the literals
+-- a and b of the row above
 pub data Gate : Type 0 where
   or : (ls : List ℕ) → Gate
+  and : (ls : List ℕ) → Gate
   cell : (x a b : ℕ) → Gate
-  idling : (x g h : ℕ) → Gate
-  short : (c1 cj : ℕ) → Gate
 
--- (not l, o) for each l
-unfoldable pub implied : List ℕ → ℕ → List (List ℕ)
-implied [] o = []
-implied (l ∷ ls) o = (opp l ∷ pos o ∷ []) ∷ implied ls o
+-- (l, p) for each l
+unfoldable pub pairs : List ℕ → ℕ → List (List ℕ)
+pairs [] p = []
+pairs (l ∷ ls) p = (l ∷ p ∷ []) ∷ pairs ls p
 
--- the clauses of a gate whose output is the variable o
+-- the clauses of a gate whose output is the variable o: of an OR (not l, o) for each l and (all l, not o), of an AND (l, not o)
+-- for each l and (all not l, o)
 unfoldable pub gateClauses : Gate → ℕ → List (List ℕ)
-gateClauses (or ls) o = implied ls o ++ (ls ++ neg o ∷ []) ∷ []
+gateClauses (or ls) o = pairs (map opp ls) (pos o) ++ (ls ++ neg o ∷ []) ∷ []
+gateClauses (and ls) o = pairs ls (neg o) ++ (map opp ls ++ pos o ∷ []) ∷ []
 gateClauses (cell x a b) o =
     tidy (opp a ∷ pos o ∷ []) ++ tidy (opp x ∷ opp b ∷ pos o ∷ []) ++ tidy (x ∷ a ∷ neg o ∷ []) ++ tidy (b ∷ a ∷ neg o ∷ [])
-gateClauses (idling x g h) o =
-    (opp x ∷ neg o ∷ []) ∷ (g ∷ neg o ∷ []) ∷ (h ∷ neg o ∷ []) ∷ (x ∷ opp g ∷ opp h ∷ pos o ∷ []) ∷ []
-gateClauses (short c1 cj) o = (c1 ∷ neg o ∷ []) ∷ (opp cj ∷ neg o ∷ []) ∷ (opp c1 ∷ cj ∷ pos o ∷ []) ∷ []
 
 -- the value that a gate gives its output
 unfoldable pub value : Assignment → Gate → Bool
 value ν (or ls) = clause ν ls
+value ν (and ls) = cube ν ls
 value ν (cell x a b) = lit ν a || lit ν x && lit ν b
-value ν (idling x g h) = not (lit ν x) && lit ν g && lit ν h
-value ν (short c1 cj) = lit ν c1 && not (lit ν cj)
 
 -- An item of a formula: a gate, whose output is the next variable; a hard clause; a soft unit with its weight
 pub data Item : Type 0 where

@@ -6,8 +6,8 @@ use lib.ListN.{length}
 use lib.Dec.{leb, ltb}
 use Rattle.scope.specs.Kinds.{Event, Constraint, Atom, Y, S, Entry, atom, anyOf, gap, Rule, between, from, upTo, users, takesAt}
 use Rattle.scope.specs.Instance.{Instance}
-use Rattle.scope.specs.Cnf.{pos, neg, opp, Gate, or, cell, idling, short, Item, gate, hard, soft, hardClauses, gates, softUnits}
-use Rattle.scope.specs.Score.{cells, var, rules, eventCount}
+use Rattle.scope.specs.Cnf.{pos, neg, opp, Gate, or, and, cell, Item, gate, hard, soft, hardClauses, gates, softUnits}
+use Rattle.scope.specs.Score.{layout, var, rules, eventCount}
 
 -- The literals of a counter's row by column. Column 0 is the constant true. Above the first row the others are the constant
 -- false; in the row whose first variable is v, column j is variable v + j − 1
@@ -57,10 +57,11 @@ unfoldable pub highUnits : ℕ → (ℕ → ℕ) → ℕ → ℕ → List Item
 highUnits zero q hi n = cond (ltb hi n) (hard (opp (q (hi + 1)) ∷ []) ∷ []) []
 highUnits (suc w) q hi n = map (λ j. soft (suc w) (opp (q j))) (from (hi + 1) (n - hi))
 
--- "Kind 6 replaces the low part: for j = 2..lo a variable v .. and the unit not v": k columns from j on, from the variable v on
+-- "Kind 6 replaces the low part: for j = 2..lo a variable v .. and the unit not v": v is true where the count is at least 1 and
+-- below j; k columns from j on, from the variable v on
 unfoldable pub shortUnits : ℕ → (ℕ → ℕ) → ℕ → ℕ → ℕ → List Item
 shortUnits w q j zero v = []
-shortUnits w q j (suc k) v = gate (short (q 1) (q j)) ∷ unit w (neg v) ∷ shortUnits w q (suc j) k (suc v)
+shortUnits w q j (suc k) v = gate (and (q 1 ∷ opp (q j) ∷ [])) ∷ unit w (neg v) ∷ shortUnits w q (suc j) k (suc v)
 
 -- the low part and the high part of a rule over n literals, from the variable v on
 unfoldable pub boundItems : ℕ → Rule → (ℕ → ℕ) → ℕ → ℕ → List Item
@@ -87,12 +88,13 @@ allAdded (x ∷ xs) = added x + allAdded xs
 
 -- where num gives the literal of an atom
 module _ (num : Atom → ℕ) where
-  -- the gates that an entry adds from the variable v on, and the literal that is counted: for an idle time G, H and I
+  -- the gates that an entry adds from the variable v on, and the literal that is counted: for an idle time G, H and I, which is
+  -- true where the time has no X and G and H are true
   abbrev pub entryGates : Entry → ℕ → List Gate
   entryGates (atom a) v = []
   entryGates (anyOf xs) v = or (map num xs) ∷ []
   entryGates (gap earlier here later) v =
-      or (map num earlier) ∷ or (map num later) ∷ idling (num here) (pos v) (pos (v + 1)) ∷ []
+      or (map num earlier) ∷ or (map num later) ∷ and (opp (num here) ∷ pos v ∷ pos (v + 1) ∷ []) ∷ []
 
   abbrev pub entryLiteral : Entry → ℕ → ℕ
   entryLiteral (atom a) v = num a
@@ -153,10 +155,10 @@ module _ (i : Instance) where
 
   -- the variables that are no gate's output: Y and S
   abbrev pub primary : ℕ
-  primary = 2 * cells i
+  primary = layout i .primary
 
   unfoldable pub formula : List Item
-  formula = starts ++ map gate uses ++ rulesItems num allRules (primary + i .resources * i .times + 1)
+  formula = starts ++ map gate uses ++ rulesItems num allRules (layout i .others + 1)
 
   -- the number of variables, and the hard clauses in the order of their ids
   unfoldable pub variables : ℕ

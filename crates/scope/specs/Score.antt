@@ -11,6 +11,7 @@ use Rattle.scope.specs.Instance.{Instance}
 use Rattle.scope.specs.Cnf.{bit}
 use Rattle.scope.specs.declared.Infeasibility.{Infeasibility}
 use Rattle.scope.specs.declared.Objective.{Objective}
+use Rattle.scope.specs.declared.Layout.{Layout}
 
 -- how many are true; whether any is, whether all are
 unfoldable pub trues : List Bool → ℕ
@@ -48,6 +49,11 @@ module _ (τ : Atom → Bool) where
   deviations [] = 0
   deviations (r ∷ rs) = charged r (count r) + deviations rs
 
+-- The numbering of variables, for T times, E events and R resources: E×T for Y, as many for S, R×T for X, then the others. The
+-- primary ones are no gate's output: Y and S
+abbrev pub layoutAt : (T E R : ℕ) → Layout
+layoutAt T E R = record { starts = E * T; primary = 2 * (E * T); uses = 2 * (E * T); others = 2 * (E * T) + R * T }
+
 module _ (i : Instance) where
   abbrev pub eventCount : ℕ
   eventCount = length (i .events)
@@ -56,11 +62,14 @@ module _ (i : Instance) where
   abbrev pub cells : ℕ
   cells = eventCount * i .times
 
-  -- the variables: Y, then S, each (e − 1)×T + t, then X resource by resource
+  abbrev pub layout : Layout
+  layout = layoutAt (i .times) eventCount (i .resources)
+
+  -- the variables of atoms: row by row, each (e − 1)×T + t after those before its sort
   abbrev pub var : Atom → ℕ
   var (Y e t) = (e - 1) * i .times + t
-  var (S e t) = cells + ((e - 1) * i .times + t)
-  var (X r t) = 2 * cells + ((r - 1) * i .times + t)
+  var (S e t) = layout .starts + ((e - 1) * i .times + t)
+  var (X r t) = layout .uses + ((r - 1) * i .times + t)
 
   -- which atoms are true in the bytes of a timetable
   unfoldable pub truth : List ℕ → Atom → Bool

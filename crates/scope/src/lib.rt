@@ -1,5 +1,6 @@
 // What the operations answer. specs/ has the definitions that a reader of document 01 must believe; specs/Answers.antt says
 // for each case below which number and values of document 01 it stands for.
+pub mod refusals;
 
 // A refusal: its number in document 01's table, and the value that it gives.
 pub struct Refusal {
@@ -12,6 +13,15 @@ pub struct Infeasibility(pub u64);
 
 // The cost: the sum of weight times deviation of the other constraints. It is never added to an infeasibility.
 pub struct Objective(pub u64);
+
+// The numbering of a formula's variables: the last variable before those of S, before the first gate's output, before those of
+// X, and before what the rules add. Y comes first. Y, S and X stand in rows of one variable for each time.
+pub struct Layout {
+    pub starts: u32,
+    pub primary: u32,
+    pub uses: u32,
+    pub others: u32,
+}
 
 // What an accepted instance has.
 pub struct InstanceSize {

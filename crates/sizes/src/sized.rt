@@ -8,6 +8,8 @@ use instance::File;
 use instance::read;
 use scope::FormulaSize;
 use scope::Refusal;
+use scope::refusals::BOUND_TOO_HIGH;
+use scope::refusals::TOO_MANY_VARIABLES;
 use sizing::Size;
 use sizing::blocks::stored_size;
 use sizing::sums::plus;
@@ -15,11 +17,6 @@ ghost use mathlib.Core.Path.{_≡_};
 ghost use Rattle.instance.specs.Stores.{Stores};
 ghost use Rattle.sizing.specs.Sums.{sum, Fits64};
 ghost use Rattle.sizes.specs.Measured.{judgedSize, judgedTotal, measuredAs, boundedAs};
-
-// "bound above 4,095"
-const BOUND_TOO_HIGH: u8 = 7;
-// "above 8,000,000 variables"
-const TOO_MANY_VARIABLES: u8 = 8;
 
 // The formula's size without its tail, or refusals 1 to 6 and 8.
 pub enum Measured {

@@ -15,7 +15,7 @@ use Rattle.theory.specs.Ranges.{length-from}
 use Rattle.sizing.specs.declared.Size.{Size}
 use Rattle.sizing.specs.Sums.{equal, none, sum, multiple, sum-assoc, multiple-zero, multiple-suc}
 use Rattle.sizing.specs.Measure.{sizeOf, softSize, size-nil, size-gate, size-soft, size-append}
-use Rattle.sizing.specs.Gates.{variableSize, short-size, hardUnit, hard-unit, unitSize, unit-size}
+use Rattle.sizing.specs.Gates.{orSize, and-size, hardUnit, hard-unit, unitSize, unit-size}
 use Rattle.sizing.specs.Rows.{equalRows, Proper, weights, counter-size, counter-equal}
 
 -- how many units of the weight w stand for k columns: hard, one stands for all
@@ -29,7 +29,7 @@ unitsSize w k = multiple (unitCount w k) (unitSize w)
 
 -- k times a variable of kind 6 and its unit
 unfoldable pub shortsSize : ℕ → ℕ → Size
-shortsSize w k = multiple k (sum (variableSize 3 7) (unitSize w))
+shortsSize w k = multiple k (sum (orSize 2) (unitSize w))
 
 -- the low part of a rule
 unfoldable pub lowSize : ℕ → ℕ → Bool → Size
@@ -70,7 +70,7 @@ pub short-units : (w : ℕ) (q : ℕ → ℕ) (j k v : ℕ) → sizeOf (shortUni
 unfolding shortUnits shortsSize
 short-units w q j zero v = rw (size-nil, multiple-zero)
 short-units w q j (suc k) v =
-    rw (size-gate, short-size, unit-size w, short-units w q (suc j) k (suc v), multiple-suc, sum-assoc)
+    rw (size-gate, and-size, unit-size w, short-units w q (suc j) k (suc v), multiple-suc, sum-assoc)
 
 low-size : (w lo : ℕ) (q : ℕ → ℕ) (v : ℕ) (zeroFree : Bool)
     → sizeOf (cond zeroFree (shortUnits w q 2 (lo - 1) v) (lowUnits w q lo)) ≡ lowSize w lo zeroFree
@@ -117,13 +117,13 @@ units-soft (suc w) k h = equal (omega arith)
 
 pub shorts-hard : (w k : ℕ) → w ≡ 0
     → shortsSize w k ≡ record { variables = k; clauses = 4 * k; words = 8 * k; units = 0; weight = 0 }
-unfolding shortsSize unitSize hardUnit multiple sum
+unfolding shortsSize orSize unitSize hardUnit multiple sum
 shorts-hard zero k e = equal (omega arith)
 shorts-hard (suc w) k e = let f : ⊥ = omega arith in absurd f
 
 pub shorts-soft : (w k : ℕ) → 1 ≤ w
     → shortsSize w k ≡ record { variables = k; clauses = 3 * k; words = 7 * k; units = k; weight = k * w }
-unfolding shortsSize unitSize softSize multiple sum
+unfolding shortsSize orSize unitSize softSize multiple sum
 shorts-soft zero k h = let f : ⊥ = omega arith in absurd f
 shorts-soft (suc w) k h = equal (omega arith)
 

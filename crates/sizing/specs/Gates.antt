@@ -1,38 +1,37 @@
--- The sizes of gates: an OR, an idle time, a short count, and the cells of a counter; and of units.
+-- The sizes of gates: an OR or an AND, and the cells of a counter; and of units.
 use mathlib.Core.Path.{_≡_, refl, ap}
 use mathlib.Core.List.{List, [], _∷_}
 use Prim.Native.Nat.{ℕ, zero, suc, _+_, _*_, _≤_}
 use native.Mathlib.Omega.{arith}
 use lib.ListN.{length}
-use Rattle.scope.specs.Cnf.{opp, hasTrue, withoutFalse, tidy, or, cell, idling, short, gateClauses, Item, hard}
+use Rattle.scope.specs.Cnf.{opp, hasTrue, withoutFalse, tidy, Gate, or, and, cell, gateClauses, Item, hard}
 use Rattle.scope.specs.Formula.{words, unit}
 use Rattle.sizing.specs.declared.Size.{Size}
 use Rattle.sizing.specs.Sums.{equal, sum}
-use Rattle.sizing.specs.Measure.{clausesSize, sizeOf, gateSize, softSize, or-clauses, eqb-0, eqb-1, size-hard, size-soft}
+use Rattle.sizing.specs.Measure.{clausesSize, sizeOf, gateSize, softSize, or-clauses, and-clauses, eqb-0, eqb-1, size-hard, size-soft}
 
 -- one variable with so many clauses and words
 abbrev pub variableSize : ℕ → ℕ → Size
 variableSize c w = record { variables = 1; clauses = c; words = w; units = 0; weight = 0 }
 
--- the OR of n literals
+-- the OR or the AND of n literals
 unfoldable pub orSize : ℕ → Size
 orSize n = variableSize (n + 1) (3 * n + 1)
 
--- the sizes of gates by their kind
-pub or-size : (ls : List ℕ) → gateSize (or ls) ≡ orSize (length ls)
+-- a gate's variable beside its clauses
+gate-size : (g : Gate) (n : ℕ)
+    → clausesSize (gateClauses g 1) ≡ record { variables = 0; clauses = n + 1; words = 3 * n + 1; units = 0; weight = 0 }
+    → gateSize g ≡ orSize n
 unfolding gateSize orSize clausesSize
-or-size ls =
-    let e = or-clauses ls 1 in
+gate-size g n e =
     equal
     (record { variables = refl; clauses = ap (λ s. s .clauses) e; words = ap (λ s. s .words) e; units = refl; weight = refl })
 
-pub idling-size : (x g h : ℕ) → gateSize (idling x g h) ≡ variableSize 4 10
-unfolding gateSize gateClauses words
-idling-size x g h = refl
+pub or-size : (ls : List ℕ) → gateSize (or ls) ≡ orSize (length ls)
+or-size ls = gate-size (or ls) (length ls) (or-clauses ls 1)
 
-pub short-size : (c d : ℕ) → gateSize (short c d) ≡ variableSize 3 7
-unfolding gateSize gateClauses words
-short-size c d = refl
+pub and-size : (ls : List ℕ) → gateSize (and ls) ≡ orSize (length ls)
+and-size ls = gate-size (and ls) (length ls) (and-clauses ls 1)
 
 -- the opposite of a literal from 2 on is one
 opp-proper : (l : ℕ) → 2 ≤ l → 2 ≤ opp l

@@ -2,13 +2,13 @@
 -- and sizes of lists that stand one after the other add up.
 use mathlib.Core.Path.{_≡_, refl, sym, ap, _∙_}
 use mathlib.Core.Bool.{Bool, true, false, cond}
-use mathlib.Core.List.{List, [], _∷_, _++_}
+use mathlib.Core.List.{List, [], _∷_, _++_, map}
 use Prim.Native.Nat.{ℕ, suc, _+_, _*_, _≤_}
 use native.Mathlib.Omega.{arith}
-use lib.ListN.{length, length-append}
+use lib.ListN.{length, length-append, length-map}
 use lib.Dec.{eqb}
 use borrow.Author.Tests.{ne-eqb}
-use Rattle.scope.specs.Cnf.{pos, neg, opp, hasTrue, withoutFalse, tidy, Gate, or, cell, idling, short, implied, gateClauses, Item, gate, hard, soft, hardClauses, gates, softUnits}
+use Rattle.scope.specs.Cnf.{pos, neg, opp, hasTrue, withoutFalse, tidy, Gate, or, and, cell, pairs, gateClauses, Item, gate, hard, soft, hardClauses, gates, softUnits}
 use Rattle.scope.specs.Formula.{words}
 use Rattle.scope.specs.Text.{sumWeights}
 use Rattle.sizing.specs.declared.Size.{Size}
@@ -86,28 +86,39 @@ tidy-last c l m h k = rw (hasTrue-last c l h, hasTrue-last c m k) (go (hasTrue c
     go true = refl
     go false = rw (withoutFalse-last c l h, withoutFalse-last c m k)
 
--- the implications of an OR
-implied-length : (ls : List ℕ) (o : ℕ) → length (implied ls o) ≡ length ls
-unfolding implied
-implied-length [] o = refl
-implied-length (l ∷ ls) o = ap suc (implied-length ls o)
+-- the pairs of an OR or an AND
+pairs-length : (ls : List ℕ) (p : ℕ) → length (pairs ls p) ≡ length ls
+unfolding pairs
+pairs-length [] p = refl
+pairs-length (l ∷ ls) p = ap suc (pairs-length ls p)
 
-implied-words : (ls : List ℕ) (o : ℕ) → words (implied ls o) ≡ 2 * length ls
-unfolding implied words
-implied-words [] o = refl
-implied-words (l ∷ ls) o = rw (implied-words ls o) (omega arith)
+pairs-words : (ls : List ℕ) (p : ℕ) → words (pairs ls p) ≡ 2 * length ls
+unfolding pairs words
+pairs-words [] p = refl
+pairs-words (l ∷ ls) p = rw (pairs-words ls p) (omega arith)
 
--- the clauses of an OR
-pub or-clauses : (ls : List ℕ) (o : ℕ)
-    → clausesSize (gateClauses (or ls) o)
-    ≡ record { variables = 0; clauses = length ls + 1; words = 3 * length ls + 1; units = 0; weight = 0 }
-unfolding gateClauses clausesSize words
-or-clauses ls o = rw (length-append, words-append, length-append, implied-length, implied-words) (equal (omega arith))
+-- the clauses of an OR or an AND of n literals
+abbrev joinedSize : ℕ → Size
+joinedSize n = record { variables = 0; clauses = n + 1; words = 3 * n + 1; units = 0; weight = 0 }
+
+joined-clauses : (xs ys : List ℕ) (p q n : ℕ) → length xs ≡ n → length ys ≡ n
+    → clausesSize (pairs xs p ++ (ys ++ q ∷ []) ∷ []) ≡ joinedSize n
+unfolding clausesSize words
+joined-clauses xs ys p q n e f = rw (length-append, words-append, length-append, pairs-length, pairs-words, e, f) (equal (omega arith))
+
+pub or-clauses : (ls : List ℕ) (o : ℕ) → clausesSize (gateClauses (or ls) o) ≡ joinedSize (length ls)
+unfolding gateClauses
+or-clauses ls o = joined-clauses (map opp ls) ls (pos o) (neg o) (length ls) (length-map ls opp) refl
+
+pub and-clauses : (ls : List ℕ) (o : ℕ) → clausesSize (gateClauses (and ls) o) ≡ joinedSize (length ls)
+unfolding gateClauses
+and-clauses ls o = joined-clauses ls (map opp ls) (neg o) (pos o) (length ls) refl (length-map ls opp)
 
 -- a gate's clauses come to as much whatever its output
 gate-any : (g : Gate) (o : ℕ) → 1 ≤ o → clausesSize (gateClauses g o) ≡ clausesSize (gateClauses g 1)
 unfolding gateClauses
 gate-any (or ls) o h = or-clauses ls o ∙ sym (or-clauses ls 1)
+gate-any (and ls) o h = and-clauses ls o ∙ sym (and-clauses ls 1)
 gate-any (cell x a b) o h =
     let p : 2 ≤ pos o = omega arith in
     let n : 2 ≤ neg o = omega arith in
@@ -116,8 +127,6 @@ gate-any (cell x a b) o h =
     let third = tidy-last (x ∷ a ∷ []) (neg o) 3 n (omega arith) in
     let fourth = tidy-last (b ∷ a ∷ []) (neg o) 3 n (omega arith) in
     simp (clauses-append, first, second, third, fourth)
-gate-any (idling x g k) o h = unfold clausesSize words in refl
-gate-any (short c d) o h = unfold clausesSize words in refl
 
 -- the hard clauses of items come to as much from any variable on
 hard-any : (is : List Item) (n m : ℕ) → 1 ≤ n → 1 ≤ m → clausesSize (hardClauses n is) ≡ clausesSize (hardClauses m is)

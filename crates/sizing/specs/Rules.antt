@@ -13,7 +13,7 @@ use Rattle.theory.specs.Rules.{Atoms, ValidRule, length-listLiterals}
 use Rattle.sizing.specs.declared.Size.{Size}
 use Rattle.sizing.specs.Sums.{none, sum, multiple, none-sum, sum-none, sum-assoc}
 use Rattle.sizing.specs.Measure.{sizeOf, sizeAt, size-nil, size-gate, size-append}
-use Rattle.sizing.specs.Gates.{variableSize, orSize, or-size, idling-size, hardUnit, unitSize}
+use Rattle.sizing.specs.Gates.{orSize, or-size, and-size, hardUnit, unitSize}
 use Rattle.sizing.specs.Rows.{gatesSize, gates-append, firstRow, laterRow, equalRows, Proper, weights}
 use Rattle.sizing.specs.Counts.{unitsSize, shortsSize, lowSize, countSize, count-size}
 use Rattle.sizing.specs.Softs.{Weighing, weighing-weights, weighing-proper, weights-append, soft-append, append-weighing, gates-weighing, count-weighing}
@@ -22,7 +22,7 @@ use Rattle.sizing.specs.Softs.{Weighing, weighing-weights, weighing-prop
 unfoldable pub entrySize : Entry → Size
 entrySize (atom a) = none
 entrySize (anyOf xs) = orSize (length xs)
-entrySize (gap earlier here later) = sum (orSize (length earlier)) (sum (orSize (length later)) (variableSize 4 10))
+entrySize (gap earlier here later) = sum (orSize (length earlier)) (sum (orSize (length later)) (orSize 3))
 
 unfoldable pub entriesSize : List Entry → Size
 entriesSize [] = none
@@ -67,7 +67,7 @@ rows-units cols zero w = refl
 rows-units cols (suc n) w = omega arith
 
 low-hard : (lo : ℕ) (zeroFree : Bool) → (lowSize 0 lo zeroFree) .units ≡ 0
-unfolding lowSize shortsSize unitsSize unitSize hardUnit multiple sum
+unfolding lowSize shortsSize orSize unitsSize unitSize hardUnit multiple sum
 low-hard lo true = omega arith
 low-hard lo false = omega arith
 
@@ -91,7 +91,7 @@ module _ (num : Atom → ℕ) where
   entry-size (atom a) v = size-nil
   entry-size (anyOf xs) v = rw (size-gate, or-size, length-map, size-nil, sum-none)
   entry-size (gap earlier here later) v =
-      simp (size-gate, or-size, length-map, idling-size, size-nil, sum-none)
+      simp (size-gate, or-size, length-map, and-size, size-nil, sum-none)
 
   entries-size : (xs : List Entry) (v : ℕ) → gatesSize (listGates num xs v) ≡ entriesSize xs
   unfolding listGates entriesSize

@@ -5,6 +5,7 @@ use crate::size::text_length;
 use constraint::Head;
 use scope::Refusal;
 use scope::TextAnswer;
+use scope::refusals::TOO_SHORT;
 use sink::Mode;
 use sizes::Measured;
 use sizes::measure;
@@ -18,9 +19,6 @@ ghost use Rattle.instance.specs.Answers.{instanceOf};
 ghost use Rattle.sink.specs.Run.{Ran, out, put};
 ghost use Rattle.text.specs.Ready.{Ready};
 ghost use Rattle.text.specs.Written.{written, textIn};
-
-// "a lent output .. too short for the formula"
-const OUTPUT_TOO_SHORT: u8 = 9;
 
 // Header, hard lines, soft lines.
 fn put_text(
@@ -88,7 +86,7 @@ fn fit_text(
         return TextAnswer::Bytes(n as u64);
     }
     TextAnswer::Refused(Refusal {
-        number: OUTPUT_TOO_SHORT,
+        number: TOO_SHORT,
         value: 0,
     })
 }

@@ -4,6 +4,7 @@ use libc::STDIN_FILENO;
 use libc::STDOUT_FILENO;
 use scope::Refusal;
 use scope::TextAnswer;
+use scope::refusals::TOO_SHORT;
 use text::text;
 ghost use mathlib.Core.Path.{_≡_};
 ghost use Prim.Native.Nat.{_≤_};
@@ -32,7 +33,7 @@ pub fn print_text(input: &[u8], out: &mut [u8]) -> usize
         return put_refusal(
             out,
             Refusal {
-                number: 9,
+                number: TOO_SHORT,
                 value: 0,
             },
         );

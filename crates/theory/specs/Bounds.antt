@@ -1,6 +1,6 @@
 -- A counted list with its bounds, hard or soft: its clauses and soft units are worth what the rule charges for the count.
 use mathlib.Core.Path.{_≡_, refl, sym, ap, ap₂, _∙_}
-use mathlib.Core.Bool.{Bool, true, false, not, _&&_, cond, Bool·not-not}
+use mathlib.Core.Bool.{Bool, true, false, not, _&&_, cond, Bool·not-not, and-true}
 use mathlib.Core.List.{List, [], _∷_, _++_, map}
 use Prim.Native.Nat.{ℕ, zero, suc, _+_, _-_, _*_, _<_, _≤_, min, max}
 use native.Mathlib.Omega.{arith}
@@ -8,7 +8,7 @@ use lib.Dec.{eqb, leb, ltb}
 use lib.ListN.{length, length-map}
 use borrow.Author.Tests.{leb-true, leb-false, ltb-true, ltb-false, eqb-true, eqb-false, not-true, not-false}
 use Rattle.scope.specs.Kinds.{Rule, from}
-use Rattle.scope.specs.Cnf.{Assignment, neg, opp, lit, short, value, Item, hard}
+use Rattle.scope.specs.Cnf.{Assignment, neg, opp, lit, cube, and, value, Item, hard}
 use Rattle.scope.specs.Score.{trues, deviation, charged}
 use Rattle.scope.specs.Formula.{noRow, counter, lastRow, ones, columns, unit, lowUnits, highUnits, shortUnits, boundItems, countItems, countInto}
 use Rattle.theory.specs.Gates.{lit-neg, lit-opp}
@@ -87,16 +87,17 @@ module _ (ν : Assignment) (q : ℕ → ℕ) (c : ℕ) where
 
   short-costs : (w j k v : ℕ) → 1 ≤ j → (0 < k → Counts ν (j + k - 1) q c) → Holds ν v (shortUnits w q j k v)
       → Costs ν w (shortUnits w q j k v) (trues (map (λ i. leb 1 c && not (leb i c)) (from j k)))
-  unfolding shortUnits value from trues
+  unfolding shortUnits value cube from trues
   short-costs w j zero v p m h = Costs-none ν w
   short-costs w j (suc k) v p m h =
       let is = shortUnits w q (suc j) k (suc v) in
       let b = leb 1 c && not (leb j c) in
       let t = trues (map (λ i. leb 1 c && not (leb i c)) (from (suc j) k)) in
       let d = m (omega arith) in
-      let u = lit-neg ν v ∙ ap not (h .0 ∙ ap₂ (λ a b. a && not b) (d 1 (omega arith)) (d j (omega arith))) in
+      let e : lit ν (q 1) && (lit ν (opp (q j)) && true) ≡ b = rw (lit-opp, d 1 (omega arith), d j (omega arith), and-true) in
+      let u = lit-neg ν v ∙ ap not (h .0 ∙ e) in
       let more = Holds-unit ν (suc v) w (neg v) is (h .1) in
-      Scores-gates ν (short (q 1) (q j) ∷ []) (unit w (neg v) ∷ is)
+      Scores-gates ν (and (q 1 ∷ opp (q j) ∷ []) ∷ []) (unit w (neg v) ∷ is)
       (Costs-append ν w (cond b 1 0) t (unit w (neg v) ∷ []) is (Costs-unit ν w (neg v) b u)
       (short-costs w (suc j) k (suc v) (omega arith) (λ _ i l. d i (omega arith)) more))
 

@@ -9,7 +9,7 @@ use lib.Dec.{eqb}
 use lib.ListN.{length, take, drop, length-append, length-drop, take-append-drop, List·getD-append}
 use lib.Seq.{append-snoc, getD-append-seam, length-take-le}
 use Rattle.laws.specs.Lists.{All, All-append, All-drop}
-use Rattle.scope.specs.Cnf.{Assignment, bit, byte, lit, clause, Gate, or, cell, idling, short, value, Item, gate, hard, soft, gates, outputs}
+use Rattle.scope.specs.Cnf.{Assignment, bit, byte, lit, clause, cube, Gate, or, and, cell, value, Item, gate, hard, soft, gates, outputs}
 use Rattle.theory.specs.Circuit.{Holds}
 use Rattle.theory.specs.Order.{Proper, Reads, Ordered}
 
@@ -24,12 +24,16 @@ module _ (ν μ : Assignment) (n : ℕ) (agree : (v : ℕ) → v < n → ν v �
   clause-agrees [] h = refl
   clause-agrees (l ∷ c) h = rw (lit-agrees l (h .0 .before), clause-agrees c (h .1))
 
+  cube-agrees : (c : List ℕ) → All (Proper n) c → cube ν c ≡ cube μ c
+  unfolding cube
+  cube-agrees [] h = refl
+  cube-agrees (l ∷ c) h = rw (lit-agrees l (h .0 .before), cube-agrees c (h .1))
+
   value-agrees : (g : Gate) → Reads n g → value ν g ≡ value μ g
   unfolding value
   value-agrees (or ls) h = clause-agrees ls h
+  value-agrees (and ls) h = cube-agrees ls h
   value-agrees (cell x a b) h = rw (lit-agrees x (h .0 .before), lit-agrees a (h .1), lit-agrees b (h .2))
-  value-agrees (idling x a b) h = rw (lit-agrees x (h .0 .before), lit-agrees a (h .1 .before), lit-agrees b (h .2 .before))
-  value-agrees (short a b) h = rw (lit-agrees a (h .0 .before), lit-agrees b (h .1 .before))
 
 -- the variables of bytes m, with more bytes after them; the variable of the first byte after them
 pub bit-append : (m r : List ℕ) (v : ℕ) → v ≤ length m → bit m v ≡ bit (m ++ r) v

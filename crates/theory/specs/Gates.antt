@@ -1,5 +1,5 @@
 -- A gate's clauses hold exactly where its output has the gate's value. The assignment makes variable 0 false.
-use mathlib.Core.Path.{_≡_, refl, sym, ap, ap₂}
+use mathlib.Core.Path.{_≡_, refl, sym, ap, ap₂, _∙_}
 use mathlib.Core.Bool.{Bool, true, false, not, _&&_, _||_, cond, Bool·beq, Bool·not-not, or-true, and-true, or-assoc, and-assoc}
 use mathlib.Core.Logic.{_↔_}
 use mathlib.Core.List.{List, [], _∷_, _++_, map}
@@ -11,7 +11,7 @@ use Rattle.laws.specs.Taut.{taut}
 use Rattle.laws.specs.Booleans.{beq-iff}
 use Rattle.laws.specs.Lists.{All}
 use Rattle.scope.specs.Score.{any}
-use Rattle.scope.specs.Cnf.{Assignment, opp, signed, lit, clause, clauses, hasTrue, withoutFalse, tidy, implied, Gate, or, cell, idling, short, gateClauses, value}
+use Rattle.scope.specs.Cnf.{Assignment, opp, signed, lit, clause, clauses, cube, hasTrue, withoutFalse, tidy, pairs, Gate, or, and, cell, gateClauses, value}
 
 module _ (ν : Assignment) where
   -- the values of literals: v, not v, the opposite of l
@@ -62,12 +62,33 @@ module _ (ν : Assignment) where
   clause-any f g [] h = refl
   clause-any f g (x ∷ xs) h = ap₂ (λ a b. a || b) (h .0) (clause-any f g xs (h .1))
 
-  implied-holds : (ls : List ℕ) (o : ℕ) → clauses ν (implied ls o) ≡ not (clause ν ls) || ν o
-  unfolding clauses implied clause
-  implied-holds [] o = refl
-  implied-holds (l ∷ ls) o =
-      rw (implied-holds ls o, lit-opp, lit-pos)
-      (taut 3 (λ a b o. (not a || (o || false)) && (not b || o)) (λ a b o. not (a || b) || o) tt (lit ν l) (clause ν ls) (ν o))
+  -- the opposites of literals: all are true where none of these is, and some is true where not all of these are
+  cube-opposites : (ls : List ℕ) → cube ν (map opp ls) ≡ not (clause ν ls)
+  unfolding cube clause
+  cube-opposites [] = refl
+  cube-opposites (l ∷ ls) =
+      rw (lit-opp, cube-opposites ls) (taut 2 (λ a b. not a && not b) (λ a b. not (a || b)) tt (lit ν l) (clause ν ls))
+
+  clause-opposites : (ls : List ℕ) → clause ν (map opp ls) ≡ not (cube ν ls)
+  unfolding cube clause
+  clause-opposites [] = refl
+  clause-opposites (l ∷ ls) =
+      rw (lit-opp, clause-opposites ls) (taut 2 (λ a b. not a || not b) (λ a b. not (a && b)) tt (lit ν l) (cube ν ls))
+
+  pairs-hold : (xs : List ℕ) (p : ℕ) → clauses ν (pairs xs p) ≡ cube ν xs || lit ν p
+  unfolding clauses pairs clause cube
+  pairs-hold [] p = refl
+  pairs-hold (x ∷ xs) p =
+      rw (pairs-hold xs p)
+      (taut 3 (λ a b p. (a || (p || false)) && (b || p)) (λ a b p. a && b || p) tt (lit ν x) (cube ν xs) (lit ν p))
+
+  -- the law of OR and AND: the literal p, whose opposite is q, is false exactly where all of xs are true, and ys are their opposites
+  joined-holds : (xs ys : List ℕ) (p q : ℕ) → clause ν ys ≡ not (cube ν xs) → lit ν q ≡ not (lit ν p)
+      → clauses ν (pairs xs p ++ (ys ++ q ∷ []) ∷ []) ≡ Bool·beq (lit ν p) (not (cube ν xs))
+  unfolding clauses clause
+  joined-holds xs ys p q e f =
+      rw (clauses-append, pairs-hold, clause-append, e, f)
+      (taut 2 (λ a p. (a || p) && ((not a || (not p || false)) && true)) (λ a p. Bool·beq p (not a)) tt (cube ν xs) (lit ν p))
 
   module _ (z : ν 0 ≡ false) where
     -- a clause that is dropped is true, and a constant that is left out is false
@@ -101,8 +122,13 @@ module _ (ν : Assignment) where
     gate-clauses : (g : Gate) (o : ℕ) → clauses ν (gateClauses g o) ≡ Bool·beq (ν o) (value ν g)
     unfolding gateClauses value clauses clause
     gate-clauses (or ls) o =
-        rw (clauses-append, implied-holds, clause-append, lit-neg)
-        (taut 2 (λ a o. (not a || o) && ((a || (not o || false)) && true)) (λ a o. Bool·beq o a) tt (clause ν ls) (ν o))
+        let e : clause ν ls ≡ not (cube ν (map opp ls)) = rw (cube-opposites ls, Bool·not-not) in
+        let f : lit ν (2 * o + 1) ≡ not (lit ν (2 * o)) = rw (lit-neg, lit-pos) in
+        joined-holds (map opp ls) ls (2 * o) (2 * o + 1) e f ∙ rw (lit-pos, ← e)
+    gate-clauses (and ls) o =
+        let f : lit ν (2 * o) ≡ not (lit ν (2 * o + 1)) = rw (lit-neg, lit-pos, Bool·not-not) in
+        joined-holds ls (map opp ls) (2 * o + 1) (2 * o) (clause-opposites ls) f
+        ∙ rw lit-neg (taut 2 (λ a o. Bool·beq (not o) (not a)) (λ a o. Bool·beq o a) tt (cube ν ls) (ν o))
     gate-clauses (cell x a b) o =
         simp (clauses-append, tidy-same, lit-neg, lit-pos, lit-opp)
         (taut 4
@@ -110,18 +136,6 @@ module _ (ν : Assignment) where
         (not a || (o || false)) && (not x || (not b || (o || false))) && (x || (a || (not o || false)))
         && (b || (a || (not o || false))))
         (λ x a b o. Bool·beq o (a || x && b)) tt (lit ν x) (lit ν a) (lit ν b) (ν o))
-    gate-clauses (idling x g h) o =
-        simp (lit-neg, lit-pos, lit-opp)
-        (taut 4
-        (λ x g h o.
-        (not x || (not o || false))
-        && ((g || (not o || false)) && ((h || (not o || false)) && ((x || (not g || (not h || (o || false)))) && true))))
-        (λ x g h o. Bool·beq o (not x && g && h)) tt (lit ν x) (lit ν g) (lit ν h) (ν o))
-    gate-clauses (short c d) o =
-        simp (lit-neg, lit-pos, lit-opp)
-        (taut 3
-        (λ c d o. (c || (not o || false)) && ((not d || (not o || false)) && ((not c || (d || (o || false))) && true)))
-        (λ c d o. Bool·beq o (c && not d)) tt (lit ν c) (lit ν d) (ν o))
 
     -- the law of gates
     pub gate-holds : (g : Gate) (o : ℕ) → clauses ν (gateClauses g o) ≡ true ↔ ν o ≡ value ν g

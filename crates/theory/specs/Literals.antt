@@ -1,18 +1,17 @@
 -- The hard clauses of a formula have literals of its variables alone, no constant among them.
 use mathlib.Core.Path.{_≡_, refl}
 use mathlib.Core.Bool.{Bool, true, false, cond, true≢false}
-use mathlib.Core.List.{List, [], _∷_, _++_}
+use mathlib.Core.List.{List, [], _∷_, _++_, map}
 use Prim.Native.Nat.{ℕ, suc, _+_, _*_, _<_, _≤_}
 use native.Mathlib.Omega.{arith}
 use lib.Dec.{eqb}
 use borrow.Author.Tests.{eqb-false}
-use Rattle.laws.specs.Lists.{All, All-append}
+use Rattle.laws.specs.Lists.{All, All-append, All-map}
 use Rattle.scope.specs.Instance.{Instance}
-use Rattle.scope.specs.Cnf.{pos, neg, opp, hasTrue, withoutFalse, tidy, implied, Gate, or, cell, idling, short, gateClauses, Item, gate, hard, soft, hardClauses, gates}
+use Rattle.scope.specs.Cnf.{pos, neg, opp, hasTrue, withoutFalse, tidy, pairs, Gate, or, and, cell, gateClauses, Item, gate, hard, soft, hardClauses, gates}
 use Rattle.scope.specs.Formula.{primary, formula, variables, hardOf, bounded, boundedVariables, boundedHard}
 use Rattle.theory.specs.Accepted.{ValidInstance}
-use Rattle.theory.specs.Order.{Proper, Reads, Ordered, proper-up, all-proper-up}
-use Rattle.theory.specs.RuleOrder.{opp-proper}
+use Rattle.theory.specs.Order.{Proper, Reads, Ordered, opp-proper, proper-up, all-proper-up}
 use Rattle.theory.specs.FormulaOrder.{formula-order}
 use Rattle.theory.specs.Bounded.{bounded-order}
 
@@ -40,10 +39,19 @@ module _ (m : ℕ) where
       go true e = tt
       go false e = (withoutFalse-proper c e a, tt)
 
-  implied-proper : (ls : List ℕ) (o : ℕ) → Proper m (pos o) → All (Proper m) ls → All (All (Proper m)) (implied ls o)
-  unfolding implied
-  implied-proper [] o h a = tt
-  implied-proper (l ∷ ls) o h a = ((opp-proper m l (a .0), (h, tt)), implied-proper ls o h (a .1))
+  pairs-proper : (ls : List ℕ) (p : ℕ) → Proper m p → All (Proper m) ls → All (All (Proper m)) (pairs ls p)
+  unfolding pairs
+  pairs-proper [] p h a = tt
+  pairs-proper (l ∷ ls) p h a = ((a .0, (h, tt)), pairs-proper ls p h (a .1))
+
+  -- the clauses of an OR or an AND
+  joined-proper : (xs ys : List ℕ) (p q : ℕ) → Proper m p → Proper m q → All (Proper m) xs → All (Proper m) ys
+      → All (All (Proper m)) (pairs xs p ++ (ys ++ q ∷ []) ∷ [])
+  joined-proper xs ys p q h k a b =
+      All-append (All (Proper m)) (pairs xs p) _ (pairs-proper xs p h a) (All-append (Proper m) ys (q ∷ []) b (k, tt), tt)
+
+  opposites-proper : (ls : List ℕ) → All (Proper m) ls → All (Proper m) (map opp ls)
+  opposites-proper ls a = All-map (Proper m) (Proper m) opp (λ l. opp-proper m l) ls a
 
   cell-proper : (x a b n : ℕ) → 1 ≤ n → n < m → x < 2 * n → a < 2 * n → b < 2 * n
       → All (All (Proper m)) (gateClauses (cell x a b) n)
@@ -64,22 +72,11 @@ module _ (m : ℕ) where
   unfolding gateClauses
   gate-proper (or ls) n p h r =
       let b = all-proper-up n m ls (omega arith) r in
-      All-append (All (Proper m)) (implied ls n) _ (implied-proper ls n (omega arith) b)
-      (All-append (Proper m) ls (neg n ∷ []) b (omega arith, tt), tt)
+      joined-proper (map opp ls) ls (pos n) (neg n) (omega arith) (omega arith) (opposites-proper ls b) b
+  gate-proper (and ls) n p h r =
+      let b = all-proper-up n m ls (omega arith) r in
+      joined-proper ls (map opp ls) (neg n) (pos n) (omega arith) (omega arith) b (opposites-proper ls b)
   gate-proper (cell x a b) n p h r = cell-proper x a b n p h (r .0 .before) (r .1) (r .2)
-  gate-proper (idling x g k) n p h r =
-      let v : Proper m (neg n) = omega arith in
-      let X = proper-up n m x (omega arith) (r .0) in
-      let G = proper-up n m g (omega arith) (r .1) in
-      let K = proper-up n m k (omega arith) (r .2) in (
-        (opp-proper m x X, (v, tt)),
-        ((G, (v, tt)), ((K, (v, tt)), ((X, (opp-proper m g G, (opp-proper m k K, (omega arith, tt)))), tt))),
-      )
-  gate-proper (short c d) n p h r =
-      let v : Proper m (neg n) = omega arith in
-      let C = proper-up n m c (omega arith) (r .0) in
-      let D = proper-up n m d (omega arith) (r .1) in
-      ((C, (v, tt)), ((opp-proper m d D, (v, tt)), ((opp-proper m c C, (D, (omega arith, tt))), tt)))
 
   -- the clauses of items in order, whose variables are all before m
   pub hard-literals : (n : ℕ) (is : List Item) → 1 ≤ n → n + gates is ≤ m → Ordered n is → All (All (Proper m)) (hardClauses n is)

@@ -5,7 +5,7 @@ use native.Mathlib.Nat.{add-zero, suc-add, add-suc}
 use native.Mathlib.Omega.{arith}
 use lib.ListN.{length}
 use Rattle.laws.specs.Lists.{All, All-weaken}
-use Rattle.scope.specs.Cnf.{Gate, or, cell, idling, short, Item, gate, hard, soft, gates}
+use Rattle.scope.specs.Cnf.{opp, Gate, or, and, cell, Item, gate, hard, soft, gates}
 use Rattle.theory.specs.Circuit.{gates-map}
 
 -- a literal, and no constant, of a variable before n
@@ -16,9 +16,8 @@ pub record Proper (n l : ℕ) : Type 0 where
 -- a gate's inputs are literals of variables before n; a cell's a and b may be constants
 abbrev pub Reads : ℕ → Gate → Type 0
 Reads n (or ls) = All (Proper n) ls
+Reads n (and ls) = All (Proper n) ls
 Reads n (cell x a b) = Proper n x × (a < 2 * n) × (b < 2 * n)
-Reads n (idling x g h) = Proper n x × Proper n g × Proper n h
-Reads n (short c d) = Proper n c × Proper n d
 
 -- the literals of an item are of variables before n
 abbrev pub ItemReads : ℕ → Item → Type 0
@@ -44,6 +43,10 @@ pub Ordered-gates : (n : ℕ) (gs : List Gate) (is : List Item) → Ordered n (m
     → Ordered n (map gate gs ++ is)
 Ordered-gates n gs is a b = Ordered-append n (map gate gs) is a (rw gates-map b)
 
+-- the opposite of a literal is one of the same variable
+pub opp-proper : (n l : ℕ) → Proper n l → Proper n (opp l)
+opp-proper n l p = record { literal = omega (arith, p .literal); before = omega (arith, p .before) }
+
 -- what reads variables before n reads variables before m, for n ≤ m
 pub proper-up : (n m l : ℕ) → n ≤ m → Proper n l → Proper m l
 proper-up n m l h p = record { literal = p .literal; before = omega (arith, p .before) }
@@ -53,9 +56,8 @@ all-proper-up n m ls h = All-weaken (Proper n) (Proper m) (λ l. proper-up n m l
 
 reads-up : (n m : ℕ) (g : Gate) → n ≤ m → Reads n g → Reads m g
 reads-up n m (or ls) h r = all-proper-up n m ls h r
+reads-up n m (and ls) h r = all-proper-up n m ls h r
 reads-up n m (cell x a b) h r = (proper-up n m x h (r .0), omega (arith, r .1), omega (arith, r .2))
-reads-up n m (idling x a b) h r = (proper-up n m x h (r .0), proper-up n m a h (r .1), proper-up n m b h (r .2))
-reads-up n m (short a b) h r = (proper-up n m a h (r .0), proper-up n m b h (r .1))
 
 -- items that all read variables before the first of them
 pub Ordered-all : (n m : ℕ) (is : List Item) → n ≤ m → All (ItemReads n) is → Ordered m is

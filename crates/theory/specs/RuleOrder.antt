@@ -12,15 +12,11 @@ use Rattle.laws.specs.Lists.{All, All-map, All-weaken, map-append}
 use Rattle.scope.specs.Kinds.{Atom, Entry, atom, anyOf, gap, Rule, from}
 use Rattle.scope.specs.Cnf.{neg, opp, Item, gate, hard, gates}
 use Rattle.scope.specs.Formula.{noRow, rowAt, row, counter, lastRow, ones, columns, unit, lowUnits, highUnits, shortUnits, boundItems, countInto, countItems, added, allAdded, entryGates, entryLiteral, listGates, listLiterals, ruleItems, rulesItems}
-use Rattle.theory.specs.Order.{Proper, ItemReads, Ordered, Ordered-append, Ordered-gates, Ordered-all, proper-up}
+use Rattle.theory.specs.Order.{Proper, ItemReads, Ordered, Ordered-append, Ordered-gates, Ordered-all, opp-proper, proper-up}
 use Rattle.theory.specs.Counter.{length-row, length-counter, rowOf, lastRow-row}
 use Rattle.theory.specs.Bounds.{columns-reach}
 use Rattle.theory.specs.Ranges.{from-all}
 use Rattle.theory.specs.Rules.{Atoms, ValidRule, length-entryGates, length-listGates, length-listLiterals}
-
--- the opposite of a literal is one of the same variable
-pub opp-proper : (n l : ℕ) → Proper n l → Proper n (opp l)
-opp-proper n l p = record { literal = omega (arith, p .literal); before = omega (arith, p .before) }
 
 -- the literals of a counter, which have weights
 abbrev pub Literals : ℕ → List (ℕ × ℕ) → Type 0
@@ -112,7 +108,7 @@ short-order w q j zero v p a c = tt
 short-order w q j (suc k) v p a c =
     let more : 0 < k → RowProper (suc j + k - 1) q (suc v) =
     λ _ i l h. proper-up v (suc v) (q i) (omega arith) (c (omega arith) i l (omega arith)) in (
-      (c (omega arith) 1 (omega arith) (omega arith), c (omega arith) j a (omega arith)),
+      (c (omega arith) 1 (omega arith) (omega arith), (opp-proper v (q j) (c (omega arith) j a (omega arith)), tt)),
       unit-order (suc v) w (neg v) (shortUnits w q (suc j) k (suc v)) (omega arith)
           (short-order w q (suc j) k (suc v) (omega arith) (omega arith) more),
     )
@@ -163,7 +159,7 @@ module _ (num : Atom → ℕ) (m : ℕ) where
     below-map earlier v h (g .0),
     (
       below-map later (suc v) (omega arith) (g .2),
-      ((proper-up m (suc (suc v)) (num here) (omega arith) (g .1), omega arith, omega arith), tt),
+      ((opp-proper (suc (suc v)) (num here) (proper-up m (suc (suc v)) (num here) (omega arith) (g .1)), (omega arith, (omega arith, tt))), tt),
     ),
   )
 

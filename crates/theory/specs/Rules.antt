@@ -1,17 +1,17 @@
 -- Rules: where the variables of the atoms say whether they are true, a rule's clauses and soft units are worth what the rule
 -- charges for its count.
-use mathlib.Core.Path.{_≡_, refl, ap, ap₂, _∙_}
-use mathlib.Core.Bool.{Bool, false}
+use mathlib.Core.Path.{_≡_, refl, sym, ap, ap₂, _∙_}
+use mathlib.Core.Bool.{Bool, false, not, _&&_, and-true, and-assoc}
 use mathlib.Core.List.{List, [], _∷_, map}
 use Prim.Native.Nat.{ℕ, suc, _+_, _*_, _≤_}
 use native.Mathlib.Omega.{arith}
 use lib.ListN.{length, length-append}
 use Rattle.laws.specs.Lists.{All, All-weaken, map-append}
 use Rattle.scope.specs.Kinds.{Atom, Entry, atom, anyOf, gap, Rule}
-use Rattle.scope.specs.Cnf.{Assignment, lit, value, gate, gates}
-use Rattle.scope.specs.Score.{charged, entryTrue, count}
+use Rattle.scope.specs.Cnf.{Assignment, lit, cube, value, gate, gates}
+use Rattle.scope.specs.Score.{charged, any, entryTrue, count}
 use Rattle.scope.specs.Formula.{added, allAdded, entryGates, entryLiteral, listGates, listLiterals, ruleItems, rulesItems}
-use Rattle.theory.specs.Gates.{lit-pos, clause-any}
+use Rattle.theory.specs.Gates.{lit-pos, lit-opp, clause-any}
 use Rattle.theory.specs.Circuit.{Holds, Holds-append, Holds-gates}
 use Rattle.theory.specs.Costs.{Scores, Costs, Scores-none, Scores-append, Scores-gates}
 use Rattle.theory.specs.Bounds.{count-costs}
@@ -78,7 +78,7 @@ Agrees num ν τ a = lit ν (num a) ≡ τ a
 module _ (num : Atom → ℕ) (ν : Assignment) (z : ν 0 ≡ false) (τ : Atom → Bool) where
   entry-agrees : (x : Entry) (v : ℕ) → Atoms (Agrees num ν τ) x → Holds ν v (map gate (entryGates num x v))
       → lit ν (entryLiteral num x v) ≡ entryTrue τ x
-  unfolding entryTrue value
+  unfolding entryTrue value cube
   entry-agrees (atom a) v g h = g
   entry-agrees (anyOf xs) v g h = lit-pos ν v ∙ h .0 ∙ clause-any ν num τ xs g
   entry-agrees (gap earlier here later) v g h =
@@ -86,7 +86,8 @@ module _ (num : Atom → ℕ) (ν : Assignment) (z : ν 0 ≡ false) (τ : Atom 
       let two : v + 2 ≡ suc (suc v) = omega arith in
       let e = lit-pos ν v ∙ h .0 ∙ clause-any ν num τ earlier (g .0) in
       let l = lit-pos ν (v + 1) ∙ ap ν one ∙ h .1 .0 ∙ clause-any ν num τ later (g .2) in
-      lit-pos ν (v + 2) ∙ ap ν two ∙ h .1 .1 .0 ∙ rw (e, l, g .1)
+      lit-pos ν (v + 2) ∙ ap ν two ∙ h .1 .1 .0 ∙ rw (lit-opp, e, l, g .1, and-true)
+      (sym (and-assoc (not (τ here)) (any (map τ earlier)) (any (map τ later))))
 
   list-agrees : (xs : List Entry) (v : ℕ) → All (Atoms (Agrees num ν τ)) xs → Holds ν v (map gate (listGates num xs v))
       → map (lit ν) (listLiterals num xs v) ≡ map (entryTrue τ) xs

@@ -12,10 +12,10 @@ use Rattle.scope.specs.Cnf.{Assignment, opp, lit, Item, gate, hard, soft, gates
 use Rattle.scope.specs.Formula.{noRow, counter, lastRow, negated, tail}
 use Rattle.theory.specs.Gates.{lit-opp}
 use Rattle.theory.specs.Circuit.{Holds, Holds-gates, Keeps}
-use Rattle.theory.specs.Order.{Ordered, Ordered-gates, proper-up}
+use Rattle.theory.specs.Order.{opp-proper, Ordered, Ordered-gates, proper-up}
 use Rattle.theory.specs.Counter.{total, counter-counts, length-counter}
 use Rattle.theory.specs.Costs.{Scores-gates, Costs-hard}
-use Rattle.theory.specs.RuleOrder.{opp-proper, Literals, counter-order, lastRow-proper}
+use Rattle.theory.specs.RuleOrder.{Literals, counter-order, lastRow-proper}
 
 -- the negated soft units that are true weigh what the soft units that are false weigh
 pub total-negated : (ν : Assignment) (us : List (ℕ × ℕ)) → total ν (negated us) ≡ falsified ν us

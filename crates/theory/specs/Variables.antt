@@ -9,7 +9,7 @@ use Rattle.laws.specs.Lists.{length-rows, getD-rows}
 use Rattle.scope.specs.Kinds.{Y, X, upTo, users}
 use Rattle.scope.specs.Instance.{Instance}
 use Rattle.scope.specs.Cnf.{Assignment, clause, Gate, or, value, gate, gates}
-use Rattle.scope.specs.Score.{var, eventCount}
+use Rattle.scope.specs.Score.{layout, var, eventCount}
 use Rattle.scope.specs.Formula.{num, startItems, starts, uses, rulesItems, allRules, primary, formula}
 use Rattle.theory.specs.Accepted.{Within}
 use Rattle.theory.specs.Circuit.{Holds, Holds-append, Holds-gates, Holds-at, gates-none}
@@ -64,7 +64,7 @@ module _ (i : Instance) where
 
   -- the variables after those of Y, S and X
   abbrev pub atomsEnd : ℕ
-  atomsEnd = primary i + i .resources * i .times + 1
+  atomsEnd = layout i .others + 1
 
   -- they follow those of the gates of X
   pub uses-end : primary i + 1 + length (uses i) ≡ atomsEnd

@@ -2,6 +2,9 @@
 // "starts".
 use crate::bytes::Found;
 use scope::Refusal;
+use scope::refusals::ABOVE_ONE;
+use scope::refusals::NOT_A_TIMETABLE;
+use scope::refusals::WRONG_LENGTH;
 ghost use mathlib.Core.Path.{_≡_};
 ghost use mathlib.Core.Bool.{not, _&&_, _||_};
 ghost use mathlib.Core.List.{map};
@@ -13,13 +16,6 @@ ghost use Rattle.scope.specs.Instance.{Instance};
 ghost use Rattle.scope.specs.Score.{all, ofTimetable};
 ghost use Rattle.timetable.specs.Answers.{foundAt, verdictAs};
 ghost use Rattle.timetable.specs.Right.{startAt, eventAt, wrongFrom, Lasts};
-
-// "wrong length"
-const WRONG_LENGTH: u8 = 10;
-// "a byte above 1"
-const ABOVE_ONE: u8 = 11;
-// "not a timetable"
-const NO_TIMETABLE: u8 = 12;
 
 // "a start is a taken time; a taken time whose predecessor isn't taken, or that is time 1, is a start"
 fn start_right(start: bool, taken: bool, before: bool) -> bool
@@ -115,7 +111,7 @@ pub fn checked(bytes: &[u8], durations: &[u8], events: usize, times: usize) -> V
     let wrong = first_wrong(bytes, durations, events, times);
     let Found::Nothing = wrong else {
         return Verdict::Refused(Refusal {
-            number: NO_TIMETABLE,
+            number: NOT_A_TIMETABLE,
             value: crate::bytes::place(wrong),
         });
     };

@@ -15,14 +15,14 @@ use Rattle.blocks.proofs.starts.write_event_starts.Statement.{statement
 use Rattle.blocks.proofs.starts.write_event_starts.Tie as tie
 
 abbrev Inv-loop : tie.InvT-loop
-Inv-loop job model text₀ words₀ times cells e y v z₀ t₀ text words z t =
+Inv-loop job model text₀ words₀ times starts e y v z₀ t₀ text words z t =
     (t ≤ times) × (length text ≡ length text₀) × (length words ≡ length words₀)
-    × Left (step job model) (2 * cells + 1) (flatMap (startClauses times cells (e + 1)) (after times t))
-    (2 * cells + 1) (flatMap (startClauses times cells (e + 1)) (after times 0))
+    × Left (step job model) 0 (flatMap (startClauses times starts (e + 1)) (after times t))
+    0 (flatMap (startClauses times starts (e + 1)) (after times 0))
     (world z₀ text₀ words₀) (world z text words)
 
 abbrev μ-loop : tie.MeasureT-loop
-μ-loop job model text₀ words₀ times cells e y v z₀ t₀ text words z t = times - t
+μ-loop job model text₀ words₀ times starts e y v z₀ t₀ text words z t = times - t
 
 mul-y : tie.Need-mul-y Inv-loop μ-loop
 mul-y c =
@@ -72,8 +72,8 @@ loop-again c =
       omega arith,
       search needs,
       search needs,
-      left-turn (flat-turn (a .times) (l .t) (startClauses (a .times) (a .cells) (a .e + 1)) (c .before .before .before .before .before .before .before .loop-test .taken)) (l .inv .3)
-          (start-wrote (a .times) (a .cells) (a .e) (l .t) (2 * a .cells + 1) (c .before .before .before .before .write-start .ensures)),
+      left-turn (flat-turn (a .times) (l .t) (startClauses (a .times) (a .starts) (a .e + 1)) (c .before .before .before .before .before .before .before .loop-test .taken)) (l .inv .3)
+          (start-wrote (a .times) (a .starts) (a .e) (l .t) 0 (c .before .before .before .before .write-start .ensures)),
     )
 
 same-length : tie.Need-same-length Inv-loop μ-loop
@@ -87,7 +87,7 @@ returns c =
     let a = c .before .before .before .before .before .args in
     let l = c .before .loop in
     rw (← (after-start (a .times)))
-    (left-end (flat-end (a .times) (l .t) (startClauses (a .times) (a .cells) (a .e + 1)) (c .loop-test .left)) (l .inv .3) .ran)
+    (left-end (flat-end (a .times) (l .t) (startClauses (a .times) (a .starts) (a .e + 1)) (c .loop-test .left)) (l .inv .3) .ran)
 
 pub write-event-starts-spec : {M : Type 1} → statement M
 write-event-starts-spec =

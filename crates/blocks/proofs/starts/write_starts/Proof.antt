@@ -16,18 +16,18 @@ use Rattle.blocks.proofs.starts.write_starts.Statement.{statement}
 use Rattle.blocks.proofs.starts.write_starts.Tie as tie
 
 -- the clauses of an event
-abbrev ofEvent : (T C : ℕ) → ℕ → List Item
-ofEvent T C e = flatMap (startClauses T C e) (upTo T)
+abbrev ofEvent : (T starts : ℕ) → ℕ → List Item
+ofEvent T starts e = flatMap (startClauses T starts e) (upTo T)
 
 abbrev Inv-loop : tie.InvT-loop
-Inv-loop job model text₀ words₀ events times cells z₀ e₀ text words z e =
+Inv-loop job model text₀ words₀ events times starts z₀ e₀ text words z e =
     (e ≤ events) × (length text ≡ length text₀) × (length words ≡ length words₀)
-    × Left (step job model) (2 * cells + 1) (flatMap (ofEvent times cells) (after events e))
-    (2 * cells + 1) (flatMap (ofEvent times cells) (after events 0))
+    × Left (step job model) 0 (flatMap (ofEvent times starts) (after events e))
+    0 (flatMap (ofEvent times starts) (after events 0))
     (world z₀ text₀ words₀) (world z text words)
 
 abbrev μ-loop : tie.MeasureT-loop
-μ-loop job model text₀ words₀ events times cells z₀ e₀ text words z e = events - e
+μ-loop job model text₀ words₀ events times starts z₀ e₀ text words z e = events - e
 
 loop-holds : tie.Need-loop-holds Inv-loop μ-loop
 loop-holds c = (omega arith, refl, refl, left-start refl)
@@ -48,8 +48,8 @@ loop-again c =
       omega arith,
       search needs,
       search needs,
-      left-turn (flat-turn (a .events) (l .e) (ofEvent (a .times) (a .cells)) (c .before .before .before .before .before .before .before .loop-test .taken)) (l .inv .3)
-          (event-wrote (a .times) (a .cells) (l .e + 1) (upTo (a .times)) (2 * a .cells + 1) (c .before .before .before .before .write-event-starts .ensures)),
+      left-turn (flat-turn (a .events) (l .e) (ofEvent (a .times) (a .starts)) (c .before .before .before .before .before .before .before .loop-test .taken)) (l .inv .3)
+          (event-wrote (a .times) (a .starts) (l .e + 1) (upTo (a .times)) 0 (c .before .before .before .before .write-event-starts .ensures)),
     )
 
 same-length : tie.Need-same-length Inv-loop μ-loop
@@ -63,7 +63,7 @@ returns c =
     let a = c .before .before .before .before .before .args in
     let l = c .before .loop in
     rw (← (after-start (a .events)))
-    (left-end (flat-end (a .events) (l .e) (ofEvent (a .times) (a .cells)) (c .loop-test .left)) (l .inv .3) .ran)
+    (left-end (flat-end (a .events) (l .e) (ofEvent (a .times) (a .starts)) (c .loop-test .left)) (l .inv .3) .ran)
 
 pub write-starts-spec : {M : Type 1} → statement M
 write-starts-spec =

@@ -4,7 +4,7 @@ use Prim.Native.Nat.{_-_, _≤_, _<_}
 use native.Mathlib.Omega.{arith}
 use borrow.Author.Needs.{needs}
 use lib.ListN.{length, drop}
-use Rattle.scope.specs.Cnf.{implied}
+use Rattle.scope.specs.Cnf.{pos, opp, pairs}
 use Rattle.sink.specs.Lines.{clauseLine}
 use Rattle.sink.specs.Run.{Todo, todo-start, todo-turn, todo-done}
 use Rattle.sink.specs.World.{world, step}
@@ -15,7 +15,7 @@ use Rattle.gates.proofs.clauses.write_pairs.Tie as tie
 abbrev Inv-loop : tie.InvT-loop
 Inv-loop job model text₀ words₀ lits o yes' z₀ i₀ i-end text words z i =
     (i ≤ i-end) × (i-end ≡ length lits) × (length text ≡ length text₀) × (length words ≡ length words₀)
-    × Todo (step job model) (map clauseLine (implied (drop i lits) o)) (map clauseLine (implied lits o)) (world z₀ text₀ words₀) (world z text words)
+    × Todo (step job model) (map clauseLine (pairs (map opp (drop i lits)) (pos o))) (map clauseLine (pairs (map opp lits) (pos o))) (world z₀ text₀ words₀) (world z text words)
 
 abbrev μ-loop : tie.MeasureT-loop
 μ-loop job model text₀ words₀ lits o yes' z₀ i₀ i-end text words z i = i-end - i

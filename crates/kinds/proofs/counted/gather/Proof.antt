@@ -3,6 +3,7 @@ use Prim.Native.Nat.{_-_}
 use native.Mathlib.Omega.{arith}
 use Rattle.number.specs.Lists.{length-leading}
 use Rattle.literals.specs.Words.{holds-none}
+use Rattle.literals.specs.Variables.{starts-block, uses-block}
 use Rattle.literals.specs.Numbered.{numbered}
 use Rattle.kinds.specs.Ground.{ground-sizes, ground-event, ground-resource, ground-group, ground-ascends}
 use Rattle.kinds.specs.Counted.{countedList}
@@ -11,8 +12,8 @@ use borrow.Author.Needs.{needs}
 use Rattle.kinds.proofs.counted.gather.Statement.{statement}
 use Rattle.kinds.proofs.counted.gather.Tie as tie
 
-cells-requires : tie.Need-cells-requires
-cells-requires c κs = let g = c .before .before .before .pre .0 .ground in (g .times, g .events)
+numbering-requires : tie.Need-numbering-requires
+numbering-requires c κs = let g = c .before .before .before .pre .0 .ground in (g .times, (g .events, g .resources))
 
 enum-told : tie.Need-enum-told
 enum-told c = search needs
@@ -24,7 +25,7 @@ x-of-group-requires : tie.Need-x-of-group-requires
 x-of-group-requires c κs =
     let f = c .before .before .before .before .before .before .before .before .pre .0 in
     let r = rw (c .before .before .kind .given .1) at (f .range) in
-    (ground-group (f .ground) (r .1), (rw (c .before .before .before .before .cells .ensures) (ground-sizes (f .ground)), (ground-resource (f .ground) (r .0), omega arith)))
+    (ground-group (f .ground) (r .1), (rw (c .before .before .before .before .numbering .ensures) (uses-block (ground-sizes (f .ground))), (ground-resource (f .ground) (r .0), omega arith)))
 
 enum-known-kind-2 : tie.Need-enum-known-kind-2
 enum-known-kind-2 c = search needs
@@ -42,7 +43,7 @@ s-of-event-requires : tie.Need-s-of-event-requires
 s-of-event-requires c κs =
     let f = c .before .before .before .before .before .before .before .before .pre .0 in
     let r = rw (c .before .before .kind3 .given .1) at (f .range) in
-    (rw (c .before .before .before .before .cells .ensures) (ground-sizes (f .ground)), (ground-event (f .ground) (r .0), omega (arith, f .ground .times)))
+    (rw (c .before .before .before .before .numbering .ensures) (starts-block (ground-sizes (f .ground))), (ground-event (f .ground) (r .0), omega (arith, f .ground .times)))
 
 enum-known-kind-4 : tie.Need-enum-known-kind-4
 enum-known-kind-4 c = search needs
@@ -54,7 +55,7 @@ s-spread-requires : tie.Need-s-spread-requires
 s-spread-requires c κs =
     let f = rw (c .before .before .before .kind4 .given .1) at (c .before .before .before .before .before .before .before .before .before .pre .0) in
     let e = spread-fit _ _ _ _ _ _ _ f in
-    (e .within, (e .room, (ground-group (f .ground) (f .range .1), (rw (c .before .before .before .before .before .cells .ensures) (ground-sizes (f .ground)), omega (arith, e .count)))))
+    (e .within, (e .room, (ground-group (f .ground) (f .range .1), (rw (c .before .before .before .before .before .numbering .ensures) (starts-block (ground-sizes (f .ground))), omega (arith, e .count)))))
 
 enum-known-kind-5 : tie.Need-enum-known-kind-5
 enum-known-kind-5 c = search needs
@@ -63,7 +64,7 @@ x-of-group-requires-2 : tie.Need-x-of-group-requires-2
 x-of-group-requires-2 c κs =
     let f = c .before .before .before .before .before .before .before .before .pre .0 in
     let r = rw (c .before .before .kind5 .given .1) at (f .range) in
-    (ground-group (f .ground) (r .1), (rw (c .before .before .before .before .cells .ensures) (ground-sizes (f .ground)), (ground-resource (f .ground) (r .0), omega arith)))
+    (ground-group (f .ground) (r .1), (rw (c .before .before .before .before .numbering .ensures) (uses-block (ground-sizes (f .ground))), (ground-resource (f .ground) (r .0), omega arith)))
 
 enum-known-kind-6 : tie.Need-enum-known-kind-6
 enum-known-kind-6 c = search needs
@@ -101,7 +102,7 @@ same-length c = search needs
 
 returns-2 : tie.Need-returns-2
 unfolding countedList numbered
-returns-2 c = rw (c .before .before .before .before .before .kind .given .1) (rw (c .before .before .before .before .before .before .before .cells .ensures) at (c .before .before .x-of-group .ensures))
+returns-2 c = rw (c .before .before .before .before .before .kind .given .1) (rw (c .before .before .before .before .before .before .before .numbering .ensures) at (c .before .before .x-of-group .ensures))
 
 same-length-2 : tie.Need-same-length-2
 same-length-2 c = search needs
@@ -115,7 +116,7 @@ same-length-3 c = search needs
 
 returns-4 : tie.Need-returns-4
 unfolding countedList numbered
-returns-4 c = rw (c .before .before .before .before .before .kind3 .given .1) (rw (c .before .before .before .before .before .before .before .cells .ensures) at (c .before .before .s-of-event .ensures))
+returns-4 c = rw (c .before .before .before .before .before .kind3 .given .1) (rw (c .before .before .before .before .before .before .before .numbering .ensures) at (c .before .before .s-of-event .ensures))
 
 same-length-4 : tie.Need-same-length-4
 same-length-4 c = search needs
@@ -124,14 +125,14 @@ returns-5 : tie.Need-returns-5
 unfolding countedList numbered
 returns-5 c =
     let e = spread-fit _ _ _ _ _ _ _ (rw (c .before .before .before .before .before .before .kind4 .given .1) at (c .before .before .before .before .before .before .before .before .before .before .before .before .pre .0)) in
-    rw (c .before .before .before .before .before .before .kind4 .given .1, e .same) (rw (c .before .before .before .before .before .before .before .before .cells .ensures) at (c .before .before .s-spread .ensures))
+    rw (c .before .before .before .before .before .before .kind4 .given .1, e .same) (rw (c .before .before .before .before .before .before .before .before .numbering .ensures) at (c .before .before .s-spread .ensures))
 
 same-length-5 : tie.Need-same-length-5
 same-length-5 c = search needs
 
 returns-6 : tie.Need-returns-6
 unfolding countedList numbered
-returns-6 c = rw (c .before .before .before .before .before .kind5 .given .1) (rw (c .before .before .before .before .before .before .before .cells .ensures) at (c .before .before .x-of-group2 .ensures))
+returns-6 c = rw (c .before .before .before .before .before .kind5 .given .1) (rw (c .before .before .before .before .before .before .before .numbering .ensures) at (c .before .before .x-of-group2 .ensures))
 
 same-length-6 : tie.Need-same-length-6
 same-length-6 c = search needs
@@ -153,7 +154,7 @@ pub gather-spec : {M : Type 1} → statement M
 gather-spec =
     tie.close
     (tie.spec
-    cells-requires
+    numbering-requires
     enum-told
     enum-known-kind
     x-of-group-requires

@@ -10,22 +10,23 @@ use Rattle.items.specs.Written.{Room, Left, left-start, left-room, left-end}
 use Rattle.kinds.specs.Ground.{ground-sizes, ground-resource, ground-group}
 use Rattle.kinds.specs.GroupUses.{leading-at, uses-proper, uses-count}
 use Rattle.kinds.proofs.GroupGaps.{idleLeft, idle-turn, idle-room, idle-end}
+use Rattle.literals.specs.Variables.{uses-block}
 use borrow.Author.Needs.{needs}
 use Rattle.kinds.proofs.gaps.write_gaps.Statement.{statement}
 use Rattle.kinds.proofs.gaps.write_gaps.Tie as tie
 
 abbrev Inv-loop : tie.InvT-loop
-Inv-loop job model text₀ words₀ resource groups list count v buf₀ times cells sink₀ next₀ i₀ text words buf sink next i =
+Inv-loop job model text₀ words₀ resource groups list count v buf₀ times uses sink₀ next₀ i₀ text words buf sink next i =
     (i ≤ count) × (length text ≡ length text₀) × (length words ≡ length words₀) × (length buf ≡ 126) × (1 ≤ next)
-    × Left (step job model) next (idleLeft times cells (groupIn groups) resource list count i next)
-    v (idleLeft times cells (groupIn groups) resource list count 0 v)
+    × Left (step job model) next (idleLeft times uses (groupIn groups) resource list count i next)
+    v (idleLeft times uses (groupIn groups) resource list count 0 v)
     (world sink₀ text₀ words₀) (world sink text words)
 
 abbrev μ-loop : tie.MeasureT-loop
-μ-loop job model text₀ words₀ resource groups list count v buf₀ times cells sink₀ next₀ i₀ text words buf sink next i = count - i
+μ-loop job model text₀ words₀ resource groups list count v buf₀ times uses sink₀ next₀ i₀ text words buf sink next i = count - i
 
-cells-requires : tie.Need-cells-requires Inv-loop μ-loop
-cells-requires c κs = let g = c .before .before .before .before .before .pre .0 in (g .times, g .events)
+uses-before-requires : tie.Need-uses-before-requires Inv-loop μ-loop
+uses-before-requires c κs = let g = c .before .before .before .before .before .pre .0 in (g .times, (g .events, g .resources))
 
 loop-holds : tie.Need-loop-holds Inv-loop μ-loop
 loop-holds c = (omega arith, refl, refl, refl, c .before .before .before .before .before .before .pre .1 .1 .1 .1 .some, left-start refl)
@@ -50,7 +51,7 @@ x-of-group-requires c κs =
     let a = c .before .before .before .before .before .before .before .before .before .before .args in
     let p = c .before .before .before .before .before .before .before .before .before .before .pre in
     let o = leading-at (a .list .now) (a .count) (c .before .before .before .loop .i) (p .1 .1 .0) (c .before .before .loop-test .taken) in
-    (ground-group (p .0) o, (rw (c .before .before .before .before .cells .ensures) (ground-sizes (p .0)), (ground-resource (p .0) (p .1 .0), omega arith)))
+    (ground-group (p .0) o, (rw (c .before .before .before .before .uses-before .ensures) (uses-block (ground-sizes (p .0))), (ground-resource (p .0) (p .1 .0), omega arith)))
 
 slice-aggregate-write-group-gaps : tie.Need-slice-aggregate-write-group-gaps Inv-loop μ-loop
 slice-aggregate-write-group-gaps c = search needs
@@ -63,8 +64,8 @@ write-group-gaps-requires c κs =
     let t = c .before .before .before .before .before .before .before .loop-test .taken in
     let o = leading-at (a .list .now) (a .count) (l .i) (p .1 .1 .0) t in
     let h = c .before .before .before .before .x-of-group .ensures in
-    let k = rw (c .before .before .before .before .before .before .before .before .before .cells .ensures) at h in
-    let room : Room (a .v) (idleLeft (a .head .times) (c .before .before .before .before .before .before .before .before .before .cells .result) (groupIn (a .groups .now)) (a .resource) (a .list .now) (a .count) 0 (a .v)) = rw (c .before .before .before .before .before .before .before .before .before .cells .ensures) (p .1 .1 .1 .1) in
+    let k = rw (c .before .before .before .before .before .before .before .before .before .uses-before .ensures) at h in
+    let room : Room (a .v) (idleLeft (a .head .times) (c .before .before .before .before .before .before .before .before .before .uses-before .result) (groupIn (a .groups .now)) (a .resource) (a .list .now) (a .count) 0 (a .v)) = rw (c .before .before .before .before .before .before .before .before .before .uses-before .ensures) (p .1 .1 .1 .1) in
     let left = left-room (l .inv .4) (l .inv .5) room in (
       held-literals k (uses-proper (p .0) (p .1 .0) o),
       (
@@ -102,7 +103,7 @@ returns : tie.Need-returns Inv-loop μ-loop
 returns c =
     let a = c .before .before .before .before .before .before .before .before .args in
     let l = c .before .loop in
-    rw (← (c .before .before .cells .ensures))
+    rw (← (c .before .before .uses-before .ensures))
     (left-end (idle-end _ _ (groupIn (a .groups .now)) (a .resource) (a .list .now) (a .count) (l .i) (l .next) (c .loop-test .left)) (l .inv .5))
 
 pub write-gaps-spec : {M : Type 1} → statement M
@@ -111,7 +112,7 @@ write-gaps-spec =
     (tie.spec
     Inv-loop
     μ-loop
-    cells-requires
+    uses-before-requires
     loop-holds
     cast-k
     mul-g

@@ -9,22 +9,23 @@ use Rattle.items.specs.Held.{held-literals}
 use Rattle.items.specs.Written.{Left, left-start, left-turn, left-end}
 use Rattle.kinds.specs.Ground.{ground-sizes, ground-resource, ground-group}
 use Rattle.kinds.specs.GroupUses.{leading-at, uses-proper, uses-count, orsLeft, ors-turn, ors-end, or-wrote}
+use Rattle.literals.specs.Variables.{uses-block}
 use borrow.Author.Needs.{needs}
 use Rattle.kinds.proofs.ors.write_ors.Statement.{statement}
 use Rattle.kinds.proofs.ors.write_ors.Tie as tie
 
 abbrev Inv-loop : tie.InvT-loop
-Inv-loop job model text₀ words₀ resource groups list count v buf₀ times cells z₀ i₀ text words buf z i =
+Inv-loop job model text₀ words₀ resource groups list count v buf₀ times uses z₀ i₀ text words buf z i =
     (i ≤ count) × (length text ≡ length text₀) × (length words ≡ length words₀) × (length buf ≡ 126)
-    × Left (step job model) (v + i) (orsLeft times cells (groupIn groups) resource list count i)
-    v (orsLeft times cells (groupIn groups) resource list count 0)
+    × Left (step job model) (v + i) (orsLeft times uses (groupIn groups) resource list count i)
+    v (orsLeft times uses (groupIn groups) resource list count 0)
     (world z₀ text₀ words₀) (world z text words)
 
 abbrev μ-loop : tie.MeasureT-loop
-μ-loop job model text₀ words₀ resource groups list count v buf₀ times cells z₀ i₀ text words buf z i = count - i
+μ-loop job model text₀ words₀ resource groups list count v buf₀ times uses z₀ i₀ text words buf z i = count - i
 
-cells-requires : tie.Need-cells-requires Inv-loop μ-loop
-cells-requires c κs = let g = c .before .before .before .before .before .pre .0 in (g .times, g .events)
+uses-before-requires : tie.Need-uses-before-requires Inv-loop μ-loop
+uses-before-requires c κs = let g = c .before .before .before .before .before .pre .0 in (g .times, (g .events, g .resources))
 
 loop-holds : tie.Need-loop-holds Inv-loop μ-loop
 loop-holds c = (omega arith, refl, refl, refl, left-start (omega arith))
@@ -49,7 +50,7 @@ x-of-group-requires c κs =
     let a = c .before .before .before .before .before .before .before .before .before .before .args in
     let p = c .before .before .before .before .before .before .before .before .before .before .pre in
     let o = leading-at (a .list .now) (a .count) (c .before .before .before .loop .i) (p .1 .1 .0) (c .before .before .loop-test .taken) in
-    (ground-group (p .0) o, (rw (c .before .before .before .before .cells .ensures) (ground-sizes (p .0)), (ground-resource (p .0) (p .1 .0), omega arith)))
+    (ground-group (p .0) o, (rw (c .before .before .before .before .uses-before .ensures) (uses-block (ground-sizes (p .0))), (ground-resource (p .0) (p .1 .0), omega arith)))
 
 slice-aggregate-write-or : tie.Need-slice-aggregate-write-or Inv-loop μ-loop
 slice-aggregate-write-or c = search needs
@@ -62,7 +63,7 @@ write-or-requires c κs =
     let a = c .before .before .before .before .before .before .before .before .before .before .before .before .before .before .before .args in
     let p = c .before .before .before .before .before .before .before .before .before .before .before .before .before .before .before .pre in
     let o = leading-at (a .list .now) (a .count) (c .before .before .before .before .before .before .before .before .loop .i) (p .1 .1 .0) (c .before .before .before .before .before .before .before .loop-test .taken) in
-    let h = rw (c .before .before .before .before .before .before .before .before .before .cells .ensures) at (c .before .before .before .before .x-of-group .ensures) in
+    let h = rw (c .before .before .before .before .before .before .before .before .before .uses-before .ensures) at (c .before .before .before .before .x-of-group .ensures) in
     (omega (arith, h .count, uses-count (p .0) (p .1 .0) o), held-literals h (uses-proper (p .0) (p .1 .0) o), omega arith)
 
 add-i : tie.Need-add-i Inv-loop μ-loop
@@ -93,7 +94,7 @@ returns : tie.Need-returns Inv-loop μ-loop
 returns c =
     let a = c .before .before .before .before .before .before .before .before .args in
     let l = c .before .loop in
-    rw (← (c .before .before .cells .ensures))
+    rw (← (c .before .before .uses-before .ensures))
     (left-end (ors-end _ _ (groupIn (a .groups .now)) (a .resource) (a .list .now) (a .count) (l .i) (c .loop-test .left)) (l .inv .4) .ran)
 
 pub write-ors-spec : {M : Type 1} → statement M
@@ -102,7 +103,7 @@ write-ors-spec =
     (tie.spec
     Inv-loop
     μ-loop
-    cells-requires
+    uses-before-requires
     loop-holds
     cast-k
     mul-g

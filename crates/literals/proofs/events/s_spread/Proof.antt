@@ -7,7 +7,7 @@ use native.Mathlib.Omega.{arith}
 use native.Mathlib.Nat.{mul-le-mul-right}
 use lib.ListN.{length, length-map}
 use Rattle.tables.specs.Rows.{rowAt}
-use Rattle.literals.specs.Variables.{sAt}
+use Rattle.literals.specs.Variables.{inBlock}
 use Rattle.literals.specs.Words.{holds-as}
 use Rattle.literals.proofs.Turns.{Flattened, flattened-none, flattened-more, flattened-size, within-at}
 use borrow.Author.Needs.{needs}
@@ -15,10 +15,10 @@ use Rattle.literals.proofs.events.s_spread.Statement.{statement}
 use Rattle.literals.proofs.events.s_spread.Tie as tie
 
 abbrev Inv-loop : tie.InvT-loop
-Inv-loop list n groups g times cells out₀ at₀ k₀ out at k = (k ≤ n) × (at ≡ k * length (rowAt groups (g - 1))) × (length out ≡ length out₀) × Flattened (λ e. map (sAt times cells e) (rowAt groups (g - 1))) list out at k
+Inv-loop list n groups g times starts out₀ at₀ k₀ out at k = (k ≤ n) × (at ≡ k * length (rowAt groups (g - 1))) × (length out ≡ length out₀) × Flattened (λ e. map (inBlock times starts e) (rowAt groups (g - 1))) list out at k
 
 abbrev μ-loop : tie.MeasureT-loop
-μ-loop list n groups g times cells out₀ at₀ k₀ out at k = n - k
+μ-loop list n groups g times starts out₀ at₀ k₀ out at k = n - k
 
 loop-holds : tie.Need-loop-holds Inv-loop μ-loop
 loop-holds c = (omega arith, omega arith, refl, flattened-none _ _ _)

@@ -3,9 +3,6 @@ use borrow.Author.Needs.{needs}
 use Rattle.literals.proofs.times.x_of_group.Statement.{statement}
 use Rattle.literals.proofs.times.x_of_group.Tie as tie
 
-mul-base : tie.Need-mul-base
-mul-base c = search needs
-
 base-requires : tie.Need-base-requires
 base-requires c κs = search needs
 
@@ -20,4 +17,4 @@ returns c = rw (c .before .before .before .before .base .ensures .value) at (c .
 
 pub x-of-group-spec : {M : Type 1} → statement M
 x-of-group-spec =
-    tie.close (tie.spec mul-base base-requires group-times-requires same-length returns)
+    tie.close (tie.spec base-requires group-times-requires same-length returns)

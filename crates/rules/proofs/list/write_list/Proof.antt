@@ -4,7 +4,7 @@ use native.Mathlib.Omega.{arith}
 use Rattle.constraint.specs.Answers.{kindOf}
 use Rattle.literals.specs.Tables.{groupIn}
 use Rattle.items.specs.Held.{held-length, front-literals}
-use Rattle.kinds.specs.Ground.{cellsOf}
+use Rattle.kinds.specs.Ground.{layoutOf}
 use Rattle.kinds.specs.Counted.{listIn}
 use Rattle.kinds.specs.Literals.{list-proper}
 use Rattle.rules.proofs.CountedList.{gates-room, gates-in, rest-fits, list-wrote}
@@ -42,7 +42,7 @@ write-counted-requires c κs =
     let l = listIn (a .groups .now) (a .head) k in
     let g = c .before .before .before .before .before .before .before .before .before .before .before .before .write-gates .ensures in
     let h = c .before .before .before .before .before .gather .ensures in
-    let b = c .before .before .before .bounds-of .ensures .eq (a .head .times) (cellsOf (a .head)) (groupIn (a .groups .now)) (a .list .now) in
+    let b = c .before .before .before .bounds-of .ensures .eq (a .head .times) (layoutOf (a .head)) (groupIn (a .groups .now)) (a .list .now) in
     let i = gates-in (a .c .weight) (a .groups .now) (a .head) k (a .v) g (p .1) in
     let short = p .0 .short (a .v) in (
       front-literals h (list-proper (a .groups .now) (a .list .now) (a .head) (a .v) _ (p .1 .some) k (p .0) i) (omega (arith, h .count, short)),
@@ -62,7 +62,7 @@ returns : tie.Need-returns
 returns c =
     let a = c .before .before .before .before .before .before .before .before .before .before .before .before .before .before .before .before .before .before .before .before .before .before .before .before .before .args in
     let l = listIn (a .groups .now) (a .head) (kindOf (a .list .now) (a .c .kind)) in
-    let b = c .before .before .before .before .before .before .before .before .bounds-of .ensures .eq (a .head .times) (cellsOf (a .head)) (groupIn (a .groups .now)) (a .list .now) in
+    let b = c .before .before .before .before .before .before .before .before .bounds-of .ensures .eq (a .head .times) (layoutOf (a .head)) (groupIn (a .groups .now)) (a .list .now) in
     list-wrote (a .c .weight) l (a .v) (c .before .before .before .before .before .before .before .before .before .before .before .before .before .before .before .before .before .write-gates .ensures) b (c .before .before .before .before .before .before .before .before .before .before .gather .ensures) (c .before .before .before .before .write-counted .ensures)
 
 pub write-list-spec : {M : Type 1} → statement M
