@@ -1,0 +1,4 @@
+pub mod Literals
+pub mod Cells
+pub mod Rows
+pub mod Evaluate
