@@ -1,17 +1,19 @@
 -- The words of a counter's cells.
-use mathlib.Core.Path.{_≡_, refl, ap, _∙_}
+use mathlib.Core.Path.{_≡_, refl, ap, sym, _∙_}
 use mathlib.Core.Bool.{Bool, true, false, cond}
 use mathlib.Core.List.{List, [], _∷_, _++_, map, flatMap, append-nil}
 use Prim.Native.Nat.{ℕ, zero, suc, _+_, _-_, _*_, _≤_, _<_}
+use native.Mathlib.Nat.{zero-add}
+use native.Mathlib.Numerals.{add-one}
 use native.Mathlib.Omega.{arith}
-use lib.ListN.{length, take, drop}
-use lib.Seq.{sets, sets-eq, length-sets, take-at}
+use lib.ListN.{length, take, drop, set}
+use lib.Seq.{sets, sets-eq, take-at}
 use borrow.Author.Tests.{ne-eqb}
 use Rattle.scope.specs.Cnf.{pos, neg, opp, hasTrue, withoutFalse, tidy, Gate, cell, gate, gateClauses}
-use Rattle.sink.specs.Run.{Ran}
+use Rattle.sink.specs.Run.{Ran, out, put, ran-sets}
 use Rattle.sink.specs.Lines.{Line, clauseLine, lines}
 use Rattle.sink.specs.World.{World, rowOver}
-use Rattle.sink.specs.Block.{mark, split, Marks, marks}
+use Rattle.sink.specs.Block.{mark, split, mark-split, Marks, marks}
 use Rattle.counters.specs.Literals.{Literal, Variable}
 
 -- tidying a clause, literal by literal
@@ -137,21 +139,70 @@ module _ {x w prev o j : ℕ} (lx : Literal x) (lo : Variable o) {nx : ℕ} (ex 
       rw (v .0, v .1, cell-both x (2 * a) (2 * b) o (lx .some) (omega (arith, z)) (omega (arith, z)) (lo .some), ex, opp-pos a, opp-pos b)
       (marks (((2 * a + 1) ∷ pos o ∷ []) ∷ (opp x ∷ (2 * b + 1) ∷ pos o ∷ []) ∷ (x ∷ 2 * a ∷ neg o ∷ []) ∷ (2 * b ∷ 2 * a ∷ neg o ∷ []) ∷ []) (omega (arith, lx, lo)))
 
--- the block of some clauses stored in the first n words of a list
-pub record Stored (n : ℕ) (l : List ℕ) (cs : List (List ℕ)) : Type 0 where
-  pub marked : Marks (take n l) cs
-  pub within : n ≤ length l
+-- the block of a cell's clauses stored from the place a up to n
+pub record StoredAt (a n : ℕ) (l l′ : List ℕ) (cs : List (List ℕ)) : Type 0 where
+  pub block : List ℕ
+  pub marked : Marks block cs
+  pub few : length block ≤ 11
+  pub stored : l′ ≡ sets l a block
+  pub end : n ≡ a + length block
 
-pub stored : {xs : List ℕ} {cs : List (List ℕ)} (l : List ℕ) → length xs ≤ length l → Marks xs cs → Stored (length xs) (sets l 0 xs) cs
-stored {xs} l h m =
-    let e : sets l 0 xs ≡ xs ++ drop (0 + length xs) l = sets-eq xs l 0 (omega arith) in
-    record {
-      marked = rw (e, take-at xs (drop (0 + length xs) l) (length xs) refl) m;
-      within = omega (arith, length-sets l 0 xs);
-    }
+-- stores one after another, as the code numbers them
+abbrev setsFrom : List ℕ → List ℕ → ℕ → ℕ → List ℕ
+setsFrom [] l a k = l
+setsFrom (x ∷ xs) l a k = setsFrom xs (set l (a + k) x) a (k + 1)
+
+sets-from : (xs l : List ℕ) (a k : ℕ) → setsFrom xs l a k ≡ sets l (a + k) xs
+sets-from [] l a k = refl
+sets-from (x ∷ xs) l a k =
+    let e : a + (k + 1) ≡ suc (a + k) = omega arith in sets-from xs (set l (a + k) x) a (k + 1) ∙ rw e
+
+pub stored : {x : ℕ} {xs : List ℕ} {cs : List (List ℕ)} (l : List ℕ) (a : ℕ) → Marks (x ∷ xs) cs → length (x ∷ xs) ≤ 11
+    → StoredAt a (a + length (x ∷ xs)) l (setsFrom xs (set l a x) a 1) cs
+stored {x} {xs} l a m h =
+    record { block = x ∷ xs; marked = m; few = h; stored = sets-from xs (set l a x) a 1 ∙ rw add-one; end = refl }
+
+-- a block at the start of a list
+pub stored-first : {n : ℕ} {l l′ : List ℕ} {cs : List (List ℕ)} → StoredAt 0 n l l′ cs → 11 ≤ length l → Marks (take n l′) cs
+stored-first {n} {l} s h =
+    let b : List ℕ = s .block in
+    let e : sets l 0 b ≡ b ++ drop (0 + length b) l = sets-eq b l 0 (omega (arith, s .few)) in
+    let k : n ≡ length b = s .end ∙ zero-add (length b) in
+    rw (s .stored, e, take-at b (drop (0 + length b) l) n (sym k)) (s .marked)
+
+-- a stored block is a run of stores
+pub stored-ran : {a n : ℕ} {l l′ : List ℕ} {cs : List (List ℕ)} → StoredAt a n l l′ cs → a + 11 ≤ 9223372036854775807
+    → Ran put (flatMap mark cs) (out a l) (out n l′)
+stored-ran {a} {n} {l} {cs = cs} s h =
+    let e : flatMap mark cs ≡ s .block = ap (flatMap mark) (sym (s .marked .clauses)) ∙ mark-split (s .block) (s .marked .whole) in
+    rw (e, s .stored) (ran-sets (s .block) l a n (omega (arith, s .few)) (s .end))
 
 -- a run over a block's clauses is the run over the lines of their gate
 pub gate-ran : {f : Line → World → World} (g : Gate) (o : ℕ) {b : List ℕ} {w w′ : World} → Marks b (gateClauses g o)
     → Ran f (map clauseLine (split b)) w w′ → Ran f (lines o (gate g ∷ [])) w w′
 unfolding lines
 gate-ran g o h r = rw (append-nil (map clauseLine (gateClauses g o)), ← h .clauses) r
+
+-- the clauses of a later row's cell by variables: over x, a above it and b a column before that, with the output o
+abbrev pub upperClauses : ℕ → ℕ → ℕ → ℕ → List (List ℕ)
+upperClauses x a b o = (neg a ∷ pos o ∷ []) ∷ (opp x ∷ neg b ∷ pos o ∷ []) ∷ []
+
+abbrev pub lowerClauses : ℕ → ℕ → ℕ → ℕ → List (List ℕ)
+lowerClauses x a b o = (x ∷ pos a ∷ neg o ∷ []) ∷ (pos b ∷ pos a ∷ neg o ∷ []) ∷ []
+
+abbrev pub fullClauses : ℕ → ℕ → ℕ → ℕ → List (List ℕ)
+fullClauses x a b o = upperClauses x a b o ++ lowerClauses x a b o
+
+-- and of one that the weight reaches
+abbrev pub lowClauses : ℕ → ℕ → ℕ → List (List ℕ)
+lowClauses x a o = (neg a ∷ pos o ∷ []) ∷ (opp x ∷ pos o ∷ []) ∷ (x ∷ pos a ∷ neg o ∷ []) ∷ []
+
+pub full-cell : (x prev j o w : ℕ) → 2 ≤ x → 1 ≤ prev → 1 ≤ o → w ≤ j → gateClauses (cellAt x w prev j) o ≡ fullClauses x (prev + j) (prev + (j - w)) o
+full-cell x prev j o w lx p lo h =
+    let v = over-both prev j w (λ e. omega arith) h in
+    rw (v .0, v .1, cell-both x (2 * (prev + j)) (2 * (prev + (j - w))) o lx (omega arith) (omega arith) lo, opp-pos (prev + j), opp-pos (prev + (j - w)))
+
+pub low-cell : (x prev j o w : ℕ) → 2 ≤ x → 1 ≤ prev → 1 ≤ o → j < w → gateClauses (cellAt x w prev j) o ≡ lowClauses x (prev + j) o
+low-cell x prev j o w lx p lo h =
+    let v = over-least prev j w (λ e. omega arith) h in
+    rw (v .0, v .1, cell-least x (2 * (prev + j)) o lx (omega arith) lo, opp-pos (prev + j))

@@ -5,6 +5,9 @@ ghost use Rattle.scope.specs.Cnf.{opp};
 
 pub mod cells;
 mod evaluate;
+mod row_size;
+mod row_text;
+mod row_words;
 
 // What marks the last word of a clause.
 const LAST: u32 = 2147483648;

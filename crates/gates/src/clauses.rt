@@ -104,7 +104,14 @@ fn write_pairs(
     let yes = 2 * o + LAST;
     let mut z = s;
     for i in 0..lits.len() {
-        z = sink::emit(job, model, text, words, z, &[counters::opposite(lits[i]), yes]);
+        z = sink::emit(
+            job,
+            model,
+            text,
+            words,
+            z,
+            &[counters::opposite(lits[i]), yes],
+        );
     }
     z
 }
