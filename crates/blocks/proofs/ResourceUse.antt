@@ -10,8 +10,8 @@ use Rattle.number.specs.Each.{Each}
 use Rattle.sink.specs.Run.{Ran}
 use Rattle.sink.specs.Lines.{Line, lines, map-append}
 use Rattle.sink.specs.World.{World}
-use Rattle.gates.specs.Literals.{LiteralsTo}
-use Rattle.gates.specs.Rows.{gates-map}
+use Rattle.counters.specs.Literals.{LiteralsTo}
+use Rattle.counters.specs.Rows.{gates-map}
 use Rattle.literals.specs.Variables.{yAt, Within}
 use Rattle.literals.specs.Words.{Holds}
 use Rattle.literals.specs.Proper.{events-proper}

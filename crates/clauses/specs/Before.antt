@@ -11,7 +11,7 @@ use Rattle.scope.specs.Cnf.{Item, gate, hard, soft, gates}
 use Rattle.sink.specs.Run.{Ran}
 use Rattle.sink.specs.Lines.{Line, clauseLine, softLine, lines}
 use Rattle.sink.specs.World.{World}
-use Rattle.gates.specs.Rows.{gates-map}
+use Rattle.counters.specs.Rows.{gates-map}
 use Rattle.literals.specs.Numbered.{allNumbered, durationLists, startClauses, useGates, constraintItems, listItems, numberedFormula}
 use Rattle.items.specs.Written.{gates-both, Room, Wrote, wrote-then}
 use Rattle.items.specs.Numbers.{length-upTo}

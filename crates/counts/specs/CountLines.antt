@@ -13,7 +13,7 @@ use Rattle.scope.specs.Formula.{noRow, rowAt, row, counter, lastRow, ones, unit
 use Rattle.sink.specs.Lines.{lines, lines-append}
 use Rattle.sink.specs.Tails.{row-length, last-at, last-row}
 use Rattle.sink.specs.World.{rowOver}
-use Rattle.gates.specs.Rows.{gates-map}
+use Rattle.counters.specs.Rows.{gates-map}
 use Rattle.gates.specs.Units.{unitLine}
 use Rattle.counts.specs.UnitLines.{unitsFrom, low-hard, low-soft, high-none, high-any}
 use Rattle.counts.specs.declared.Bounds.{Bounds}

@@ -7,7 +7,7 @@ ghost use Rattle.scope.specs.Formula.{highUnits, shortUnits, countInto};
 ghost use Rattle.sink.specs.Run.{Ran};
 ghost use Rattle.sink.specs.Lines.{lines};
 ghost use Rattle.sink.specs.World.{world, step, rowOver};
-ghost use Rattle.gates.specs.Literals.{Literal, Literals};
+ghost use Rattle.counters.specs.Literals.{Literal, Literals};
 ghost use Rattle.counts.specs.UnitLines.{turned, unitsFrom, shortLines};
 ghost use Rattle.counts.specs.CountLines.{ruleOf, lowItems};
 use sink::Job;
@@ -28,7 +28,7 @@ fn bound_literal(high: bool, q: u32, j: u32) -> u32
 {
     let l = column(q, j);
     if high {
-        return gates::opposite(l);
+        return counters::opposite(l);
     }
     l
 }
@@ -209,7 +209,7 @@ pub fn write_count(
     }
     let n = lits.len() as u32;
     let q = first + (n - 1) * cols;
-    let z = gates::cells::write_counter(job, model, text, words, s, lits, first, cols);
+    let z = counters::cells::write_counter(job, model, text, words, s, lits, first, cols);
     let y = write_low(job, model, text, words, z, weight, b, q, first + n * cols);
     write_high(job, model, text, words, y, weight, b.hi, q, n)
 }

@@ -1,2 +1,4 @@
 pub mod Fill
 pub mod Literal
+pub mod Overlap
+pub mod Spelling

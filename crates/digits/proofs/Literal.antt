@@ -11,7 +11,7 @@ use borrow.Author.Tests.{eq-eqb, ne-eqb, eqb-true, eqb-false}
 use Rattle.scope.specs.Text.{decimal, space, literalText}
 use Rattle.digits.specs.Run.{run, Ran, then, same}
 use Rattle.digits.specs.Store.{Out, out, put, further, ran-sets, run-at}
-use Rattle.digits.specs.Decimal.{lastDigits, digits-last, digits-some}
+use Rattle.digits.specs.Decimal.{lastDigits, digits-last}
 
 -- digits written at once are a run of stores
 pub number-ran : (v a n : ℕ) (l : List ℕ) {l′ : List ℕ} → n ≡ length (decimal v) → a + n ≤ 9223372036854775807
@@ -38,19 +38,23 @@ over : (xs l : List ℕ) (a y : ℕ) {o : Out} → 0 < length xs → Ran put xs 
 over [] l a y h p = absurd (omega arith)
 over (x ∷ xs) l a y h p = record { eq = p .eq ∙ ap (λ (k : List ℕ). run put xs (out (further a 1) k)) (set-set l a y x) }
 
--- a sign, the number after it or over it, and a space
-pub literal-ran : (l a b : ℕ) (t t′ : List ℕ) → a < 9223372036854775807 → b < 9223372036854775807
-    → Ran put (decimal (l / 2)) (out (a + l % 2) (set t a 45)) (out b t′) → Ran put (literalText l) (out a t) (out (b + 1) (set t′ b 32))
-literal-ran l a b t t′ h g p = go (eqb (l % 2) 1) refl
+-- a sign, and the number with a space after it or over it
+pub signed-ran : (l a : ℕ) (t : List ℕ) {o : Out} → a < 9223372036854775807
+    → Ran put (decimal (l / 2) ++ space) (out (a + l % 2) (set t a 45)) o → Ran put (literalText l) (out a t) o
+signed-ran l a t {o} h p = go (eqb (l % 2) 1) refl
   where
-    go : (s : Bool) → eqb (l % 2) 1 ≡ s → Ran put (literalText l) (out a t) (out (b + 1) (set t′ b 32))
+    go : (s : Bool) → eqb (l % 2) 1 ≡ s → Ran put (literalText l) (out a t) o
     go true e =
         let m : l % 2 ≡ 1 = eqb-true (l % 2) 1 e in
-        same (literal-negative l m) (then (one 45 a t h) (then (rw m at p) (one 32 b t′ g)))
+        same (literal-negative l m) (then (one 45 a t h) (rw m at p))
     go false e =
         let m : a + l % 2 ≡ a = omega (arith, eqb-false (l % 2) 1 e) in
-        same (literal-positive l (eqb-false (l % 2) 1 e))
-        (then (over (decimal (l / 2)) t a 45 (digits-some 19 (l / 2)) (rw m at p)) (one 32 b t′ g))
+        let some : 0 < length (decimal (l / 2) ++ space) = omega (arith, length-append (decimal (l / 2)) space) in
+        same (literal-positive l (eqb-false (l % 2) 1 e)) (over (decimal (l / 2) ++ space) t a 45 some (rw m at p))
+
+pub literal-ran : (l a b : ℕ) (t t′ : List ℕ) → a < 9223372036854775807 → b < 9223372036854775807
+    → Ran put (decimal (l / 2)) (out (a + l % 2) (set t a 45)) (out b t′) → Ran put (literalText l) (out a t) (out (b + 1) (set t′ b 32))
+literal-ran l a b t t′ h g p = signed-ran l a t h (then p (one 32 b t′ g))
 
 -- how long a literal's text is
 pub literal-length : (l : ℕ) → length (literalText l) ≡ length (decimal (l / 2)) + 1 + l % 2

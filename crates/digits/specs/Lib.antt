@@ -1,3 +1,4 @@
 pub mod Run
 pub mod Store
 pub mod Decimal
+pub mod Spelled

@@ -9,6 +9,8 @@ ghost use Rattle.digits.specs.Run.{Ran};
 ghost use Rattle.digits.specs.Store.{out, put, further};
 ghost use Rattle.digits.specs.Decimal.{lastDigits};
 
+pub mod spelled;
+
 // A position moved on. It stops at 2^63 - 1, and no slice is longer, so counting needs no bound.
 pub fn advance(at: usize, n: usize) -> usize
     ensures { λ r. ⌜ r ≡ further at n ⌝ }

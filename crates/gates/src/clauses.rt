@@ -7,7 +7,7 @@ ghost use Rattle.scope.specs.Cnf.{pos, opp, or, and, pairs, gate};
 ghost use Rattle.sink.specs.Run.{Ran};
 ghost use Rattle.sink.specs.Lines.{clauseLine, lines};
 ghost use Rattle.sink.specs.World.{world, step};
-ghost use Rattle.gates.specs.Literals.{Literal, LiteralsTo, Literals};
+ghost use Rattle.counters.specs.Literals.{Literal, LiteralsTo, Literals};
 ghost use Rattle.gates.specs.Units.{startClauses};
 use super::LAST;
 use sink::Job;
@@ -38,15 +38,15 @@ pub fn write_idling(
         words,
         s,
         &[
-            super::opposite(x),
+            counters::opposite(x),
             no,
             g,
             no,
             h,
             no,
             x,
-            super::opposite(g),
-            super::opposite(h),
+            counters::opposite(g),
+            counters::opposite(h),
             yes,
         ],
     )
@@ -78,9 +78,9 @@ pub fn write_short(
         &[
             c1,
             no,
-            super::opposite(cj),
+            counters::opposite(cj),
             no,
-            super::opposite(c1),
+            counters::opposite(c1),
             cj,
             yes,
         ],
@@ -104,7 +104,14 @@ fn write_pairs(
     let yes = 2 * o + LAST;
     let mut z = s;
     for i in 0..lits.len() {
-        z = sink::emit(job, model, text, words, z, &[super::opposite(lits[i]), yes]);
+        z = sink::emit(
+            job,
+            model,
+            text,
+            words,
+            z,
+            &[counters::opposite(lits[i]), yes],
+        );
     }
     z
 }

@@ -4,7 +4,7 @@ ghost use mathlib.Core.List.{[], _∷_};
 ghost use Rattle.sink.specs.Run.{Ran};
 ghost use Rattle.sink.specs.Lines.{softLine};
 ghost use Rattle.sink.specs.World.{world, step, tailRow};
-ghost use Rattle.gates.specs.Literals.{Literal};
+ghost use Rattle.counters.specs.Literals.{Literal};
 ghost use Rattle.gates.specs.Units.{unitLine};
 use super::LAST;
 use sink::Job;
@@ -41,13 +41,13 @@ fn write_tail(
         top: job.top,
         cols,
     };
-    let r = super::cells::write_row(
+    let r = counters::cells::write_row(
         k,
         model,
         text,
         words,
         s,
-        super::opposite(l),
+        counters::opposite(l),
         weight,
         prev,
         first,

@@ -9,7 +9,7 @@ use lib.ListN.{length}
 use Rattle.scope.specs.Kinds.{Rule, from}
 use Rattle.scope.specs.Cnf.{Item, gate, hard, soft, gates, opp}
 use Rattle.scope.specs.Formula.{noRow, counter, lastRow, ones, columns, unit, lowUnits, highUnits, shortUnits, boundItems, countInto, countItems}
-use Rattle.gates.specs.Rows.{gates-map}
+use Rattle.counters.specs.Rows.{gates-map}
 use Rattle.counts.specs.CountLines.{ruleOf, counter-length}
 use Rattle.counts.specs.declared.Bounds.{Bounds}
 use Rattle.sink.specs.Run.{Ran}

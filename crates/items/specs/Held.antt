@@ -8,7 +8,7 @@ use lib.Seq.{getD-take}
 use Rattle.number.specs.Each.{Each, each-at}
 use Rattle.literals.specs.Words.{Holds}
 use Rattle.literals.specs.Proper.{Proper}
-use Rattle.gates.specs.Literals.{LiteralsTo, Literals, literals-take}
+use Rattle.counters.specs.Literals.{LiteralsTo, Literals, literals-take}
 
 -- as many as were gathered
 pub held-length : {words : List ℕ} {n : ℕ} {xs : List ℕ} → Holds words n xs → length (take n words) ≡ n

@@ -4,7 +4,7 @@ ghost use Prim.Native.Nat.{_+_, _-_, _*_, _≤_, _<_, min};
 ghost use lib.ListN.{length};
 ghost use Rattle.scope.specs.Formula.{columns as columnsOf};
 ghost use Rattle.sink.specs.World.{world, step};
-ghost use Rattle.gates.specs.Literals.{Literals};
+ghost use Rattle.counters.specs.Literals.{Literals};
 ghost use Rattle.items.specs.Written.{Room, Wrote};
 ghost use Rattle.items.specs.Counted.{counted, shorts as shortsOf};
 use counts::Bounds;

@@ -8,7 +8,7 @@ use Rattle.scope.specs.Cnf.{Item, gate, gates}
 use Rattle.number.specs.Lists.{leading}
 use Rattle.sink.specs.Lines.{Line, map-append}
 use Rattle.sink.specs.World.{World}
-use Rattle.gates.specs.Rows.{gates-map}
+use Rattle.counters.specs.Rows.{gates-map}
 use Rattle.literals.specs.Variables.{inBlock}
 use Rattle.literals.specs.Words.{Holds}
 use Rattle.literals.specs.Numbered.{xsOf, gapGates, idleGates}

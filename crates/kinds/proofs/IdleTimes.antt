@@ -10,8 +10,8 @@ use Rattle.scope.specs.Cnf.{opp, or, and, Item, gate}
 use Rattle.sink.specs.Run.{Ran}
 use Rattle.sink.specs.Lines.{Line, lines}
 use Rattle.sink.specs.World.{World}
-use Rattle.gates.specs.Literals.{LiteralsTo}
-use Rattle.gates.specs.Rows.{gates-map}
+use Rattle.counters.specs.Literals.{LiteralsTo}
+use Rattle.counters.specs.Rows.{gates-map}
 use Rattle.literals.specs.Numbered.{gapGates}
 use Rattle.items.specs.Written.{Wrote, wrote-then}
 use Rattle.kinds.specs.Lengths.{length-gaps}

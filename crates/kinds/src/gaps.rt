@@ -15,7 +15,7 @@ ghost use Rattle.constraint.specs.Valid.{OneOf};
 ghost use Rattle.sink.specs.Run.{Ran};
 ghost use Rattle.sink.specs.Lines.{lines};
 ghost use Rattle.sink.specs.World.{world, step};
-ghost use Rattle.gates.specs.Literals.{LiteralsTo};
+ghost use Rattle.counters.specs.Literals.{LiteralsTo};
 ghost use Rattle.literals.specs.Numbered.{xsOf, gapGates, idleGates};
 ghost use Rattle.literals.specs.Tables.{groupIn};
 ghost use Rattle.items.specs.Written.{Room, Wrote};

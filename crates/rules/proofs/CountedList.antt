@@ -9,7 +9,7 @@ use Rattle.scope.specs.Kinds.{Kind}
 use Rattle.constraint.specs.declared.kinds.Head.{Head}
 use Rattle.sink.specs.Lines.{Line}
 use Rattle.sink.specs.World.{World}
-use Rattle.gates.specs.Rows.{gates-map}
+use Rattle.counters.specs.Rows.{gates-map}
 use Rattle.literals.specs.Words.{Holds}
 use Rattle.literals.specs.Numbered.{Numbered, numberedItems}
 use Rattle.counts.specs.declared.Bounds.{Bounds}

@@ -9,7 +9,7 @@ use Rattle.constraint.specs.declared.kinds.Head.{Head}
 use Rattle.sink.specs.Run.{Ran}
 use Rattle.sink.specs.Lines.{Line, lines}
 use Rattle.sink.specs.World.{World}
-use Rattle.gates.specs.Rows.{gates-map}
+use Rattle.counters.specs.Rows.{gates-map}
 use Rattle.items.specs.Written.{Room, Wrote}
 use Rattle.kinds.specs.Cases.{groupXs, cluster-gates}
 

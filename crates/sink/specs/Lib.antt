@@ -7,3 +7,4 @@ pub mod Meaning
 pub mod Tails
 pub mod Lend
 pub mod AllTrue
+pub mod Skipped

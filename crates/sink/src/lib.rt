@@ -8,9 +8,11 @@ ghost use Rattle.sink.specs.Block.{split, Whole};
 ghost use Rattle.sink.specs.World.{world, sinkAt, step};
 ghost use Rattle.sink.specs.Lend.{partBase};
 ghost use Rattle.sink.specs.AllTrue.{counted, evaluating};
+ghost use Rattle.sink.specs.Skipped.{skipping};
 
 pub mod bytes;
 pub mod judge;
+pub mod lines;
 pub mod store;
 
 // What a run over the formula is for: the text's length; its hard lines; its soft lines; the hard clauses as words; a model's
@@ -98,6 +100,21 @@ pub fn evaluates(job: Job) -> bool
         Mode::Words => false,
         Mode::Evaluate => true,
         Mode::Tail => false,
+    }
+}
+
+// Whether a run passes over hard clauses.
+pub fn skips(job: Job) -> bool
+    ensures { λ r. ⌜ r ≡ skipping (job .mode) ⌝ }
+{
+    let mode = job.mode;
+    match mode {
+        Mode::Measure => false,
+        Mode::Text => false,
+        Mode::SoftText => true,
+        Mode::Words => false,
+        Mode::Evaluate => false,
+        Mode::Tail => true,
     }
 }
 

@@ -2,7 +2,7 @@ use mathlib.Core.Path.{sym, refl}
 use native.Mathlib.Omega.{arith}
 use lib.ListN.{take, length-set}
 use lib.Seq.{length-take-le}
-use Rattle.gates.specs.Literals.{literals-take}
+use Rattle.counters.specs.Literals.{literals-take}
 use Rattle.gates.specs.Blocks.{or-stored, or-ran}
 use borrow.Author.Needs.{needs}
 use Rattle.gates.proofs.clauses.write_or.Statement.{statement}

@@ -1,0 +1,15 @@
+-- Rows whose numbers have three to seven digits.
+use Prim.Native.Nat.{ℕ, _+_, _/_, _≤_}
+
+-- the n numbers from v on have three to seven digits
+pub record Short (v n : ℕ) : Type 0 where
+  pub least : 100 ≤ v
+  pub most : v + n ≤ 10000000
+
+-- the weight of hard lines, a row's literal, its variables and those of the row above
+pub record Spellable (top x prev first cols : ℕ) : Type 0 where
+  pub weight : Short top 1
+  pub literal : Short (x / 2) 1
+  pub above : Short prev cols
+  pub row : Short first cols
+  pub some : 1 ≤ cols

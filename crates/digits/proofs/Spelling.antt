@@ -1,0 +1,68 @@
+-- The bytes of numbers of three to seven digits, and what storing them leaves.
+use mathlib.Core.Path.{_≡_, refl, ap, sym, subst, _∙_}
+use mathlib.Core.List.{List, [], _∷_, _++_}
+use Prim.Native.Nat.{ℕ, suc, _+_, _-_, _*_, _/_, _%_, _^_, _≤_, _<_}
+use native.Mathlib.Omega.{arith}
+use lib.ListN.{length, take, drop}
+use lib.Seq.{sets}
+use Rattle.scope.specs.Text.{decimal, space}
+use Rattle.digits.specs.Run.{Ran}
+use Rattle.digits.specs.Store.{out, put, ran-sets}
+use Rattle.digits.specs.Decimal.{lastDigits, digits-last, digits-length}
+use Rattle.digits.specs.Spelled.{fourBytes, Spelt}
+use Rattle.digits.specs.declared.spelled.Spelled.{Spelled}
+use Rattle.digits.proofs.Overlap.{overlap}
+
+pub four-sum : (a b c d : ℕ) → a < 256 → b < 256 → c < 256 → d < 256 → fourBytes (a + 256 * b + 65536 * c + 16777216 * d) ≡ a ∷ b ∷ c ∷ d ∷ []
+four-sum a b c d ha hb hc hd =
+    let n : ℕ = a + 256 * b + 65536 * c + 16777216 * d in
+    let qb : n / 256 ≡ b + 256 * c + 65536 * d = omega arith in
+    let qc : n / 65536 ≡ c + 256 * d = omega arith in
+    let qd : n / 16777216 ≡ d = omega arith in
+    let ea : n % 256 ≡ a = omega arith in
+    let eb : n / 256 % 256 ≡ b = rw qb (omega arith) in
+    let ec : n / 65536 % 256 ≡ c = rw qc (omega arith) in
+    let ed : n / 16777216 % 256 ≡ d = rw qd (omega arith) in
+    rw (ea, eb, ec, ed)
+
+-- digits two by two
+pub two-twos : (u : ℕ) → (48 + u / 100 % 100 / 10) ∷ (48 + u / 100 % 100 % 10) ∷ (48 + u % 100 / 10) ∷ (48 + u % 100 % 10) ∷ [] ≡ lastDigits 4 u
+two-twos u =
+    let ea : u / 100 % 100 / 10 ≡ u / 10 / 10 / 10 % 10 = omega arith in
+    let eb : u / 100 % 100 % 10 ≡ u / 10 / 10 % 10 = omega arith in
+    let ec : u % 100 / 10 ≡ u / 10 % 10 = omega arith in
+    let ed : u % 100 % 10 ≡ u % 10 = omega arith in
+    rw (ea, eb, ec, ed)
+
+-- the last three digits and a space
+pub last-three : (v : ℕ) → (48 + v / 100 % 10) ∷ (48 + v % 100 / 10) ∷ (48 + v % 100 % 10) ∷ 32 ∷ [] ≡ lastDigits 3 v ++ space
+last-three v =
+    let ea : v / 100 % 10 ≡ v / 10 / 10 % 10 = omega arith in
+    let eb : v % 100 / 10 ≡ v / 10 % 10 = omega arith in
+    let ec : v % 100 % 10 ≡ v % 10 = omega arith in
+    rw (ea, eb, ec)
+
+-- all digits are the last ones
+pub all-last : (k v : ℕ) → k ≤ 19 → 10 ^ k ≤ v → v < 10 ^ suc k → decimal v ++ space ≡ lastDigits (suc k) v ++ space
+all-last k v h a b = ap (λ (xs : List ℕ). xs ++ space) (digits-last 19 v ∙ ap (λ (n : ℕ). lastDigits n v) (digits-length k 19 v h a b))
+
+pub spelt : (v n f l : ℕ) (xs : List ℕ) → v < 10000000 → decimal v ++ space ≡ xs → n ≡ length xs → 4 ≤ n → n ≤ 8 → fourBytes f ≡ take 4 xs → fourBytes l ≡ drop (n - 4) xs
+    → Spelt v (record { value = v; first = f; last = l; len = n })
+spelt v n f l xs m e s a b p q = record { value = refl; small = m; size = rw e s; least = a; most = b; first = rw e p; last = rw e q }
+
+pub spelt-own : {n : Spelled} {v : ℕ} → Spelt v n → Spelt (n .value) n
+spelt-own {n} s = subst (λ (x : ℕ). Spelt x n) (sym (s .value)) s
+
+-- the two stores of a number leave its digits and a space
+pub spelt-ran : {n : Spelled} {v : ℕ} (a : ℕ) (t : List ℕ) {t₁ t₂ : List ℕ} → Spelt v n → a + 8 ≤ 9223372036854775807
+    → t₁ ≡ sets t a (fourBytes (n .first)) → t₂ ≡ sets t₁ (a + n .len - 4) (fourBytes (n .last))
+    → Ran put (decimal v ++ space) (out a t) (out (a + n .len) t₂)
+spelt-ran {n} {v} a t {t₁} {t₂} s h p q =
+    let xs : List ℕ = decimal v ++ space in
+    let i : ℕ = n .len - 4 in
+    let e : a + n .len - 4 ≡ a + i = omega (arith, s .least) in
+    let start : t₁ ≡ sets t a (take 4 xs) = p ∙ ap (sets t a) (s .first) in
+    let all : t₂ ≡ sets t a xs =
+    q ∙ ap (sets t₁ (a + n .len - 4)) (s .last) ∙ ap (λ (k : ℕ). sets t₁ k (drop i xs)) e
+    ∙ ap (λ (l : List ℕ). sets l (a + i) (drop i xs)) start ∙ overlap i 4 xs t a (omega (arith, s .most)) in
+    rw all (ran-sets xs t a (a + n .len) (omega (arith, s .size, s .most)) (ap (λ (m : ℕ). a + m) (s .size)))
