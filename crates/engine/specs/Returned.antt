@@ -4,15 +4,17 @@ use mathlib.Core.Path.{_≡_, refl, ap, _∙_}
 use mathlib.Core.List.{List, _++_}
 use lib.ListN.{length, drop}
 use Rattle.scope.specs.Parsed.{Answer, answered, refusal}
-use Rattle.scope.specs.Operations.{textOf, checkOf}
-use Rattle.scope.specs.Answers.{textMeans, checkMeans}
+use Rattle.scope.specs.Operations.{textOf}
+use Rattle.scope.specs.Answers.{textMeans, checkMeans, bestMeans}
 use Rattle.scope.specs.declared.Refusal.{Refusal}
 use Rattle.scope.specs.declared.TextAnswer.{TextAnswer}
+use Rattle.scope.specs.declared.Objective.{Objective}
 use Rattle.scope.specs.declared.CheckAnswer.{CheckAnswer}
+use Rattle.scope.specs.declared.BestAnswer.{BestAnswer}
 use Rattle.store.specs.declared.directory.Row.{Row}
 use Rattle.text.specs.Written.{written}
 use Rattle.engine.specs.Call.{Call, call, called, leaving, alone}
-use Rattle.engine.specs.Operations.{textCall, Stores, lentBy, zeros, zeroRows, zeroed, checkCall}
+use Rattle.engine.specs.Operations.{textCall, Stores, zeros, zeroRows, zeroed, stepsCall, bestOutputs}
 
 -- the text: its length or a refusal, and the output
 written-leaves : (a : Answer (List ℕ)) (out : List ℕ)
@@ -53,11 +55,39 @@ with-outputs a outputs e = ap (λ (c : Call Unit). call (c .number) (c .value) o
     go (answered n) = refl
     go (refusal k v) = refl
 
-module _ (file : List ℕ) (B : ℕ) (proof ws : List ℕ) (rs : List Row) (ms : List ℕ) (x : CheckAnswer) {words : List ℕ} {rows : List Row} {marks : List ℕ}
-    (e : checkMeans x ≡ checkOf file B proof (lentBy (ws, rs, ms))) (w : words ≡ zeros ws) (r : rows ≡ zeroRows rs) (m : marks ≡ zeros ms) where
-  check-leaves : leaving (checkMeans x) (words, rows, marks) ≡ checkCall file B proof (ws, rs, ms)
-  check-leaves = rw (e, w, r, m) (zeroed-leaves (checkOf file B proof (lentBy (ws, rs, ms))) (ws, rs, ms))
+module _ (a : Answer ℕ) (ws : List ℕ) (rs : List Row) (ms : List ℕ) (x : CheckAnswer) {words : List ℕ} {rows : List Row} {marks : List ℕ}
+    (e : checkMeans x ≡ a) (w : words ≡ zeros ws) (r : rows ≡ zeroRows rs) (m : marks ≡ zeros ms) where
+  check-leaves : leaving (checkMeans x) (words, rows, marks) ≡ stepsCall a (ws, rs, ms)
+  check-leaves = rw (e, w, r, m) (zeroed-leaves a (ws, rs, ms))
 
   pub check-told : {number value : ℕ} → call number value tt ≡ alone (checkMeans x)
-      → call number value (words, rows, marks) ≡ checkCall file B proof (ws, rs, ms)
+      → call number value (words, rows, marks) ≡ stepsCall a (ws, rs, ms)
   check-told t = with-outputs (checkMeans x) (words, rows, marks) t ∙ check-leaves
+
+-- the best model: its cost and steps or a refusal
+module _ {x : BestAnswer} (before : ℕ) where
+  pub best-shown : {w : Objective} {n : ℕ} → x ≡ BestAnswer.Best w n → call 0 n (w .0) ≡ called (bestMeans x) bestOutputs before
+  best-shown t = rw t refl
+
+  pub best-refused : {f : Refusal} → x ≡ BestAnswer.Refused f → call (f .number) (f .value) before ≡ called (bestMeans x) bestOutputs before
+  best-refused t = rw t refl
+
+-- and zeros in the stores beside them
+module _ (a : Answer (Objective × ℕ)) (before : ℕ) (ws : List ℕ) (rs : List Row) (ms : List ℕ) (x : BestAnswer) {words : List ℕ}
+    {rows : List Row} {marks : List ℕ} (e : bestMeans x ≡ a) (w : words ≡ zeros ws) (r : rows ≡ zeroRows rs) (m : marks ≡ zeros ms) where
+  abbrev left : Stores
+  left = (words, rows, marks)
+
+  stores-beside : (a : Answer (Objective × ℕ)) (s : Stores) {number value cost : ℕ} → call number value cost ≡ called a bestOutputs before
+      → call number value (cost, s) ≡ called a (λ b. (b .1, (b .0 .0, s))) (before, s)
+  stores-beside a s t = ap (λ (c : Call ℕ). call (c .number) (c .value) (c .outputs, s)) t ∙ go a
+    where
+      go : (a : Answer (Objective × ℕ))
+          → call (called a bestOutputs before .number) (called a bestOutputs before .value) (called a bestOutputs before .outputs, s)
+          ≡ called a (λ b. (b .1, (b .0 .0, s))) (before, s)
+      go (answered b) = refl
+      go (refusal k v) = refl
+
+  pub best-told : {number value cost : ℕ} → call number value cost ≡ called (bestMeans x) bestOutputs before
+      → call number value (cost, (words, rows, marks)) ≡ called a (λ b. (b .1, (b .0 .0, zeroed (ws, rs, ms)))) (before, zeroed (ws, rs, ms))
+  best-told t = stores-beside (bestMeans x) left t ∙ rw (e, w, r, m)

@@ -4,6 +4,10 @@
 // equation: what the call leaves (the number returned, *value and every other output) is what specs/Operations.antt says of
 // the operation's answer by the definitions. An input is lent as `&`, so it keeps every byte. None asks anything of its caller
 // but good pointers. specs/Numbers.antt shows that 0 is returned for an accepted call alone.
+mod best;
+mod check_hard;
+
+use checker::Claim;
 use checker::check;
 use instance::read_instance;
 use model::Evaluation;
@@ -220,6 +224,7 @@ pub extern "C" fn timetable_check(
         ≡ checkCall (now (file .entry)) bound (now (proof .entry))
         (now (words .entry), now (rows .entry), now (marks .entry)) ⌝ }
 {
-    let answer = check(file, bound, proof, words, rows, marks);
+    let claim = Claim::Bound(bound);
+    let answer = check(file, claim, proof, words, rows, marks);
     told(answer, value)
 }

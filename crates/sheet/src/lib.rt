@@ -4,4 +4,3 @@ mod same;
 
 pub use operations::same_sheet;
 pub use operations::score;
-pub use operations::within;

@@ -3,7 +3,6 @@ use crate::same::same_bytes;
 use constraint::Head;
 use instance::File;
 use instance::read;
-use scope::Objective;
 use scope::Refusal;
 use scope::ScoreAnswer;
 use scope::SheetAnswer;
@@ -14,7 +13,6 @@ ghost use mathlib.Core.Path.{_≡_};
 ghost use mathlib.Core.List.{List};
 ghost use Prim.Native.Nat.{ℕ};
 ghost use lib.ListN.{length};
-ghost use lib.Dec.{leb};
 ghost use Rattle.scope.specs.Operations.{scoreOf, sameSheetOf};
 ghost use Rattle.scope.specs.Answers.{scoreMeans, sheetMeans};
 ghost use Rattle.instance.specs.Laws.{Accepted};
@@ -138,11 +136,4 @@ pub fn same_sheet(file: &[u8], first: &[u8], second: &[u8]) -> SheetAnswer
         return SheetAnswer::Refused(refusal_of_file(f));
     };
     same_read(first, second, head, &durations)
-}
-
-// Whether a cost is within a bound. Only an objective has a bound.
-pub fn within(cost: Objective, bound: u64) -> bool
-    ensures { λ r. ⌜ r ≡ leb (cost .0) bound ⌝ }
-{
-    cost.0 <= bound
 }

@@ -1,0 +1,44 @@
+// The best model as a C function.
+use crate::refuse;
+use best::best;
+use scope::BestAnswer;
+use store::directory::Row;
+ghost use mathlib.Core.Path.{_≡_};
+ghost use Rattle.scope.specs.Answers.{bestMeans};
+ghost use Rattle.engine.specs.Call.{call, called};
+ghost use Rattle.engine.specs.Operations.{bestOutputs, bestCall};
+
+// The cost goes to *objective and the number of steps to *value; or a refusal's value to *value, and its number is returned.
+fn told_best(answer: BestAnswer, objective: &mut u64, value: &mut u64) -> u32
+    ensures { λ r. ⌜ call r (now (value .exit)) (now (objective .exit)) ≡ called (bestMeans answer) bestOutputs (now (objective .entry)) ⌝ }
+{
+    match answer {
+        BestAnswer::Refused(f) => refuse(f, value),
+        BestAnswer::Best(cost, steps) => {
+            *objective = cost.0;
+            *value = steps;
+            0
+        }
+    }
+}
+
+// The cost of a model that no timetable undercuts, and in *value the number of steps that show it; or the refusals of
+// timetable_decode, then those of timetable_check at one below the cost. The stores are zero afterwards.
+#[no_mangle]
+pub extern "C" fn timetable_best(
+    file: &[u8],
+    model: &[u8],
+    proof: &[u8],
+    words: &mut [u32],
+    rows: &mut [Row],
+    marks: &mut [u8],
+    objective: &mut u64,
+    value: &mut u64,
+) -> u32
+    ensures { λ r. ⌜ call r (now (value .exit)) (now (objective .exit), (now (words .exit), now (rows .exit), now (marks .exit)))
+        ≡ bestCall (now (file .entry)) (now (model .entry)) (now (proof .entry)) (now (objective .entry))
+        (now (words .entry), now (rows .entry), now (marks .entry)) ⌝ }
+{
+    let answer = best(file, model, proof, words, rows, marks);
+    told_best(answer, objective, value)
+}
