@@ -6,15 +6,24 @@ use lib.ListN.{length, drop}
 use Rattle.scope.specs.Parsed.{Answer, answered, refusal}
 use Rattle.scope.specs.Operations.{textOf}
 use Rattle.scope.specs.Answers.{textMeans, checkMeans, bestMeans}
-use Rattle.scope.specs.declared.Refusal.{Refusal}
 use Rattle.scope.specs.declared.TextAnswer.{TextAnswer}
 use Rattle.scope.specs.declared.Objective.{Objective}
 use Rattle.scope.specs.declared.CheckAnswer.{CheckAnswer}
 use Rattle.scope.specs.declared.BestAnswer.{BestAnswer}
 use Rattle.store.specs.declared.directory.Row.{Row}
 use Rattle.text.specs.Written.{written}
-use Rattle.engine.specs.Call.{Call, call, called, leaving, alone}
-use Rattle.engine.specs.Operations.{textCall, Stores, zeros, zeroRows, zeroed, stepsCall, bestOutputs}
+use Rattle.calls.specs.Call.{Call, call, called, leaving, alone}
+use Rattle.engine.specs.Operations.{textCall, Stores, zeros, zeroRows, zeroed, stepsCall}
+use Rattle.calls.specs.Outputs.{leavesBest}
+
+-- the number and the value of an answer, and other outputs beside them
+with-outputs : {B : Type 0} (a : Answer ℕ) (outputs : B) {number value : ℕ} → call number value tt ≡ alone a
+    → call number value outputs ≡ leaving a outputs
+with-outputs a outputs e = ap (λ (c : Call Unit). call (c .number) (c .value) outputs) e ∙ go a
+  where
+    go : (a : Answer ℕ) → call (alone a .number) (alone a .value) outputs ≡ leaving a outputs
+    go (answered n) = refl
+    go (refusal k v) = refl
 
 -- the text: its length or a refusal, and the output
 written-leaves : (a : Answer (List ℕ)) (out : List ℕ)
@@ -26,34 +35,14 @@ module _ (file out : List ℕ) (x : TextAnswer) {after : List ℕ} (e : (textMea
   text-leaves : leaving (textMeans x) after ≡ textCall file out
   text-leaves = ap (λ r. leaving (r .0) (r .1)) e ∙ written-leaves (textOf file (length out)) out
 
-  pub text-written : {n : ℕ} → x ≡ TextAnswer.Bytes n → call 0 n after ≡ textCall file out
-  text-written t = rw t at text-leaves
-
-  pub text-refused : {f : Refusal} → x ≡ TextAnswer.Refused f
-      → call (f .number) (f .value) after ≡ textCall file out
-  text-refused t = rw t at text-leaves
+  pub text-told : {number value : ℕ} → call number value tt ≡ alone (textMeans x)
+      → call number value after ≡ textCall file out
+  text-told t = with-outputs (textMeans x) after t ∙ text-leaves
 
 -- the check: its steps or a refusal, and zeros in the stores
 zeroed-leaves : (a : Answer ℕ) (s : Stores) → leaving a (zeroed s) ≡ called a (λ steps. (steps, zeroed s)) (zeroed s)
 zeroed-leaves (answered n) s = refl
 zeroed-leaves (refusal k v) s = refl
-
--- the number and the value of an answer
-module _ {x : CheckAnswer} where
-  pub told-shown : {n : ℕ} → x ≡ CheckAnswer.NoTimetable n → call 0 n tt ≡ alone (checkMeans x)
-  told-shown t = rw t refl
-
-  pub told-refused : {f : Refusal} → x ≡ CheckAnswer.Refused f → call (f .number) (f .value) tt ≡ alone (checkMeans x)
-  told-refused t = rw t refl
-
--- and other outputs beside them
-with-outputs : {B : Type 0} (a : Answer ℕ) (outputs : B) {number value : ℕ} → call number value tt ≡ alone a
-    → call number value outputs ≡ leaving a outputs
-with-outputs a outputs e = ap (λ (c : Call Unit). call (c .number) (c .value) outputs) e ∙ go a
-  where
-    go : (a : Answer ℕ) → call (alone a .number) (alone a .value) outputs ≡ leaving a outputs
-    go (answered n) = refl
-    go (refusal k v) = refl
 
 module _ (a : Answer ℕ) (ws : List ℕ) (rs : List Row) (ms : List ℕ) (x : CheckAnswer) {words : List ℕ} {rows : List Row} {marks : List ℕ}
     (e : checkMeans x ≡ a) (w : words ≡ zeros ws) (r : rows ≡ zeroRows rs) (m : marks ≡ zeros ms) where
@@ -64,30 +53,19 @@ module _ (a : Answer ℕ) (ws : List ℕ) (rs : List Row) (ms : List ℕ) (x : C
       → call number value (words, rows, marks) ≡ stepsCall a (ws, rs, ms)
   check-told t = with-outputs (checkMeans x) (words, rows, marks) t ∙ check-leaves
 
--- the best model: its cost and steps or a refusal
-module _ {x : BestAnswer} (before : ℕ) where
-  pub best-shown : {w : Objective} {n : ℕ} → x ≡ BestAnswer.Best w n → call 0 n (w .0) ≡ called (bestMeans x) bestOutputs before
-  best-shown t = rw t refl
+-- the best model: its cost and steps or a refusal, and zeros in the stores
+stores-beside : (a : Answer (Objective × ℕ)) (before : Objective) (s : Stores) {number value : ℕ} {w : Objective}
+    → call number value w ≡ leavesBest a before → call number value (w, s) ≡ called a (λ b. (b .1, (b .0, s))) (before, s)
+stores-beside a before s t = ap (λ (c : Call Objective). call (c .number) (c .value) (c .outputs, s)) t ∙ go a
+  where
+    go : (a : Answer (Objective × ℕ))
+        → call (leavesBest a before .number) (leavesBest a before .value) (leavesBest a before .outputs, s)
+        ≡ called a (λ b. (b .1, (b .0, s))) (before, s)
+    go (answered b) = refl
+    go (refusal k v) = refl
 
-  pub best-refused : {f : Refusal} → x ≡ BestAnswer.Refused f → call (f .number) (f .value) before ≡ called (bestMeans x) bestOutputs before
-  best-refused t = rw t refl
-
--- and zeros in the stores beside them
-module _ (a : Answer (Objective × ℕ)) (before : ℕ) (ws : List ℕ) (rs : List Row) (ms : List ℕ) (x : BestAnswer) {words : List ℕ}
+module _ (a : Answer (Objective × ℕ)) (before : Objective) (ws : List ℕ) (rs : List Row) (ms : List ℕ) (x : BestAnswer) {words : List ℕ}
     {rows : List Row} {marks : List ℕ} (e : bestMeans x ≡ a) (w : words ≡ zeros ws) (r : rows ≡ zeroRows rs) (m : marks ≡ zeros ms) where
-  abbrev left : Stores
-  left = (words, rows, marks)
-
-  stores-beside : (a : Answer (Objective × ℕ)) (s : Stores) {number value cost : ℕ} → call number value cost ≡ called a bestOutputs before
-      → call number value (cost, s) ≡ called a (λ b. (b .1, (b .0 .0, s))) (before, s)
-  stores-beside a s t = ap (λ (c : Call ℕ). call (c .number) (c .value) (c .outputs, s)) t ∙ go a
-    where
-      go : (a : Answer (Objective × ℕ))
-          → call (called a bestOutputs before .number) (called a bestOutputs before .value) (called a bestOutputs before .outputs, s)
-          ≡ called a (λ b. (b .1, (b .0 .0, s))) (before, s)
-      go (answered b) = refl
-      go (refusal k v) = refl
-
-  pub best-told : {number value cost : ℕ} → call number value cost ≡ called (bestMeans x) bestOutputs before
-      → call number value (cost, (words, rows, marks)) ≡ called a (λ b. (b .1, (b .0 .0, zeroed (ws, rs, ms)))) (before, zeroed (ws, rs, ms))
-  best-told t = stores-beside (bestMeans x) left t ∙ rw (e, w, r, m)
+  pub best-told : {number value : ℕ} {cost : Objective} → call number value cost ≡ leavesBest (bestMeans x) before
+      → call number value (cost, (words, rows, marks)) ≡ called a (λ b. (b .1, (b .0, zeroed (ws, rs, ms)))) (before, zeroed (ws, rs, ms))
+  best-told t = stores-beside (bestMeans x) before (words, rows, marks) t ∙ rw (e, w, r, m)

@@ -1,10 +1,10 @@
 // The check without the tail as a C function.
-use crate::told;
+use calls::leave_steps;
 use checker::Claim;
 use checker::check;
 use store::directory::Row;
 ghost use mathlib.Core.Path.{_≡_};
-ghost use Rattle.engine.specs.Call.{call};
+ghost use Rattle.calls.specs.Call.{call};
 ghost use Rattle.engine.specs.Operations.{checkHardCall};
 
 // "No timetable" at any cost, with the number of steps in *value; or 1 to 6, 8, 9, 14 to 18. The stores are zero afterwards.
@@ -23,5 +23,5 @@ pub extern "C" fn timetable_check_hard(
 {
     let claim = Claim::AnyCost;
     let answer = check(file, claim, proof, words, rows, marks);
-    told(answer, value)
+    leave_steps(answer, value)
 }
