@@ -125,13 +125,5 @@ pub fn check_line(
 )
     requires { ⌜ (words ≤ 2048) × (rows ≤ 1024) × (bytes ≤ 256) ⌝ }
 {
-    claim_line(
-        name,
-        file,
-        Claim::Bound(bound),
-        proof,
-        words,
-        rows,
-        bytes,
-    );
+    claim_line(name, file, Claim::Bound(bound), proof, words, rows, bytes);
 }
