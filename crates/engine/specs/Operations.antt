@@ -73,6 +73,8 @@ abbrev pub checkHardCall : List ℕ → List ℕ → Stores → Call Stores
 checkHardCall file proof s = stepsCall (checkHardOf file proof (lentBy s)) s
 
 -- the best model: *value is the number of steps, the cost is written; the stores are zero, accepted or refused
+abbrev pub leavesBoth : Answer (Objective × ℕ) → Objective → Stores → Call (Objective × Stores)
+leavesBoth a objective s = called a (λ b. (b .1, (b .0, s))) (objective, s)
+
 abbrev pub bestCall : List ℕ → List ℕ → List ℕ → Objective → Stores → Call (Objective × Stores)
-bestCall file model proof objective s =
-    called (bestOf file model proof (lentBy s)) (λ b. (b .1, (b .0, zeroed s))) (objective, zeroed s)
+bestCall file model proof objective s = leavesBoth (bestOf file model proof (lentBy s)) objective (zeroed s)

@@ -13,7 +13,7 @@ use Rattle.scope.specs.declared.BestAnswer.{BestAnswer}
 use Rattle.store.specs.declared.directory.Row.{Row}
 use Rattle.text.specs.Written.{written}
 use Rattle.calls.specs.Call.{Call, call, called, leaving, alone}
-use Rattle.engine.specs.Operations.{textCall, Stores, zeros, zeroRows, zeroed, stepsCall}
+use Rattle.engine.specs.Operations.{textCall, Stores, zeros, zeroRows, zeroed, stepsCall, leavesBoth}
 use Rattle.calls.specs.Outputs.{leavesBest}
 
 -- the number and the value of an answer, and other outputs beside them
@@ -55,17 +55,17 @@ module _ (a : Answer ℕ) (ws : List ℕ) (rs : List Row) (ms : List ℕ) (x : C
 
 -- the best model: its cost and steps or a refusal, and zeros in the stores
 stores-beside : (a : Answer (Objective × ℕ)) (before : Objective) (s : Stores) {number value : ℕ} {w : Objective}
-    → call number value w ≡ leavesBest a before → call number value (w, s) ≡ called a (λ b. (b .1, (b .0, s))) (before, s)
-stores-beside a before s t = ap (λ (c : Call Objective). call (c .number) (c .value) (c .outputs, s)) t ∙ go a
+    → call number value w ≡ leavesBest a before → call {B = Objective × Stores} number value (w, s) ≡ leavesBoth a before s
+stores-beside a before s t = ap (λ (c : Call Objective). call {B = Objective × Stores} (c .number) (c .value) (c .outputs, s)) t ∙ go a
   where
     go : (a : Answer (Objective × ℕ))
-        → call (leavesBest a before .number) (leavesBest a before .value) (leavesBest a before .outputs, s)
-        ≡ called a (λ b. (b .1, (b .0, s))) (before, s)
+        → call {B = Objective × Stores} (leavesBest a before .number) (leavesBest a before .value) (leavesBest a before .outputs, s)
+        ≡ leavesBoth a before s
     go (answered b) = refl
     go (refusal k v) = refl
 
 module _ (a : Answer (Objective × ℕ)) (before : Objective) (ws : List ℕ) (rs : List Row) (ms : List ℕ) (x : BestAnswer) {words : List ℕ}
     {rows : List Row} {marks : List ℕ} (e : bestMeans x ≡ a) (w : words ≡ zeros ws) (r : rows ≡ zeroRows rs) (m : marks ≡ zeros ms) where
   pub best-told : {number value : ℕ} {cost : Objective} → call number value cost ≡ leavesBest (bestMeans x) before
-      → call number value (cost, (words, rows, marks)) ≡ called a (λ b. (b .1, (b .0, zeroed (ws, rs, ms)))) (before, zeroed (ws, rs, ms))
+      → call {B = Objective × Stores} number value (cost, (words, rows, marks)) ≡ leavesBoth a before (zeroed (ws, rs, ms))
   best-told t = stores-beside (bestMeans x) before (words, rows, marks) t ∙ rw (e, w, r, m)
