@@ -202,6 +202,41 @@ uint32_t timetable_check(const uint8_t *file, size_t file_length,
                          size_t rows_length, uint8_t *marks,
                          size_t marks_length, uint64_t *value);
 
+/*
+ * Checks a proof that no timetable keeps the hard constraints, whatever it
+ * costs: one against the hard clauses alone, without the tail.
+ * The stores are as for timetable_check. The hard clauses need no more than
+ * timetable_sizes says at bound 0.
+ * Refusals: 1 to 6 for the file, then 8 without the tail, then 9 if a store is
+ * too short for the hard clauses, then 14 to 18 for the proof, step by step.
+ * Accepted, which is the answer "no timetable": *value is the number of steps.
+ */
+uint32_t timetable_check_hard(const uint8_t *file, size_t file_length,
+                              const uint8_t *proof, size_t proof_length,
+                              uint32_t *words, size_t words_length,
+                              struct timetable_row *rows, size_t rows_length,
+                              uint8_t *marks, size_t marks_length,
+                              uint64_t *value);
+
+/*
+ * Whether a model is the best: it is decoded, and if it costs more than 0 the
+ * proof is checked at the bound one below its cost.
+ * The stores are as for timetable_check at that bound; a model that costs 0
+ * needs none.
+ * Refusals: those of timetable_decode, then those of timetable_check at that
+ * bound, 7 for a cost above 4096 among them.
+ * Accepted: *objective is the model's cost, no timetable that keeps the hard
+ * constraints costs less, and *value is the number of steps of the proof, 0 at
+ * cost 0.
+ */
+uint32_t timetable_best(const uint8_t *file, size_t file_length,
+                        const uint8_t *model, size_t model_length,
+                        const uint8_t *proof, size_t proof_length,
+                        uint32_t *words, size_t words_length,
+                        struct timetable_row *rows, size_t rows_length,
+                        uint8_t *marks, size_t marks_length,
+                        uint64_t *objective, uint64_t *value);
+
 /* The offset after the number at the offset at, whatever its form. */
 static inline size_t timetable_number_end(const uint8_t *proof,
                                           size_t proof_length, size_t at)

@@ -19,6 +19,9 @@ formulaSize variables clauses words = record { variables = variables; clauses = 
 abbrev pub amounts : (infeasibility objective : ℕ) → Infeasibility × Objective
 amounts infeasibility objective = (record { 0 = infeasibility }, record { 0 = objective })
 
+abbrev pub cost : ℕ → Objective
+cost objective = record { 0 = objective }
+
 -- they are written, and *value is kept
 abbrev pub leavesCounts : Answer InstanceSize → ℕ → InstanceSize → Call InstanceSize
 leavesCounts a value counts = called a (λ z. (value, z)) counts
@@ -35,3 +38,7 @@ leavesLength a value bytes = called a (λ n. (value, n)) bytes
 -- *value is 1 if they are the same sheet, and 0 if not
 abbrev pub leavesSameness : Answer Bool → Call Unit
 leavesSameness a = called a (λ same. (cond same 1 0, tt)) tt
+
+-- the cost is written, and *value is the number of steps
+abbrev pub leavesBest : Answer (Objective × ℕ) → Objective → Call Objective
+leavesBest a before = called a (λ b. (b .1, b .0)) before

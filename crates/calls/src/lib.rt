@@ -2,6 +2,7 @@
 //
 // One function for each sort of answer, so that the exported functions are an operation and one of these. Its contract is one
 // equation with specs/Call.antt, for every answer and whatever stood in the outputs.
+use scope::BestAnswer;
 use scope::CheckAnswer;
 use scope::ReadAnswer;
 use scope::Refusal;
@@ -10,9 +11,9 @@ use scope::SheetAnswer;
 use scope::SizesAnswer;
 use scope::TextAnswer;
 ghost use mathlib.Core.Path.{_≡_};
-ghost use Rattle.scope.specs.Answers.{checkMeans, readMeans, scoreMeans, sheetMeans, sizesMeans, textMeans};
+ghost use Rattle.scope.specs.Answers.{bestMeans, checkMeans, readMeans, scoreMeans, sheetMeans, sizesMeans, textMeans};
 ghost use Rattle.calls.specs.Call.{alone, call};
-ghost use Rattle.calls.specs.Outputs.{amounts, formulaSize, instanceSize, leavesAmounts, leavesCounts, leavesLength, leavesSameness, leavesSizes};
+ghost use Rattle.calls.specs.Outputs.{amounts, cost, formulaSize, instanceSize, leavesAmounts, leavesBest, leavesCounts, leavesLength, leavesSameness, leavesSizes};
 
 // A refusal: its value goes to *value, its number is returned.
 pub fn refuse(f: Refusal, value: &mut u64) -> u32
@@ -144,6 +145,21 @@ pub fn leave_steps(answer: CheckAnswer, value: &mut u64) -> u32
     match answer {
         CheckAnswer::Refused(f) => refuse(f, value),
         CheckAnswer::NoTimetable(steps) => {
+            *value = steps;
+            0
+        }
+    }
+}
+
+// A best model's cost, and in *value the number of a proof's steps.
+pub fn leave_best(answer: BestAnswer, objective: &mut u64, value: &mut u64) -> u32
+    ensures { λ r. ⌜ call r (now (value .exit)) (cost (now (objective .exit)))
+        ≡ leavesBest (bestMeans answer) (cost (now (objective .entry))) ⌝ }
+{
+    match answer {
+        BestAnswer::Refused(f) => refuse(f, value),
+        BestAnswer::Best(w, steps) => {
+            *objective = w.0;
             *value = steps;
             0
         }

@@ -2,7 +2,9 @@
 // document 01 that knows nothing of this code.
 mod show;
 
+use checker::Claim;
 use show::check_line;
+use show::claim_line;
 ghost use Prim.Native.Nat.{_≤_};
 
 // File A with its proof.
@@ -121,6 +123,37 @@ fn without_soft_units() {
         b"\x01\x01\x00\x01\x00\x01\x00\x01\x03\x00\x01\x01",
         4095,
         b"\x61\x09\x00\x05\x04\x06\x08\x00",
+        2048,
+        1024,
+        256,
+    );
+}
+
+// A with its constraint hard, without the tail, with so many words, rows and bytes.
+fn none_at_all(name: &[u8], words: usize, rows: usize, bytes: usize)
+    requires { ⌜ (words ≤ 2048) × (rows ≤ 1024) × (bytes ≤ 256) ⌝ }
+{
+    claim_line(
+        name,
+        b"\x01\x01\x00\x01\x00\x01\x00\x01\x03\x00\x01\x01",
+        Claim::AnyCost,
+        b"\x61\x09\x00\x05\x04\x06\x08\x00",
+        words,
+        rows,
+        bytes,
+    );
+}
+
+// The check without the tail: A keeps its hard constraints at cost 4, so the tail's clauses are not live.
+fn without_the_tail() {
+    none_at_all(b"none at all: ", 2048, 1024, 256);
+    none_at_all(b"none at all, stores that just fit: ", 14, 8, 4);
+    none_at_all(b"none at all, a word too few: ", 13, 8, 4);
+    claim_line(
+        b"without the tail, a proof at bound 3: ",
+        b"\x01\x01\x00\x01\x00\x01\x00\x01\x03\x04\x01\x01",
+        Claim::AnyCost,
+        b"\x61\x11\x00\x05\x04\x06\x0e\x10\x00",
         2048,
         1024,
         256,
@@ -315,4 +348,5 @@ fn main() {
     before_the_proof();
     a_longer_proof();
     two_bytes_for_an_id();
+    without_the_tail();
 }

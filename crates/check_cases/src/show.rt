@@ -1,4 +1,5 @@
 // A check with stores that are not zero before it, as a line of text.
+use checker::Claim;
 use libc::STDOUT_FILENO;
 use scope::CheckAnswer;
 use scope::Refusal;
@@ -59,7 +60,7 @@ fn put_zero(words: bool, bytes: bool) {
 // The first of 1024 rows that are not zero are lent.
 fn check_rows(
     file: &[u8],
-    bound: u64,
+    claim: Claim,
     proof: &[u8],
     w: &mut [u32],
     rows: usize,
@@ -74,13 +75,13 @@ fn check_rows(
         live: 255,
     };
     let mut d = [row; 1024];
-    checker::check(file, bound, proof, w, &mut d[..rows], b)
+    checker::check(file, claim, proof, w, &mut d[..rows], b)
 }
 
 // The first words and bytes of some stores are lent, and so many rows.
 fn check_part(
     file: &[u8],
-    bound: u64,
+    claim: Claim,
     proof: &[u8],
     w: &mut [u32],
     words: usize,
@@ -90,10 +91,29 @@ fn check_part(
 ) -> CheckAnswer
     requires { ⌜ (words ≤ length (now w)) × (rows ≤ 1024) × (bytes ≤ length (now b)) ⌝ }
 {
-    check_rows(file, bound, proof, &mut w[..words], rows, &mut b[..bytes])
+    check_rows(file, claim, proof, &mut w[..words], rows, &mut b[..bytes])
 }
 
-// The answer for a proof, where so many words, rows and bytes are lent.
+// The answer for a claim and a proof, where so many words, rows and bytes are lent.
+pub fn claim_line(
+    name: &[u8],
+    file: &[u8],
+    claim: Claim,
+    proof: &[u8],
+    words: usize,
+    rows: usize,
+    bytes: usize,
+)
+    requires { ⌜ (words ≤ 2048) × (rows ≤ 1024) × (bytes ≤ 256) ⌝ }
+{
+    let mut w = [4294967295; 2048];
+    let mut b = [255; 256];
+    put(name);
+    put_answer(check_part(file, claim, proof, &mut w, words, rows, &mut b, bytes));
+    put_zero(zero_words(&w, words), zero_bytes(&b, bytes));
+}
+
+// The same at a bound.
 pub fn check_line(
     name: &[u8],
     file: &[u8],
@@ -105,9 +125,5 @@ pub fn check_line(
 )
     requires { ⌜ (words ≤ 2048) × (rows ≤ 1024) × (bytes ≤ 256) ⌝ }
 {
-    let mut w = [4294967295; 2048];
-    let mut b = [255; 256];
-    put(name);
-    put_answer(check_part(file, bound, proof, &mut w, words, rows, &mut b, bytes));
-    put_zero(zero_words(&w, words), zero_bytes(&b, bytes));
+    claim_line(name, file, Claim::Bound(bound), proof, words, rows, bytes);
 }

@@ -1,4 +1,4 @@
--- What walks by hand need of what is ready and of answers: their machine values. And what a contract of several clauses says at exit.
+-- What walks by hand need of claims, of what is ready and of answers: their machine values. And what a contract of several clauses says at exit.
 use mathlib.Core.Path.{_≡_, ap}
 use mathlib.Core.List.{List, [], _∷_}
 use lib.Dec.{T}
@@ -15,7 +15,10 @@ use denote.Enum.Laws as EL
 use Rattle.scope.specs.declared.CheckAnswer.{CheckAnswer}
 use Rattle.scope.proofs.CheckAnswer as S
 use Rattle.scope.proofs.CheckAnswer.Laws as S′
+use Rattle.checker.specs.declared.claim.Claim.{Claim}
 use Rattle.checker.specs.declared.prepare.Ready.{Ready}
+use Rattle.checker.proofs.claim.Claim as G
+use Rattle.checker.proofs.claim.Claim.Laws as G′
 use Rattle.checker.proofs.prepare.Ready as Y
 use Rattle.checker.proofs.prepare.Ready.Laws as Y′
 
@@ -31,7 +34,13 @@ IsReady d v = Is Y.the-row d (v ∷ [])
 pub ready-same : (d : Ready) (v : Val) → IsReady d v → v ≡ Y′.lowered d
 ready-same d v is = ap only (Y′.lowers .val-is d (v ∷ []) is)
 
+abbrev pub IsClaim : Claim → Val → Type 0
+IsClaim c v = Is G.the-row c (v ∷ [])
+
 module _ {M : Type 1} {𝓤 : URA M} {H : Heap 𝓤} {A : Atoms 𝓤} (W : Given 𝓤 H A) where
+  pub claim-typed : (c : Claim) (v : Val) → IsClaim c v → T (hasTy G′.mir v) × WT v
+  claim-typed c v is = EL.lawful G.the-type G′.the-laws 𝓤 H A W tt .typed c (v ∷ []) is .0
+
   pub answer-typed : (r : CheckAnswer) (v : Val) → IsAnswer r v → T (hasTy S′.mir v) × WT v
   answer-typed r v is = EL.lawful S.the-type S′.the-laws 𝓤 H A W tt .typed r (v ∷ []) is .0
 

@@ -4,7 +4,6 @@ use mathlib.Core.List.{List}
 use Prim.Native.Nat.{ℕ}
 use native.Mathlib.Omega.{arith}
 use lib.ListN.{length, replicate, length-replicate}
-use Rattle.scope.specs.Operations.{checkOf}
 use Rattle.scope.specs.Answers.{checkMeans}
 use Rattle.scope.specs.declared.Refusal.{Refusal}
 use Rattle.scope.specs.declared.CheckAnswer.{CheckAnswer}
@@ -13,8 +12,9 @@ use Rattle.store.specs.Marks.{marks-cleared}
 use Rattle.store.specs.Marked.{Built}
 use Rattle.bound.specs.Run.{Driven}
 use Rattle.bound.specs.Meaning.{check-means}
+use Rattle.checker.specs.declared.claim.Claim.{Claim}
 use Rattle.checker.specs.declared.prepare.Ready.{Ready}
-use Rattle.checker.specs.Prepared.{lent, FormulaIn, preparedAs, Prepared}
+use Rattle.checker.specs.Prepared.{lent, asked, FormulaIn, preparedAs, Prepared}
 
 -- the directory was built of the words, and the proof s driven to its end
 pub record Followed (s ws : List ℕ) (cap : ℕ) (ms : List ℕ) (used last : ℕ) (r : CheckAnswer) : Type 0 where
@@ -48,10 +48,10 @@ follows-refused e = rw e (record { followed = refl })
 pub zeros-kept : {X : Type 0} (x : X) {xs : List X} {m n : ℕ} → xs ≡ replicate m x → m ≡ n → xs ≡ replicate n x
 zeros-kept x e long = e ∙ ap (λ (n : ℕ). replicate n x) long
 
-module _ (file : List ℕ) (B : ℕ) (s ws : List ℕ) (cap : ℕ) (ms : List ℕ) (w b : ℕ) (r : CheckAnswer)
+module _ (file : List ℕ) (c : Claim) (s ws : List ℕ) (cap : ℕ) (ms : List ℕ) (w b : ℕ) (r : CheckAnswer)
     (cleared : ms ≡ replicate b 0) (same : length ws ≡ w) where
-  formula-checked : (used last : ℕ) → FormulaIn file B (lent w cap b) ws used last → Followed s ws cap ms used last r
-      → checkMeans r ≡ checkOf file B s (lent w cap b)
+  formula-checked : (used last : ℕ) → FormulaIn file c (lent w cap b) ws used last → Followed s ws cap ms used last r
+      → checkMeans r ≡ asked file c (lent w cap b) s
   formula-checked used last p q =
       let long : length (q .words) ≡ w = q .long ∙ same in
       let bytes : length ms ≡ b = ap length cleared ∙ length-replicate b 0 in
@@ -60,11 +60,11 @@ module _ (file : List ℕ) (B : ℕ) (s ws : List ℕ) (cap : ℕ) (ms : List �
       (rw (p .size) at (q .driven)) in
       rw long at e ∙ sym (p .answer s)
 
-  pub checked : (x : Ready) → Prepared file B (lent w cap b) ws x → Follows s ws cap ms x r
-      → checkMeans r ≡ checkOf file B s (lent w cap b)
+  pub checked : (x : Ready) → Prepared file c (lent w cap b) ws x → Follows s ws cap ms x r
+      → checkMeans r ≡ asked file c (lent w cap b) s
   checked x p q = go x (p .ready) (q .followed)
     where
-      go : (x : Ready) → preparedAs file B (lent w cap b) ws x → followedAs s ws cap ms x r
-          → checkMeans r ≡ checkOf file B s (lent w cap b)
+      go : (x : Ready) → preparedAs file c (lent w cap b) ws x → followedAs s ws cap ms x r
+          → checkMeans r ≡ asked file c (lent w cap b) s
       go (Ready.Formula used last) p q = formula-checked used last p q
       go (Ready.Refused f) p q = rw q (sym (p .answer s))

@@ -11,7 +11,7 @@ use Rattle.scope.specs.Kinds.{Atom, Rule, from, upTo}
 use Rattle.scope.specs.Instance.{Instance}
 use Rattle.scope.specs.Cnf.{pos, neg, opp, hasTrue, withoutFalse, tidy, pairs, Gate, or, and, cell, gateClauses, Item, gate, hard, soft, hardClauses, gates}
 use Rattle.scope.specs.Score.{eventCount}
-use Rattle.scope.specs.Formula.{noRow, counter, lastRow, ones, columns, unit, lowUnits, highUnits, shortUnits, boundItems, countInto, countItems, allAdded, listGates, listLiterals, ruleItems, rulesItems, num, yBefore, startItems, starts, uses, allRules, primary, formula, variables, softOf, negated, tail, bounded, boundedHard}
+use Rattle.scope.specs.Formula.{noRow, counter, lastRow, ones, columns, unit, lowUnits, highUnits, shortUnits, boundItems, countInto, countItems, allAdded, listGates, listLiterals, ruleItems, rulesItems, num, yBefore, startItems, starts, uses, allRules, primary, formula, variables, hardOf, softOf, negated, tail, bounded, boundedHard}
 use Rattle.theory.specs.Variables.{atomsEnd, formula-parts}
 
 abbrev pub NonEmpty : List ℕ → Type 0
@@ -168,6 +168,10 @@ unfolding tail
 tail-filled B [] v = tt
 tail-filled B (u ∷ us) v =
     gates-then (counter noRow (u ∷ us) (B + 1) v) (hard (opp (lastRow noRow (u ∷ us) (B + 1) v (B + 1)) ∷ []) ∷ []) (tt, tt)
+
+pub formula-nonempty : (i : Instance) → All NonEmpty (hardOf i)
+unfolding hardOf
+formula-nonempty i = hard-nonempty (primary i + 1) (formula i) (omega arith) (formula-filled i)
 
 pub bounded-nonempty : (i : Instance) (B : ℕ) → All NonEmpty (boundedHard i B)
 unfolding boundedHard bounded

@@ -8,26 +8,33 @@ use lib.Dec.{leb}
 use lib.ListN.{length, drop}
 use borrow.Author.Tests.{leb-true}
 use Rattle.laws.specs.Booleans.{and-true}
-use Rattle.scope.specs.Parsed.{Answer, then, provided}
+use Rattle.scope.specs.Parsed.{Answer, then}
 use Rattle.scope.specs.Instance.{Instance}
-use Rattle.scope.specs.Formula.{words, boundedHard}
+use Rattle.scope.specs.Formula.{words, variables, hardOf, boundedVariables, boundedHard}
 use Rattle.scope.specs.PlainRun.{plainRun}
-use Rattle.scope.specs.Operations.{Lent, formulaFits, limitsOf, checkOf}
+use Rattle.scope.specs.Operations.{Lent, formulaFits, against, checkOf, checkHardOf}
 use Rattle.scope.specs.Answers.{given}
 use Rattle.scope.specs.declared.Refusal.{Refusal}
 use Rattle.scope.specs.declared.FormulaSize.{FormulaSize}
 use Rattle.constraint.specs.declared.kinds.Head.{Head}
 use Rattle.instance.specs.Answers.{instanceOf}
 use Rattle.sizing.specs.declared.Size.{Size}
-use Rattle.sizes.specs.Measured.{boundedOf, bound-then, BoundedBy, RefusedBy}
+use Rattle.sizing.specs.Whole.{stored}
+use Rattle.sizes.specs.Measured.{sizedOf, size-then, boundedOf, bound-then, SizedBy, BoundedBy, RefusedBy}
 use Rattle.sink.specs.Run.{Ran, out, put}
 use Rattle.store.specs.Holding.{Good}
 use Rattle.store.specs.Built.{Each}
 use Rattle.store.specs.Marked.{mark, Plain}
 use Rattle.bound.specs.Meaning.{limits}
+use Rattle.checker.specs.declared.claim.Claim.{Claim}
 use Rattle.checker.specs.declared.prepare.Ready.{Ready}
-use Rattle.checker.specs.Storable.{bounded-plain, bounded-good}
+use Rattle.checker.specs.Storable.{Storable, hard-storable, bounded-storable}
 use Rattle.checker.specs.Written.{stands}
+
+-- what is answered for a claim and a proof
+abbrev pub asked : List ℕ → Claim → Lent → List ℕ → Answer ℕ
+asked file (Claim.Bound B) l proof = checkOf file B proof l
+asked file Claim.AnyCost l proof = checkHardOf file proof l
 
 abbrev pub lent : ℕ → ℕ → ℕ → Lent
 lent w r b = record { words = w; rows = r; bytes = b }
@@ -37,7 +44,7 @@ abbrev pub sizeFits : FormulaSize → Lent → Bool
 sizeFits z l = leb (z .words) (l .words) && leb (z .clauses) (l .rows) && leb (z .variables) (l .bytes)
 
 -- clauses stand in the words with their last words marked, and a proof is judged by the plain run over them
-pub record FormulaIn (s : List ℕ) (B : ℕ) (l : Lent) (ws : List ℕ) (used last : ℕ) : Type 0 where
+pub record FormulaIn (s : List ℕ) (c : Claim) (l : Lent) (ws : List ℕ) (used last : ℕ) : Type 0 where
   pub clauses : List (List ℕ)
   pub rest : List ℕ
   pub marked : ws ≡ flatMap mark clauses ++ rest
@@ -46,65 +53,126 @@ pub record FormulaIn (s : List ℕ) (B : ℕ) (l : Lent) (ws : List ℕ) (used l
   pub good : Each (Good last) clauses
   pub rows-fit : length clauses ≤ l .rows
   pub bytes-fit : last ≤ l .bytes
-  pub answer : (proof : List ℕ) → checkOf s B proof l ≡ plainRun (limits last (l .words) (l .rows)) clauses proof
+  pub answer : (proof : List ℕ) → asked s c l proof ≡ plainRun (limits last (l .words) (l .rows)) clauses proof
 
 -- a refusal, whatever the proof
-pub record RefusedAs (s : List ℕ) (B : ℕ) (l : Lent) (f : Refusal) : Type 0 where
-  pub answer : (proof : List ℕ) → checkOf s B proof l ≡ given f
+pub record RefusedAs (s : List ℕ) (c : Claim) (l : Lent) (f : Refusal) : Type 0 where
+  pub answer : (proof : List ℕ) → asked s c l proof ≡ given f
 
-abbrev pub preparedAs : List ℕ → ℕ → Lent → List ℕ → Ready → Type 0
-preparedAs s B l ws (Ready.Formula used last) = FormulaIn s B l ws used last
-preparedAs s B l ws (Ready.Refused f) = RefusedAs s B l f
+abbrev pub preparedAs : List ℕ → Claim → Lent → List ℕ → Ready → Type 0
+preparedAs s c l ws (Ready.Formula used last) = FormulaIn s c l ws used last
+preparedAs s c l ws (Ready.Refused f) = RefusedAs s c l f
 
-pub record Prepared (s : List ℕ) (B : ℕ) (l : Lent) (ws : List ℕ) (r : Ready) : Type 0 where
-  pub ready : preparedAs s B l ws r
+pub record Prepared (s : List ℕ) (c : Claim) (l : Lent) (ws : List ℕ) (r : Ready) : Type 0 where
+  pub ready : preparedAs s c l ws r
 
 -- where as many bytes are lent
-pub prepared-bytes : {s : List ℕ} {B w n b b′ : ℕ} {ws : List ℕ} {r : Ready} → b ≡ b′ → Prepared s B (lent w n b) ws r
-    → Prepared s B (lent w n b′) ws r
+pub prepared-bytes : {s : List ℕ} {c : Claim} {w n b b′ : ℕ} {ws : List ℕ} {r : Ready} → b ≡ b′ → Prepared s c (lent w n b) ws r
+    → Prepared s c (lent w n b′) ws r
 prepared-bytes e p = rw e at p
+
+-- of the same claim, and the same answer
+pub prepared-claim : {s : List ℕ} {c c′ : Claim} {l : Lent} {ws : List ℕ} {r : Ready} → c ≡ c′ → Prepared s c′ l ws r → Prepared s c l ws r
+prepared-claim e p = rw e p
+
+pub prepared-same : {s : List ℕ} {c : Claim} {l : Lent} {ws : List ℕ} {r r′ : Ready} → r ≡ r′ → Prepared s c l ws r′ → Prepared s c l ws r
+prepared-same e p = rw e p
 
 abbrev pub tooShort : Refusal
 tooShort = record { number = 9; value = 0 }
 
-module _ (s : List ℕ) (B : ℕ) (l : Lent) where
-  -- after 1 to 8
-  abbrev judging : List ℕ → Instance → Answer ℕ
-  judging proof i = provided (formulaFits i B l) 9 0 (plainRun (limitsOf i B l) (boundedHard i B) proof)
+-- the size of clauses with variables up to the last
+abbrev pub sizeOf : ℕ → List (List ℕ) → FormulaSize
+sizeOf last f = record { variables = last; clauses = length f; words = words f }
 
-  check-then : (proof : List ℕ) → checkOf s B proof l ≡ then (boundedOf s B) (judging proof)
+-- a claim that is judged against such clauses: 9, or the formula
+module _ (s : List ℕ) (c : Claim) (l : Lent) (last : ℕ) (f : List (List ℕ)) {w : FormulaSize} (size : w ≡ sizeOf last f)
+    (answer : (proof : List ℕ) → asked s c l proof ≡ against last f proof l) where
+  fits-same : formulaFits last f l ≡ sizeFits w l
+  unfolding formulaFits
+  fits-same = rw size
+
+  short-for : sizeFits w l ≡ false → RefusedAs s c l tooShort
+  short-for e = record { answer = λ proof. answer proof ∙ rw (fits-same, e) }
+
+  stands-in : Storable last f → sizeFits w l ≡ true → {ws ws′ : List ℕ} {a : ℕ}
+      → Ran put (flatMap mark f) (out 0 ws) (out a ws′) → length ws ≡ l .words
+      → length ws ≤ 9223372036854775807 → FormulaIn s c l ws′ (w .words) (w .variables)
+  stands-in g e {ws} p long short =
+      let t = and-true (leb (w .words) (l .words) && leb (w .clauses) (l .rows)) (leb (w .variables) (l .bytes)) e in
+      let u = and-true (leb (w .words) (l .words)) (leb (w .clauses) (l .rows)) (t .0) in
+      let room : words f ≤ l .words = rw size at (leb-true (w .words) (l .words) (u .0)) in
+      record {
+        clauses = f;
+        rest = drop (words f) ws;
+        marked = stands f p (omega arith) short;
+        size = ap (λ x. x .words) size;
+        plain = g .plain;
+        good = rw size (g .good);
+        rows-fit = rw size at (leb-true (w .clauses) (l .rows) (u .1));
+        bytes-fit = leb-true (w .variables) (l .bytes) (t .1);
+        answer = λ proof. answer proof ∙ rw (fits-same, e, size);
+      }
+
+-- at a bound: the hard clauses and the tail
+module _ (s : List ℕ) (B : ℕ) (l : Lent) where
+  abbrev bounded : List ℕ → Instance → Answer ℕ
+  bounded proof i = against (boundedVariables i B) (boundedHard i B) proof l
+
+  check-then : (proof : List ℕ) → checkOf s B proof l ≡ then (boundedOf s B) (bounded proof)
   unfolding checkOf
-  check-then proof = bound-then s B (judging proof)
+  check-then proof = bound-then s B (bounded proof)
 
   -- 1 to 8
-  pub refused-before : {f : Refusal} → RefusedBy (boundedOf s B) f → RefusedAs s B l f
+  pub refused-before : {f : Refusal} → RefusedBy (boundedOf s B) f → RefusedAs s (Claim.Bound B) l f
   refused-before b = record { answer = λ proof. check-then proof ∙ rw (b .answer) }
 
-  -- 9, or the formula
   module _ {d te tg : List ℕ} {h : Head} {z : Size} {w : FormulaSize} (b : BoundedBy s B d te tg h z w) where
-    fits-same : formulaFits (instanceOf s d te tg h) B l ≡ sizeFits w l
-    unfolding formulaFits
-    fits-same = rw (b .whole)
+    abbrev i : Instance
+    i = instanceOf s d te tg h
 
-    pub refused-short : sizeFits w l ≡ false → RefusedAs s B l tooShort
-    refused-short e = record { answer = λ proof. check-then proof ∙ rw (b .answer, fits-same, e) }
+    judged : (proof : List ℕ) → checkOf s B proof l ≡ against (boundedVariables i B) (boundedHard i B) proof l
+    judged proof = check-then proof ∙ rw (b .answer)
+
+    pub refused-short : sizeFits w l ≡ false → RefusedAs s (Claim.Bound B) l tooShort
+    refused-short e = short-for s (Claim.Bound B) l (boundedVariables i B) (boundedHard i B) (b .whole) judged e
 
     pub formula-in : sizeFits w l ≡ true → {ws ws′ : List ℕ} {a : ℕ}
-        → Ran put (flatMap mark (boundedHard (instanceOf s d te tg h) B)) (out 0 ws) (out a ws′) → length ws ≡ l .words
-        → length ws ≤ 9223372036854775807 → FormulaIn s B l ws′ (w .words) (w .variables)
-    formula-in e {ws} p long short =
-        let i = instanceOf s d te tg h in
-        let t = and-true (leb (w .words) (l .words) && leb (w .clauses) (l .rows)) (leb (w .variables) (l .bytes)) e in
-        let u = and-true (leb (w .words) (l .words)) (leb (w .clauses) (l .rows)) (t .0) in
-        let room : words (boundedHard i B) ≤ l .words = rw (b .whole) at (leb-true (w .words) (l .words) (u .0)) in
-        record {
-          clauses = boundedHard i B;
-          rest = drop (words (boundedHard i B)) ws;
-          marked = stands (boundedHard i B) p (omega arith) short;
-          size = ap (λ x. x .words) (b .whole);
-          plain = bounded-plain i (b .valid) B (b .few);
-          good = rw (b .whole) (bounded-good i (b .valid) B);
-          rows-fit = rw (b .whole) at (leb-true (w .clauses) (l .rows) (u .1));
-          bytes-fit = leb-true (w .variables) (l .bytes) (t .1);
-          answer = λ proof. check-then proof ∙ rw (b .answer, fits-same, e, b .whole);
-        }
+        → Ran put (flatMap mark (boundedHard i B)) (out 0 ws) (out a ws′) → length ws ≡ l .words
+        → length ws ≤ 9223372036854775807 → FormulaIn s (Claim.Bound B) l ws′ (w .words) (w .variables)
+    formula-in e p long short =
+        stands-in s (Claim.Bound B) l (boundedVariables i B) (boundedHard i B) (b .whole) judged
+        (bounded-storable i (b .valid) B (b .few)) e p long short
+
+-- without the tail: the hard clauses alone
+module _ (s : List ℕ) (l : Lent) where
+  abbrev alone : List ℕ → Instance → Answer ℕ
+  alone proof i = against (variables i) (hardOf i) proof l
+
+  hard-then : (proof : List ℕ) → checkHardOf s proof l ≡ then (sizedOf s) (alone proof)
+  unfolding checkHardOf
+  hard-then proof = size-then s (alone proof)
+
+  -- 1 to 6 and 8
+  pub hard-refused : {f : Refusal} → RefusedBy (sizedOf s) f → RefusedAs s Claim.AnyCost l f
+  hard-refused b = record { answer = λ proof. hard-then proof ∙ rw (b .answer) }
+
+  module _ {d te tg : List ℕ} {h : Head} {z : Size} {w : FormulaSize} (b : SizedBy s d te tg h z) (e : w ≡ stored z) where
+    abbrev j : Instance
+    j = instanceOf s d te tg h
+
+    hard-size : w ≡ sizeOf (variables j) (hardOf j)
+    unfolding stored
+    hard-size = e ∙ rw (b .numbers .variables, b .numbers .clauses, b .numbers .words)
+
+    hard-judged : (proof : List ℕ) → checkHardOf s proof l ≡ against (variables j) (hardOf j) proof l
+    hard-judged proof = hard-then proof ∙ rw (b .answer)
+
+    pub hard-short : sizeFits w l ≡ false → RefusedAs s Claim.AnyCost l tooShort
+    hard-short f = short-for s Claim.AnyCost l (variables j) (hardOf j) hard-size hard-judged f
+
+    pub hard-in : sizeFits w l ≡ true → {ws ws′ : List ℕ} {a : ℕ}
+        → Ran put (flatMap mark (hardOf j)) (out 0 ws) (out a ws′) → length ws ≡ l .words
+        → length ws ≤ 9223372036854775807 → FormulaIn s Claim.AnyCost l ws′ (w .words) (w .variables)
+    hard-in f p long short =
+        stands-in s Claim.AnyCost l (variables j) (hardOf j) hard-size hard-judged (hard-storable j (b .valid) (b .few)) f p long short

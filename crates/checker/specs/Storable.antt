@@ -1,17 +1,17 @@
--- The formula with its tail can stand in the checker's stores: no clause is empty, and every literal is one of its variables.
+-- A formula, without and with its tail, can stand in the checker's stores: no clause is empty, and every literal is one of its variables.
 use mathlib.Core.List.{List, [], _∷_}
 use Prim.Native.Nat.{ℕ, _+_, _≤_}
 use native.Mathlib.Omega.{arith}
 use Rattle.laws.specs.Lists as lists
 use Rattle.scope.specs.Instance.{Instance}
-use Rattle.scope.specs.Formula.{boundedVariables, boundedHard}
+use Rattle.scope.specs.Formula.{variables, hardOf, boundedVariables, boundedHard}
 use Rattle.theory.specs.Accepted.{ValidInstance}
 use Rattle.theory.specs.Order.{Proper}
-use Rattle.theory.specs.Literals.{bounded-literals}
+use Rattle.theory.specs.Literals.{formula-literals, bounded-literals}
 use Rattle.store.specs.Holding.{All, Good}
 use Rattle.store.specs.Built.{Each}
 use Rattle.store.specs.Marked.{Small, Plain}
-use Rattle.checker.specs.NonEmpty.{NonEmpty, bounded-nonempty}
+use Rattle.checker.specs.NonEmpty.{NonEmpty, formula-nonempty, bounded-nonempty}
 
 -- of variables before m, which is at most 2 ^ 30
 module _ (m : ℕ) (h : m ≤ 1073741824) where
@@ -37,11 +37,19 @@ module _ (last : ℕ) where
   each-good [] a = tt
   each-good (c ∷ f) a = (all-good c (a .0), each-good f (a .1))
 
--- the formula of an accepted instance with the tail for a bound
-module _ (i : Instance) (v : ValidInstance i) (B : ℕ) where
-  pub bounded-plain : boundedVariables i B ≤ 8000000 → Plain (boundedHard i B)
-  bounded-plain h =
-      plain (boundedVariables i B + 1) (omega arith) (boundedHard i B) (bounded-nonempty i B) (bounded-literals i v B)
+-- clauses with variables up to the last, of which no more are allowed than 8,000,000
+pub record Storable (last : ℕ) (f : List (List ℕ)) : Type 0 where
+  pub plain : Plain f
+  pub good : Each (Good last) f
 
-  pub bounded-good : Each (Good (boundedVariables i B)) (boundedHard i B)
-  bounded-good = each-good (boundedVariables i B) (boundedHard i B) (bounded-literals i v B)
+storable : (last : ℕ) (f : List (List ℕ)) → last ≤ 8000000 → lists.All NonEmpty f → lists.All (lists.All (Proper (last + 1))) f
+    → Storable last f
+storable last f h n a = record { plain = plain (last + 1) (omega arith) f n a; good = each-good last f a }
+
+-- the formula of an accepted instance, without and with the tail for a bound
+module _ (i : Instance) (v : ValidInstance i) where
+  pub hard-storable : variables i ≤ 8000000 → Storable (variables i) (hardOf i)
+  hard-storable h = storable (variables i) (hardOf i) h (formula-nonempty i) (formula-literals i v)
+
+  pub bounded-storable : (B : ℕ) → boundedVariables i B ≤ 8000000 → Storable (boundedVariables i B) (boundedHard i B)
+  bounded-storable B h = storable (boundedVariables i B) (boundedHard i B) h (bounded-nonempty i B) (bounded-literals i v B)

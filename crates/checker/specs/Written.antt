@@ -12,7 +12,7 @@ use Rattle.instance.specs.Answers.{instanceOf}
 use Rattle.instance.specs.Stores.{Stores}
 use Rattle.sizing.specs.declared.Size.{Size}
 use Rattle.sizes.specs.Whole.{Numbers}
-use Rattle.sizes.specs.Measured.{BoundedBy}
+use Rattle.sizes.specs.Measured.{SizedBy, BoundedBy}
 use Rattle.sink.specs.Run.{Ran, then, Out, out, put, run-fits, run-at}
 use Rattle.sink.specs.Block.{mark}
 use Rattle.sink.specs.World.{World, world, step}
@@ -72,6 +72,11 @@ bounding {s} {B} {d} {te} {tg} {list} {h} b l =
       few = b .few;
       numbers = b .numbers;
     }
+
+-- without the tail
+pub hard-writable : {s d te tg list : List ℕ} {h : Head} {z : Size} → SizedBy s d te tg h z → Stores d te tg list
+    → Writable s d te tg list h
+hard-writable b l = record { accepted = b .accepted; stores = l; few = b .few }
 
 -- the tail's variables are among the formula's
 module _ {s : List ℕ} {B : ℕ} {d te tg list : List ℕ} {h : Head} {z : Size} (b : Bounding s B d te tg list h z) where

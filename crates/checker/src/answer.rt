@@ -1,4 +1,5 @@
-// The check of a bound proof, with lent stores.
+// The check of a proof, with lent stores.
+use crate::claim::Claim;
 use crate::prepare::Ready;
 use crate::prepare::prepare;
 use bound::drive::drive;
@@ -11,9 +12,8 @@ use store::marks::clear_bytes;
 ghost use mathlib.Core.Path.{_≡_};
 ghost use lib.ListN.{length, replicate};
 ghost use Rattle.scope.specs.Answers.{checkMeans};
-ghost use Rattle.scope.specs.Operations.{checkOf};
 ghost use Rattle.store.specs.Rows.{noRow};
-ghost use Rattle.checker.specs.Prepared.{lent};
+ghost use Rattle.checker.specs.Prepared.{lent, asked};
 ghost use Rattle.checker.specs.Checked.{Follows};
 
 // The directory is built of the formula that is ready, and the proof is judged.
@@ -35,23 +35,23 @@ fn follow(
     }
 }
 
-// "No timetable" with the number of steps, or refusals 1 to 9 and 14 to 18. What the stores hold does not matter; afterwards
-// they are zero.
+// "No timetable" with the number of steps, or refusals 1 to 9 and 14 to 18; without the tail 7 is never given. What the stores
+// hold does not matter; afterwards they are zero.
 pub fn check(
     file: &[u8],
-    bound: u64,
+    claim: Claim,
     proof: &[u8],
     words: &mut [u32],
     rows: &mut [Row],
     marks: &mut [u8],
 ) -> CheckAnswer
-    ensures { λ r. ⌜ checkMeans r ≡ checkOf (now (file .entry)) bound (now (proof .entry))
-        (lent (length (now (words .entry))) (length (now (rows .entry))) (length (now (marks .entry)))) ⌝ }
+    ensures { λ r. ⌜ checkMeans r ≡ asked (now (file .entry)) claim
+        (lent (length (now (words .entry))) (length (now (rows .entry))) (length (now (marks .entry)))) (now (proof .entry)) ⌝ }
     ensures { λ _. ⌜ now (words .exit) ≡ replicate (length (now (words .entry))) 0 ⌝ }
     ensures { λ _. ⌜ now (rows .exit) ≡ replicate (length (now (rows .entry))) noRow ⌝ }
     ensures { λ _. ⌜ now (marks .exit) ≡ replicate (length (now (marks .entry))) 0 ⌝ }
 {
-    let ready = prepare(file, bound, words, rows.len(), marks);
+    let ready = prepare(file, claim, words, rows.len(), marks);
     let r = follow(ready, proof, words, rows, marks);
     clear_words(words);
     clear_rows(rows);

@@ -1,13 +1,20 @@
-// What comes before a proof's first step: refusals 1 to 9, and the formula with its tail in the lent words.
+// What comes before a proof's first step: refusals 1 to 9, and in the lent words the formula that the claim is about.
+use crate::claim::Claim;
 use crate::write::write_bounded;
+use crate::write::write_hard;
 use scope::FormulaSize;
 use scope::Refusal;
 use sizes::Bounded;
+use sizes::Measured;
+use sizes::measure;
 use sizes::measure_bound;
+use sizing::blocks::stored_size;
 use store::marks::clear_bytes;
 ghost use mathlib.Core.Path.{_≡_};
 ghost use lib.ListN.{length, replicate};
-ghost use Rattle.checker.specs.Prepared.{lent, sizeFits, Prepared};
+ghost use Rattle.checker.specs.Prepared.{lent, sizeFits, tooShort, Prepared};
+ghost use Rattle.checker.specs.declared.claim.Claim.{Claim};
+ghost use Rattle.checker.specs.declared.prepare.Ready.{Ready};
 
 // "a lent store is too short"
 const STORE_TOO_SHORT: u8 = 9;
@@ -31,9 +38,18 @@ fn fits(z: FormulaSize, words: usize, rows: usize, bytes: usize) -> bool
     z.variables <= bytes as u64
 }
 
-// The formula is written if the stores are long enough for it.
-fn fill(file: &[u8], bound: u64, words: &mut [u32], rows: usize, bytes: usize) -> Ready
-    ensures { λ r. ⌜ Prepared (now (file .entry)) bound (lent (length (now (words .entry))) rows bytes) (now (words .exit)) r ⌝ }
+fn too_short() -> Ready
+    ensures { λ r. ⌜ r ≡ Ready.Refused tooShort ⌝ }
+{
+    Ready::Refused(Refusal {
+        number: STORE_TOO_SHORT,
+        value: 0,
+    })
+}
+
+// The hard clauses and the tail for a bound are written if the stores are long enough for them.
+fn fill_bounded(file: &[u8], bound: u64, words: &mut [u32], rows: usize, bytes: usize) -> Ready
+    ensures { λ r. ⌜ Prepared (now (file .entry)) (Claim.Bound bound) (lent (length (now (words .entry))) rows bytes) (now (words .exit)) r ⌝ }
 {
     let mut durations = tables::durations();
     let mut resources = tables::resource_rows();
@@ -65,20 +81,59 @@ fn fill(file: &[u8], bound: u64, words: &mut [u32], rows: usize, bytes: usize) -
                 let last = all.variables as usize;
                 return Ready::Formula(used, last);
             }
-            Ready::Refused(Refusal {
-                number: STORE_TOO_SHORT,
-                value: 0,
-            })
+            too_short()
         }
         Bounded::Refused(x) => Ready::Refused(x),
     }
 }
 
+// The hard clauses alone.
+fn fill_hard(file: &[u8], words: &mut [u32], rows: usize, bytes: usize) -> Ready
+    ensures { λ r. ⌜ Prepared (now (file .entry)) Claim.AnyCost (lent (length (now (words .entry))) rows bytes) (now (words .exit)) r ⌝ }
+{
+    let mut durations = tables::durations();
+    let mut resources = tables::resource_rows();
+    let mut groups = tables::group_rows();
+    let mut list = tables::list();
+    let m = measure(file, &mut durations, &mut resources, &mut groups, &mut list);
+    match m {
+        Measured::Sized(head, z) => {
+            let all = stored_size(z);
+            if fits(all, words.len(), rows, bytes) {
+                write_hard(
+                    words,
+                    file,
+                    head,
+                    &durations,
+                    &resources,
+                    &groups,
+                    &mut list,
+                );
+                let used = all.words as usize;
+                let last = all.variables as usize;
+                return Ready::Formula(used, last);
+            }
+            too_short()
+        }
+        Measured::Refused(x) => Ready::Refused(x),
+    }
+}
+
+// The formula of a claim.
+fn fill(file: &[u8], claim: Claim, words: &mut [u32], rows: usize, bytes: usize) -> Ready
+    ensures { λ r. ⌜ Prepared (now (file .entry)) claim (lent (length (now (words .entry))) rows bytes) (now (words .exit)) r ⌝ }
+{
+    match claim {
+        Claim::Bound(bound) => fill_bounded(file, bound, words, rows, bytes),
+        Claim::AnyCost => fill_hard(file, words, rows, bytes),
+    }
+}
+
 // The formula in the words, with every mark open, where a directory of so many rows is lent.
-pub fn prepare(file: &[u8], bound: u64, words: &mut [u32], rows: usize, marks: &mut [u8]) -> Ready
-    ensures { λ r. ⌜ Prepared (now (file .entry)) bound (lent (length (now (words .entry))) rows (length (now (marks .entry)))) (now (words .exit)) r ⌝ }
+pub fn prepare(file: &[u8], claim: Claim, words: &mut [u32], rows: usize, marks: &mut [u8]) -> Ready
+    ensures { λ r. ⌜ Prepared (now (file .entry)) claim (lent (length (now (words .entry))) rows (length (now (marks .entry)))) (now (words .exit)) r ⌝ }
     ensures { λ _. ⌜ now (marks .exit) ≡ replicate (length (now (marks .entry))) 0 ⌝ }
 {
     clear_bytes(marks);
-    fill(file, bound, words, rows, marks.len())
+    fill(file, claim, words, rows, marks.len())
 }

@@ -17,7 +17,7 @@ ghost use Rattle.clauses.specs.Writable.{Writable};
 ghost use Rattle.checker.specs.Written.{RowsPut, Bounding};
 
 // The hard clauses; the position after them.
-fn write_hard(
+pub fn write_hard(
     words: &mut [u32],
     file: &[u8],
     head: Head,

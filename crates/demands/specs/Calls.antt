@@ -12,25 +12,24 @@ use Rattle.scope.specs.Parsed.{Parsed, got, refused, Answer, answered, with, pr
 use Rattle.scope.specs.Instance.{Instance, parse}
 use Rattle.scope.specs.Formula.{primary, variables, mostVariables}
 use Rattle.scope.specs.Operations.{decodeOf, checkOf, falsifiedSoft}
-use Rattle.scope.specs.Spelling.{Bytes}
 use Rattle.scope.specs.Refutation.{NoTimetable}
-use Rattle.scope.specs.Demands.{Accepted, KeepsHard}
+use Rattle.scope.specs.Demands.{Accepted, KeepsHard, Model}
 use Rattle.scope.specs.declared.Infeasibility.{Infeasibility}
 use Rattle.scope.specs.declared.Objective.{Objective}
 use Rattle.laws.specs.Booleans.{impossible}
 use Rattle.theory.specs.Demands.{demand2, demand3}
 use Rattle.calls.specs.Call.{called}
-use Rattle.engine.specs.Operations.{decodeCall, decodedOf, Stores, lentBy, zeroed, checkCall}
+use Rattle.engine.specs.Operations.{decodeCall, decodedOf, Stores, lentBy, zeroed, stepsCall, checkCall}
 use Rattle.engine.specs.Numbers.{zero-accepted, decode-numbers, check-numbers}
 use Rattle.engine.specs.Numbers as numbers
 
 -- the instance of a file that gives none of 1 to 6
-record Read (file : List ℕ) : Type 0 where
-  instance : Instance
-  accepted : Accepted file instance
+pub record Read (file : List ℕ) : Type 0 where
+  pub instance : Instance
+  pub accepted : Accepted file instance
 
 -- an operation that is not refused has read its file
-was-read : {A : Type 0} (file : List ℕ) (p : Parsed Instance) (f : Instance → Answer A) {a : A}
+pub was-read : {A : Type 0} (file : List ℕ) (p : Parsed Instance) (f : Instance → Answer A) {a : A}
     → parse file ≡ p
     → with p f ≡ answered a
     → Read file
@@ -59,15 +58,15 @@ module _ (file : List ℕ) (B : ℕ) (proof : List ℕ) (s : Stores) where
       demand3 .never file (a .instance) B proof (lentBy s) _ (a .accepted) (refuted-answers r)
 
   -- "that answer comes exactly when all of this is so"
-  pub exactly : (i : Instance) → Accepted file i → Bytes proof → (n : ℕ) → Refuted n ↔ NoTimetable i B proof (lentBy s) n
-  exactly i a b n =
-      let d = demand3 .exactly file i B proof (lentBy s) n a b in (
+  pub exactly : (i : Instance) → Accepted file i → (n : ℕ) → Refuted n ↔ NoTimetable i B proof (lentBy s) n
+  exactly i a n =
+      let d = demand3 .exactly file i B proof (lentBy s) n a in (
         λ r. d .0 (refuted-answers r),
         λ k.
             let e = d .1 k in
             record {
-              number = ap (λ (x : Answer ℕ). called x (λ (steps : ℕ). (steps, zeroed s)) (zeroed s) .number) e;
-              value = ap (λ (x : Answer ℕ). called x (λ (steps : ℕ). (steps, zeroed s)) (zeroed s) .value) e;
+              number = ap (λ (x : Answer ℕ). stepsCall x s .number) e;
+              value = ap (λ (x : Answer ℕ). stepsCall x s .value) e;
             },
       )
 
@@ -137,6 +136,17 @@ module _ (file m : List ℕ) (before : ℕ) where
         demand3 .best file (a .instance) m _ (record { 0 = w }) proof (lentBy s) _ (a .accepted) decoded-answers low high
         (refuted-answers file (w - 1) proof s r)
 
+-- it returns 0 exactly for the models of the hard clauses
+pub zero-exactly : (file : List ℕ) (i : Instance) → Accepted file i → variables i ≤ mostVariables → (before : ℕ) (m : List ℕ)
+    → (decodeCall file m before .number ≡ 0) ↔ Model i m
+zero-exactly file i a l before m =
+    let one = demand2 file i a l in (
+      λ z.
+          let k = zero-accepted decodedOf before refl (decode-numbers file m) z in
+          one .only-models m (k .result .0) (k .result .1) (k .eq),
+      λ h. ap (λ (x : Answer (List ℕ × Objective)). called x decodedOf before .number) (one .decodes m h),
+    )
+
 -- "each such timetable has exactly one model": one that timetable_decode reads it out of, at its cost, and no other
 pub record OneModel (file t : List ℕ) (before cost : ℕ) : Type 0 where
   pub model : List ℕ
@@ -168,4 +178,19 @@ one-model file i a l t cost k before =
           let same = same-answer (sym (one .decodes n model) ∙ h) in
           let p = sym (decoded-part file n _ _ h .1) ∙ ap (λ (k : ℕ). take k n) (decoded-length file n before d) ∙ q in
           o .3 n model (ap (λ (x : List ℕ × Objective). x .0) same ∙ p);
+    }
+
+-- Demand 2 of timetable_decode: it returns 0 exactly for the models of the hard clauses; the bytes that it tells are then a
+-- timetable that keeps every hard constraint at the cost it tells; and each such timetable is told for exactly one model
+pub record DecodeMatches (file : List ℕ) (i : Instance) : Type 0 where
+  pub models : (before : ℕ) (m : List ℕ) → (decodeCall file m before .number ≡ 0) ↔ Model i m
+  pub timetables : (before : ℕ) (m : List ℕ) (k w : ℕ) → Decoded file m before k w → KeepsHard file (take k m) (record { 0 = w })
+  pub one-each : (before : ℕ) (t : List ℕ) (cost : Objective) → KeepsHard file t cost → OneModel file t before (cost .0)
+
+pub demand2-of-decode : (file : List ℕ) (i : Instance) → Accepted file i → variables i ≤ mostVariables → DecodeMatches file i
+demand2-of-decode file i a l =
+    record {
+      models = zero-exactly file i a l;
+      timetables = λ before m k w d. keeps file m before d;
+      one-each = λ before t cost k. one-model file i a l t cost k before;
     }

@@ -2,13 +2,14 @@
 use mathlib.Core.List.{List, _++_}
 use Prim.Native.Nat.{ℕ}
 use lib.ListN.{length, drop, replicate}
-use Rattle.scope.specs.Operations.{readOf, scoreOf, sameSheetOf, sizesOf, textSizeOf, textOf, decodeOf, Lent, checkOf}
+use Rattle.scope.specs.Operations.{readOf, scoreOf, sameSheetOf, sizesOf, textSizeOf, textOf, decodeOf, Lent, checkOf, checkHardOf, bestOf}
 use Rattle.scope.specs.declared.InstanceSize.{InstanceSize}
 use Rattle.scope.specs.declared.FormulaSize.{FormulaSize}
 use Rattle.scope.specs.declared.Infeasibility.{Infeasibility}
 use Rattle.scope.specs.declared.Objective.{Objective}
 use Rattle.store.specs.declared.directory.Row.{Row}
 use Rattle.store.specs.Rows.{noRow}
+use Rattle.scope.specs.Parsed.{Answer}
 use Rattle.calls.specs.Call.{Call, called}
 use Rattle.calls.specs.Outputs.{leavesAmounts, leavesCounts, leavesLength, leavesSameness, leavesSizes}
 
@@ -60,6 +61,20 @@ zeroRows rs = replicate (length rs) noRow
 abbrev pub zeroed : Stores → Stores
 zeroed s = (zeros (s .0), zeroRows (s .1), zeros (s .2))
 
--- checking a bound proof: *value is the number of steps; the stores are zero, accepted or refused
+-- a check: *value is the number of steps; the stores are zero, accepted or refused
+abbrev pub stepsCall : Answer ℕ → Stores → Call Stores
+stepsCall a s = called a (λ steps. (steps, zeroed s)) (zeroed s)
+
+-- checking a bound proof, and a proof without the tail
 abbrev pub checkCall : List ℕ → ℕ → List ℕ → Stores → Call Stores
-checkCall file bound proof s = called (checkOf file bound proof (lentBy s)) (λ steps. (steps, zeroed s)) (zeroed s)
+checkCall file bound proof s = stepsCall (checkOf file bound proof (lentBy s)) s
+
+abbrev pub checkHardCall : List ℕ → List ℕ → Stores → Call Stores
+checkHardCall file proof s = stepsCall (checkHardOf file proof (lentBy s)) s
+
+-- the best model: *value is the number of steps, the cost is written; the stores are zero, accepted or refused
+abbrev pub leavesBoth : Answer (Objective × ℕ) → Objective → Stores → Call (Objective × Stores)
+leavesBoth a objective s = called a (λ b. (b .1, (b .0, s))) (objective, s)
+
+abbrev pub bestCall : List ℕ → List ℕ → List ℕ → Objective → Stores → Call (Objective × Stores)
+bestCall file model proof objective s = leavesBoth (bestOf file model proof (lentBy s)) objective (zeroed s)

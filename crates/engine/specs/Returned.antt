@@ -4,15 +4,17 @@ use mathlib.Core.Path.{_≡_, refl, ap, _∙_}
 use mathlib.Core.List.{List, _++_}
 use lib.ListN.{length, drop}
 use Rattle.scope.specs.Parsed.{Answer, answered, refusal}
-use Rattle.scope.specs.Operations.{textOf, checkOf}
-use Rattle.scope.specs.Answers.{textMeans, checkMeans}
-use Rattle.scope.specs.declared.Refusal.{Refusal}
+use Rattle.scope.specs.Operations.{textOf}
+use Rattle.scope.specs.Answers.{textMeans, checkMeans, bestMeans}
 use Rattle.scope.specs.declared.TextAnswer.{TextAnswer}
+use Rattle.scope.specs.declared.Objective.{Objective}
 use Rattle.scope.specs.declared.CheckAnswer.{CheckAnswer}
+use Rattle.scope.specs.declared.BestAnswer.{BestAnswer}
 use Rattle.store.specs.declared.directory.Row.{Row}
 use Rattle.text.specs.Written.{written}
 use Rattle.calls.specs.Call.{Call, call, called, leaving, alone}
-use Rattle.engine.specs.Operations.{textCall, Stores, lentBy, zeros, zeroRows, zeroed, checkCall}
+use Rattle.engine.specs.Operations.{textCall, Stores, zeros, zeroRows, zeroed, stepsCall, leavesBoth}
+use Rattle.calls.specs.Outputs.{leavesBest}
 
 -- the number and the value of an answer, and other outputs beside them
 with-outputs : {B : Type 0} (a : Answer ℕ) (outputs : B) {number value : ℕ} → call number value tt ≡ alone a
@@ -42,11 +44,28 @@ zeroed-leaves : (a : Answer ℕ) (s : Stores) → leaving a (zeroed s) ≡ calle
 zeroed-leaves (answered n) s = refl
 zeroed-leaves (refusal k v) s = refl
 
-module _ (file : List ℕ) (B : ℕ) (proof ws : List ℕ) (rs : List Row) (ms : List ℕ) (x : CheckAnswer) {words : List ℕ} {rows : List Row} {marks : List ℕ}
-    (e : checkMeans x ≡ checkOf file B proof (lentBy (ws, rs, ms))) (w : words ≡ zeros ws) (r : rows ≡ zeroRows rs) (m : marks ≡ zeros ms) where
-  check-leaves : leaving (checkMeans x) (words, rows, marks) ≡ checkCall file B proof (ws, rs, ms)
-  check-leaves = rw (e, w, r, m) (zeroed-leaves (checkOf file B proof (lentBy (ws, rs, ms))) (ws, rs, ms))
+module _ (a : Answer ℕ) (ws : List ℕ) (rs : List Row) (ms : List ℕ) (x : CheckAnswer) {words : List ℕ} {rows : List Row} {marks : List ℕ}
+    (e : checkMeans x ≡ a) (w : words ≡ zeros ws) (r : rows ≡ zeroRows rs) (m : marks ≡ zeros ms) where
+  check-leaves : leaving (checkMeans x) (words, rows, marks) ≡ stepsCall a (ws, rs, ms)
+  check-leaves = rw (e, w, r, m) (zeroed-leaves a (ws, rs, ms))
 
   pub check-told : {number value : ℕ} → call number value tt ≡ alone (checkMeans x)
-      → call number value (words, rows, marks) ≡ checkCall file B proof (ws, rs, ms)
+      → call number value (words, rows, marks) ≡ stepsCall a (ws, rs, ms)
   check-told t = with-outputs (checkMeans x) (words, rows, marks) t ∙ check-leaves
+
+-- the best model: its cost and steps or a refusal, and zeros in the stores
+stores-beside : (a : Answer (Objective × ℕ)) (before : Objective) (s : Stores) {number value : ℕ} {w : Objective}
+    → call number value w ≡ leavesBest a before → call {B = Objective × Stores} number value (w, s) ≡ leavesBoth a before s
+stores-beside a before s t = ap (λ (c : Call Objective). call {B = Objective × Stores} (c .number) (c .value) (c .outputs, s)) t ∙ go a
+  where
+    go : (a : Answer (Objective × ℕ))
+        → call {B = Objective × Stores} (leavesBest a before .number) (leavesBest a before .value) (leavesBest a before .outputs, s)
+        ≡ leavesBoth a before s
+    go (answered b) = refl
+    go (refusal k v) = refl
+
+module _ (a : Answer (Objective × ℕ)) (before : Objective) (ws : List ℕ) (rs : List Row) (ms : List ℕ) (x : BestAnswer) {words : List ℕ}
+    {rows : List Row} {marks : List ℕ} (e : bestMeans x ≡ a) (w : words ≡ zeros ws) (r : rows ≡ zeroRows rs) (m : marks ≡ zeros ms) where
+  pub best-told : {number value : ℕ} {cost : Objective} → call number value cost ≡ leavesBest (bestMeans x) before
+      → call {B = Objective × Stores} number value (cost, (words, rows, marks)) ≡ leavesBoth a before (zeroed (ws, rs, ms))
+  best-told t = stores-beside (bestMeans x) before (words, rows, marks) t ∙ rw (e, w, r, m)

@@ -4,6 +4,9 @@
 // equation: what the call leaves (the number returned, *value and every other output) is what specs/Operations.antt says of
 // the operation's answer by the definitions. An input is lent as `&`, so it keeps every byte. None asks anything of its caller
 // but good pointers. specs/Numbers.antt shows that 0 is returned for an accepted call alone.
+mod best_model;
+mod check_hard;
+
 use calls::leave_amounts;
 use calls::leave_counts;
 use calls::leave_length;
@@ -12,6 +15,7 @@ use calls::leave_sizes;
 use calls::leave_steps;
 use calls::leave_written;
 use calls::refuse;
+use checker::Claim;
 use checker::check;
 use instance::read_instance;
 use model::Evaluation;
@@ -153,6 +157,7 @@ pub extern "C" fn timetable_check(
         ≡ checkCall (now (file .entry)) bound (now (proof .entry))
         (now (words .entry), now (rows .entry), now (marks .entry)) ⌝ }
 {
-    let answer = check(file, bound, proof, words, rows, marks);
+    let claim = Claim::Bound(bound);
+    let answer = check(file, claim, proof, words, rows, marks);
     leave_steps(answer, value)
 }

@@ -79,19 +79,23 @@ pub record EvaluatedAs (s m : List ℕ) (e : Evaluation) : Type 0 where
   pub answer : decodeMeans (partOf e m) (answerOf e) ≡ decodeOf s m
   pub inside : partLength e ≤ length m
 
--- what decoding gives: the part and the cost; or an empty part and the refusal
-abbrev pub returned : Answer Decoded → List ℕ × DecodeAnswer
-returned (answered x) = (x .0, DecodeAnswer.Decoded (x .1))
-returned (refusal k v) = ([], DecodeAnswer.Refused (record { number = k; value = v }))
+-- "a refused one gives an empty part"
+abbrev pub partGiven : Answer Decoded → List ℕ
+partGiven (answered x) = x .0
+partGiven (refusal k v) = []
 
--- the part and the answer of an evaluation are what decoding gives
-as-returned : {s m : List ℕ} (e : Evaluation) → EvaluatedAs s m e → (partOf e m, answerOf e) ≡ returned (decodeOf s m)
-as-returned (Evaluation.Holds n o) h = ap returned (h .answer)
-as-returned (Evaluation.Refused f) h = ap returned (h .answer)
+-- what decoding gives of a file and a model: a part, and the answer beside it
+abbrev pub Gives : (s m p : List ℕ) (a : DecodeAnswer) → Type 0
+Gives s m p a = (decodeMeans p a ≡ decodeOf s m) × (p ≡ partGiven (decodeOf s m))
+
+-- the part and the answer of an evaluation are such
+part-given : {s m : List ℕ} (e : Evaluation) → EvaluatedAs s m e → partOf e m ≡ partGiven (decodeOf s m)
+part-given (Evaluation.Holds n o) h = ap partGiven (h .answer)
+part-given (Evaluation.Refused f) h = ap partGiven (h .answer)
 
 pub decoded-as : {s m : List ℕ} {e : Evaluation} {p : List ℕ} {a : DecodeAnswer} → EvaluatedAs s m e → p ≡ partOf e m → a ≡ answerOf e
-    → (p, a) ≡ returned (decodeOf s m)
-decoded-as {e = e} h f g = rw (f, g) (as-returned e h)
+    → Gives s m p a
+decoded-as {e = e} h f g = rw (f, g) (h .answer, part-given e h)
 
 -- what is asked of a model once the file is sized
 abbrev ofModel : List ℕ → Instance → Answer Decoded

@@ -3,7 +3,7 @@ use Prim.Native.Nat.{ℕ, _≤_}
 use mathlib.Core.Path.{_≡_, sym, ap, _∙_}
 use mathlib.Core.List.{List, []}
 use native.Mathlib.Omega.{arith}
-use Rattle.scope.specs.Parsed.{Answer, answered, refusal}
+use Rattle.scope.specs.Parsed.{answered}
 use Rattle.scope.specs.Instance.{Instance}
 use Rattle.scope.specs.Formula.{variables, mostVariables}
 use Rattle.scope.specs.Operations.{scoreOf, part, falsifiedSoft, decodeOf}
@@ -15,15 +15,11 @@ use Rattle.scope.specs.declared.Refusal.{Refusal}
 use Rattle.scope.specs.declared.ScoreAnswer.{ScoreAnswer}
 use Rattle.scope.specs.declared.DecodeAnswer.{DecodeAnswer}
 use Rattle.theory.specs.Demands.{demand2}
-use Rattle.model.specs.Answers.{Decoded, returned}
-
--- what the contract of decode says: the part that it returns, and the answer beside it
-abbrev pub Leaves : (file m p : List ℕ) (answer : DecodeAnswer) → Type 0
-Leaves file m p answer = (p, answer) ≡ returned (decodeOf file m)
+use Rattle.model.specs.Answers.{Decoded, partGiven, Gives}
 
 -- a model that is decoded: a part p at a cost
 abbrev pub Decodes : List ℕ → List ℕ → List ℕ → Objective → Type 0
-Decodes file m p cost = Leaves file m p (DecodeAnswer.Decoded cost)
+Decodes file m p cost = Gives file m p (DecodeAnswer.Decoded cost)
 
 -- demand 2, for an accepted file within the limit of variables
 pub record Matches (file : List ℕ) (i : Instance) : Type 0 where
@@ -35,28 +31,14 @@ pub record Matches (file : List ℕ) (i : Instance) : Type 0 where
   -- each timetable of infeasibility 0 has a model that is decoded to it, at its objective
   pub every : (t : List ℕ) (cost : Objective) → KeepsHard file t cost → (m : List ℕ) × Decodes file m t cost
   -- a model that is refused is none, and its part is empty
-  pub refused : (m p : List ℕ) (f : Refusal) → Leaves file m p (DecodeAnswer.Refused f) → (Model i m → ⊥) × (p ≡ [])
+  pub refused : (m p : List ℕ) (f : Refusal) → Gives file m p (DecodeAnswer.Refused f) → (Model i m → ⊥) × (p ≡ [])
 
 answered-same : {A : Type 0} {x y : A} → answered x ≡ answered y → x ≡ y
 answered-same e = cc
 
--- the cost of an answer, 0 if there is none
-abbrev costOf : DecodeAnswer → Objective
-costOf (DecodeAnswer.Decoded cost) = cost
-costOf (DecodeAnswer.Refused f) = record { 0 = 0 }
-
--- which answer of the definitions is given
-was-answered : (a : Answer Decoded) {p : List ℕ} {cost : Objective} → (p, DecodeAnswer.Decoded cost) ≡ returned a → a ≡ answered (p, cost)
-was-answered (answered x) e = ap (λ (z : List ℕ × DecodeAnswer). answered (z .0, costOf (z .1))) (sym e)
-was-answered (refusal k v) e = cc (ap (λ (z : List ℕ × DecodeAnswer). z .1) e)
-
-was-refused : (a : Answer Decoded) {p : List ℕ} {f : Refusal} → (p, DecodeAnswer.Refused f) ≡ returned a → ((x : Decoded) → a ≡ answered x → ⊥) × (p ≡ [])
-was-refused (answered x) e = let z : _≡_ {A = ℕ} 0 1 = cc (ap (λ (z : List ℕ × DecodeAnswer). z .1) e) in let f : ⊥ = omega arith in absurd f
-was-refused (refusal k v) e = (λ x t. let z : _≡_ {A = ℕ} 0 1 = cc t in omega arith, ap (λ (z : List ℕ × DecodeAnswer). z .0) e)
-
 module _ (file : List ℕ) (i : Instance) (a : Accepted file i) (l : variables i ≤ mostVariables) where
   decoded : (m p : List ℕ) (cost : Objective) → Decodes file m p cost → decodeOf file m ≡ answered (p, cost)
-  decoded m p cost d = was-answered (decodeOf file m) d
+  decoded m p cost d = sym (d .0)
 
   one : OneToOne file i
   one = demand2 file i a l
@@ -84,10 +66,10 @@ module _ (file : List ℕ) (i : Instance) (a : Accepted file i) (l : variables i
             let o = one .one-model t cost k in
             let c = rw (o .2) at (one .cost (o .0) (o .1)) in
             let f : falsifiedSoft i (o .0) ≡ cost = ap (λ (x : Infeasibility × Objective). x .1) (answered-same (sym c ∙ k)) in
-            (o .0, sym (ap returned (one .decodes (o .0) (o .1)) ∙ rw (o .2, f)));
+            let e : decodeOf file (o .0) ≡ answered (t, cost) = one .decodes (o .0) (o .1) ∙ rw (o .2, f) in
+            (o .0, (sym e, sym (ap partGiven e)));
         refused = λ m p f d.
-            let r = was-refused (decodeOf file m) d in
-            (λ k. r .0 (part i m, falsifiedSoft i m) (one .decodes m k), r .1);
+            (λ k. let e = d .0 ∙ one .decodes m k in let z : _≡_ {A = ℕ} 0 1 = cc in omega arith, d .1 ∙ ap partGiven (sym (d .0)));
       }
 
   -- whoever scores the part gets the same objective

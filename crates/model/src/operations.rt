@@ -18,7 +18,8 @@ ghost use Rattle.instance.specs.Start.{SizesIn};
 ghost use Rattle.instance.specs.Stores.{Stores};
 ghost use Rattle.sizes.specs.Measured.{SizedBy};
 ghost use Rattle.scope.specs.Operations.{decodeOf};
-ghost use Rattle.model.specs.Answers.{judgedOf, EvaluatedAs, partOf, partLength, answerOf, returned};
+ghost use Rattle.scope.specs.Answers.{decodeMeans};
+ghost use Rattle.model.specs.Answers.{judgedOf, EvaluatedAs, partOf, partLength, answerOf, partGiven};
 
 // How many bytes of the model hold Y and S, with the weight of the soft clauses that it falsifies; or a refusal.
 pub enum Evaluation {
@@ -131,7 +132,8 @@ fn answer_of(e: Evaluation) -> DecodeAnswer
 
 // The part of the model that holds Y and S with the cost, or refusals 1 to 6, 8, 10, 11 and 13.
 pub fn decode<'a>(file: &[u8], model: &'a [u8]) -> Decoding<'a>
-    ensures { λ r. ⌜ (now (r .part), r .answer) ≡ returned (decodeOf (now (file .entry)) (now (model .entry))) ⌝ }
+    ensures { λ r. ⌜ (decodeMeans (now (r .part)) (r .answer) ≡ decodeOf (now (file .entry)) (now (model .entry)))
+        × (now (r .part) ≡ partGiven (decodeOf (now (file .entry)) (now (model .entry)))) ⌝ }
 {
     let e = evaluate(file, model);
     let part = part_of(model, e);

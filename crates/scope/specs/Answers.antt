@@ -15,6 +15,7 @@ use Rattle.scope.specs.declared.SizesAnswer.{SizesAnswer}
 use Rattle.scope.specs.declared.TextAnswer.{TextAnswer}
 use Rattle.scope.specs.declared.DecodeAnswer.{DecodeAnswer}
 use Rattle.scope.specs.declared.CheckAnswer.{CheckAnswer}
+use Rattle.scope.specs.declared.BestAnswer.{BestAnswer}
 
 abbrev pub given : {A : Type 0} → Refusal → Answer A
 given f = refusal (f .number) (f .value)
@@ -48,3 +49,7 @@ decodeMeans part (DecodeAnswer.Refused f) = given f
 abbrev pub checkMeans : CheckAnswer → Answer ℕ
 checkMeans (CheckAnswer.NoTimetable n) = answered n
 checkMeans (CheckAnswer.Refused f) = given f
+
+abbrev pub bestMeans : BestAnswer → Answer (Objective × ℕ)
+bestMeans (BestAnswer.Best w n) = answered (w, n)
+bestMeans (BestAnswer.Refused f) = given f

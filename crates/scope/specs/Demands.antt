@@ -1,4 +1,5 @@
--- Demands 2 and 3, as types over the definitions. The upper crates prove them.
+-- Demands 2 and 3, and what is owed for the two operations beside them, as types over the definitions. The upper crates prove
+-- them.
 use mathlib.Core.Path.{_≡_}
 use mathlib.Core.Bool.{true}
 use mathlib.Core.Logic.{_↔_}
@@ -9,9 +10,8 @@ use Rattle.scope.specs.Parsed.{got, answered}
 use Rattle.scope.specs.Instance.{Instance, parse}
 use Rattle.scope.specs.Cnf.{bit, clauses}
 use Rattle.scope.specs.Formula.{variables, hardOf, mostVariables}
-use Rattle.scope.specs.Operations.{scoreOf, decodeOf, part, falsifiedSoft, checkOf, Lent}
-use Rattle.scope.specs.Spelling.{Bytes}
-use Rattle.scope.specs.Refutation.{NoTimetable}
+use Rattle.scope.specs.Operations.{scoreOf, decodeOf, part, falsifiedSoft, checkOf, checkHardOf, bestOf, Lent}
+use Rattle.scope.specs.Refutation.{NoTimetable, NoneAtAll}
 use Rattle.scope.specs.declared.Objective.{Objective}
 
 -- "an accepted instance": the file gives none of 1 to 6
@@ -51,10 +51,29 @@ pub record Demand3 : Type 0 where
   pub never : (file : List ℕ) (i : Instance) (B : ℕ) (proof : List ℕ) (l : Lent) (n : ℕ) → Accepted file i
       → checkOf file B proof l ≡ answered n → (t : List ℕ) (cost : Objective) → KeepsHard file t cost → B < cost .0
   -- "For every accepted instance, bound asked for, proof and lent stores, that answer comes exactly when all of this is so."
-  pub exactly : (file : List ℕ) (i : Instance) (B : ℕ) (proof : List ℕ) (l : Lent) (n : ℕ) → Accepted file i → Bytes proof
+  pub exactly : (file : List ℕ) (i : Instance) (B : ℕ) (proof : List ℕ) (l : Lent) (n : ℕ) → Accepted file i
       → (checkOf file B proof l ≡ answered n) ↔ NoTimetable i B proof l n
   -- "if a decoded model costs w, from 1 to 4,096, and 'no timetable' is answered for the same instance at bound w − 1, every
   -- other timetable that keeps its hard constraints costs at least w"
   pub best : (file : List ℕ) (i : Instance) (m t : List ℕ) (w : Objective) (proof : List ℕ) (l : Lent) (n : ℕ) → Accepted file i
       → decodeOf file m ≡ answered (t, w) → 1 ≤ w .0 → w .0 ≤ 4096 → checkOf file (w .0 - 1) proof l ≡ answered n
       → (u : List ℕ) (cost : Objective) → KeepsHard file u cost → w .0 ≤ cost .0
+
+-- The check without the tail: "no timetable" is never answered while some timetable keeps every hard constraint, whatever it
+-- costs; and exactly when the proof refutes the hard clauses
+pub record DemandHard : Type 0 where
+  pub never : (file : List ℕ) (i : Instance) (proof : List ℕ) (l : Lent) (n : ℕ) → Accepted file i
+      → checkHardOf file proof l ≡ answered n → (t : List ℕ) (cost : Objective) → KeepsHard file t cost → ⊥
+  pub exactly : (file : List ℕ) (i : Instance) (proof : List ℕ) (l : Lent) (n : ℕ) → Accepted file i
+      → (checkHardOf file proof l ≡ answered n) ↔ NoneAtAll i proof l n
+
+-- The best model: demand 3's last sentence in one answer. The model's part is a timetable that keeps every hard constraint at
+-- the cost w, and every timetable that does costs at least w
+pub record IsBest (file : List ℕ) (i : Instance) (m : List ℕ) (w : Objective) : Type 0 where
+  pub model : Model i m
+  pub keeps : KeepsHard file (part i m) w
+  pub least : (t : List ℕ) (cost : Objective) → KeepsHard file t cost → w .0 ≤ cost .0
+
+abbrev pub DemandBest : Type 0
+DemandBest = (file : List ℕ) (i : Instance) (m proof : List ℕ) (l : Lent) (w : Objective) (n : ℕ) → Accepted file i
+    → bestOf file m proof l ≡ answered (w, n) → IsBest file i m w

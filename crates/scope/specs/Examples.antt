@@ -16,7 +16,7 @@ use Rattle.scope.specs.Formula.{noRow, ones, row, counter, lastRow, lowU
 use Rattle.scope.specs.Text.{digits, literalText, line, sumWeights, top, headerLine, text}
 use Rattle.scope.specs.Steps.{tokensAfter, numbers, readStep, allFalse, literalsOk, wellFormed, standing, hintsShow, deleted}
 use Rattle.scope.specs.PlainRun.{perform, run, start, plainRun}
-use Rattle.scope.specs.Operations.{Lent, readOf, scoreOf, sameBytes, sameSheetOf, sizesOf, textSizeOf, textOf, programPrints, lowestFalse, decodeOf, formulaFits, checkOf}
+use Rattle.scope.specs.Operations.{Lent, readOf, scoreOf, sameBytes, sameSheetOf, sizesOf, textSizeOf, textOf, programPrints, lowestFalse, decodeOf, formulaFits, checkOf, checkHardOf, bestOf}
 use Rattle.scope.specs.declared.Infeasibility.{Infeasibility}
 use Rattle.scope.specs.declared.Objective.{Objective}
 use Rattle.scope.specs.declared.InstanceSize.{InstanceSize}
@@ -24,6 +24,13 @@ use Rattle.scope.specs.declared.InstanceSize.{InstanceSize}
 -- file A: one time, one event, an empty group, kind 3 at weight 4
 fileA : List ℕ
 fileA = 0x01 ∷ 0x01 ∷ 0x00 ∷ 0x01 ∷ 0x00 ∷ 0x01 ∷ 0x00 ∷ 0x01 ∷ 0x03 ∷ 0x04 ∷ 0x01 ∷ 0x01 ∷ []
+
+-- the same with its constraint hard, which no timetable keeps; and without it, where every timetable costs 0
+fileHardA : List ℕ
+fileHardA = 0x01 ∷ 0x01 ∷ 0x00 ∷ 0x01 ∷ 0x00 ∷ 0x01 ∷ 0x00 ∷ 0x01 ∷ 0x03 ∷ 0x00 ∷ 0x01 ∷ 0x01 ∷ []
+
+fileFree : List ℕ
+fileFree = 0x01 ∷ 0x01 ∷ 0x00 ∷ 0x01 ∷ 0x00 ∷ 0x00 ∷ 0x00 ∷ []
 
 -- the proof of its example, whose added clause has the given id
 proofA : ℕ → List ℕ
@@ -59,6 +66,10 @@ decodeSaid : Answer (List ℕ × Objective) → List ℕ
 decodeSaid (answered d) = 0 ∷ d .1 .0 ∷ d .0
 decodeSaid (refusal k v) = k ∷ v ∷ []
 
+bestSaid : Answer (Objective × ℕ) → List ℕ
+bestSaid (answered b) = 0 ∷ b .0 .0 ∷ b .1 ∷ []
+bestSaid (refusal k v) = k ∷ v ∷ []
+
 sizeSaid : Answer InstanceSize → List ℕ
 sizeSaid (answered z) = 0 ∷ z .times ∷ z .events ∷ z .resources ∷ z .groups ∷ z .constraints ∷ []
 sizeSaid (refusal k v) = k ∷ v ∷ []
@@ -72,6 +83,10 @@ checkA B proof = stepsSaid (checkOf fileA B proof ample)
 -- A's proof at bound 3 in stores of these sizes
 roomA : ℕ → ℕ → ℕ → List ℕ
 roomA w r b = stepsSaid (checkOf fileA 3 (proofA 0x11) (record { words = w; rows = r; bytes = b }))
+
+-- whether a model of A is the best
+bestA : List ℕ → List ℕ → List ℕ
+bestA m proof = bestSaid (bestOf fileA m proof ample)
 
 -- every resource is busy at two times
 busyTimes : ℕ → ℕ → Atom → Bool
@@ -154,6 +169,14 @@ cases =
     ∷ shows (roomA 29 16 8) (9 ∷ 0 ∷ [])
     ∷ shows (roomA 30 15 8) (9 ∷ 0 ∷ [])
     ∷ shows (roomA 30 16 7) (9 ∷ 0 ∷ [])
+    -- without the tail: the hard constraint is refuted in 1 step, A's hard clauses are not
+    ∷ shows (stepsSaid (checkHardOf fileHardA (0x61 ∷ 0x09 ∷ 0x00 ∷ 0x05 ∷ 0x04 ∷ 0x06 ∷ 0x08 ∷ 0x00 ∷ []) ample)) (0 ∷ 1 ∷ [])
+    ∷ shows (stepsSaid (checkHardOf fileA (proofA 0x11) ample)) (15 ∷ 1 ∷ [])
+    -- A's one model is the best, by its proof at bound 3; without a proof 18; no model at all 13; cost 0 needs no proof
+    ∷ shows (bestA (1 ∷ 1 ∷ 1 ∷ 1 ∷ []) (proofA 0x11)) (0 ∷ 4 ∷ 1 ∷ [])
+    ∷ shows (bestA (1 ∷ 1 ∷ 1 ∷ 1 ∷ []) []) (18 ∷ 0 ∷ [])
+    ∷ shows (bestA (1 ∷ 1 ∷ 1 ∷ 0 ∷ []) (proofA 0x11)) (13 ∷ 6 ∷ [])
+    ∷ shows (bestSaid (bestOf fileFree (1 ∷ 1 ∷ 1 ∷ []) [] ample)) (0 ∷ 0 ∷ 0 ∷ [])
     -- bounds 1 to 2: counts 0, 2, 3 deviate 1, 0, 1
     ∷ shows (deviation 1 2 0 ∷ deviation 1 2 2 ∷ deviation 1 2 3 ∷ []) (1 ∷ 0 ∷ 1 ∷ [])
     -- kind 6, 3 to 5: counts 0, 1 deviate 0, 2
@@ -179,5 +202,5 @@ cases =
 
 -- the definitions compute what the paper says
 pub examples : map (λ c. c .computed) cases ≡ map (λ c. c .expected) cases
-unfolding repeat group front within number limited reference references listed from member usersFrom outside gapsAfter gaps rulesOf longest eventAt pairAt boundsAt clashAt unavailableAt preferredAt splitAt spreadAt busyAt overGroupsAt fieldsAt ended constraintAt sizesAt groupsAt constraintsAt parse bit lit clause clauses cube hasTrue withoutFalse tidy pairs gateClauses value hardClauses outputs softUnits falsified trues any all deviation charged entryTrue deviations truth eventRight firstWrong infeasibilityOf objectiveOf firstAbove row counter lastRow lowUnits highUnits shortUnits boundItems countInto allAdded listGates listLiterals ruleItems rulesItems starts uses durationRules constraintRules formula variables hardOf softOf tail bounded boundedVariables boundedHard words digits literalText line sumWeights top headerLine text tokensAfter numbers readStep allFalse literalsOk wellFormed standing hintsShow deleted perform run start plainRun readOf scoreOf sameBytes sameSheetOf sizesOf textSizeOf textOf programPrints lowestFalse decodeOf formulaFits checkOf fileA proofA listingA numberSaid stepsSaid scoreSaid decodeSaid sizeSaid ample checkA roomA busyTimes startAt1 counter3 holds3 timesFile spelt listFile six cases flatMap
+unfolding repeat group front within number limited reference references listed from member usersFrom outside gapsAfter gaps rulesOf longest eventAt pairAt boundsAt clashAt unavailableAt preferredAt splitAt spreadAt busyAt overGroupsAt fieldsAt ended constraintAt sizesAt groupsAt constraintsAt parse bit lit clause clauses cube hasTrue withoutFalse tidy pairs gateClauses value hardClauses outputs softUnits falsified trues any all deviation charged entryTrue deviations truth eventRight firstWrong infeasibilityOf objectiveOf firstAbove row counter lastRow lowUnits highUnits shortUnits boundItems countInto allAdded listGates listLiterals ruleItems rulesItems starts uses durationRules constraintRules formula variables hardOf softOf tail bounded boundedVariables boundedHard words digits literalText line sumWeights top headerLine text tokensAfter numbers readStep allFalse literalsOk wellFormed standing hintsShow deleted perform run start plainRun readOf scoreOf sameBytes sameSheetOf sizesOf textSizeOf textOf programPrints lowestFalse decodeOf formulaFits checkOf checkHardOf bestOf fileA fileHardA fileFree proofA listingA numberSaid stepsSaid scoreSaid decodeSaid bestSaid sizeSaid ample checkA roomA bestA busyTimes startAt1 counter3 holds3 timesFile spelt listFile six cases flatMap
 examples = refl

@@ -2,10 +2,10 @@
 use mathlib.Core.Bool.{Bool, true, false, cond, _&&_}
 use mathlib.Core.List.{List, [], _∷_, _++_}
 use mathlib.Core.Option.{Option, none, some}
-use Prim.Native.Nat.{ℕ, suc, _+_}
+use Prim.Native.Nat.{ℕ, zero, suc, _+_}
 use lib.ListN.{length, take}
 use lib.Dec.{leb, eqb}
-use Rattle.scope.specs.Parsed.{Answer, answered, refusal, with, provided}
+use Rattle.scope.specs.Parsed.{Answer, answered, refusal, with, then, provided}
 use Rattle.scope.specs.Instance.{Instance, parse}
 use Rattle.scope.specs.Cnf.{Assignment, bit, clause, falsified}
 use Rattle.scope.specs.Score.{cells, ofBytes, ofTimetable, unlessFound, infeasibility, objective}
@@ -102,16 +102,31 @@ pub record Lent : Type 0 where
   pub rows : ℕ
   pub bytes : ℕ
 
--- "9 if a lent store is too short for the formula"
-unfoldable pub formulaFits : Instance → ℕ → Lent → Bool
-formulaFits i B l =
-    leb (words (boundedHard i B)) (l .words) && leb (length (boundedHard i B)) (l .rows) && leb (boundedVariables i B) (l .bytes)
+-- "9 if a lent store is too short for the formula": for clauses f with variables up to the last
+unfoldable pub formulaFits : ℕ → List (List ℕ) → Lent → Bool
+formulaFits last f l = leb (words f) (l .words) && leb (length f) (l .rows) && leb last (l .bytes)
 
-abbrev pub limitsOf : Instance → ℕ → Lent → Limits
-limitsOf i B l = record { lastVariable = boundedVariables i B; wordsLent = l .words; rowsLent = l .rows }
+abbrev pub limitsOf : ℕ → Lent → Limits
+limitsOf last l = record { lastVariable = last; wordsLent = l .words; rowsLent = l .rows }
 
--- checking a bound proof: 1 to 9, then the plain run's answer
+-- a proof against such clauses: 9, then the plain run's answer
+abbrev pub against : ℕ → List (List ℕ) → List ℕ → Lent → Answer ℕ
+against last f proof l = provided (formulaFits last f l) 9 0 (plainRun (limitsOf last l) f proof)
+
+-- checking a bound proof: 1 to 9, 14 to 18
 unfoldable pub checkOf : List ℕ → ℕ → List ℕ → Lent → Answer ℕ
-checkOf file B proof l =
-    with (parse file)
-    (λ i. ofBound i B (provided (formulaFits i B l) 9 0 (plainRun (limitsOf i B l) (boundedHard i B) proof)))
+checkOf file B proof l = with (parse file) (λ i. ofBound i B (against (boundedVariables i B) (boundedHard i B) proof l))
+
+-- the same without the tail, at any cost (no operation of document 01): 1 to 6, 8, 9, 14 to 18
+unfoldable pub checkHardOf : List ℕ → List ℕ → Lent → Answer ℕ
+checkHardOf file proof l = with (parse file) (λ i. ofSize i (against (variables i) (hardOf i) proof l))
+
+-- whether a model is the best (no operation of document 01): decoding, then at a cost w above 0 a check at bound w − 1;
+-- the cost and the number of steps
+abbrev pub nothingBelow : List ℕ → ℕ → List ℕ → Lent → Answer ℕ
+nothingBelow file zero proof l = answered 0
+nothingBelow file (suc B) proof l = checkOf file B proof l
+
+unfoldable pub bestOf : List ℕ → List ℕ → List ℕ → Lent → Answer (Objective × ℕ)
+bestOf file m proof l =
+    then (decodeOf file m) (λ d. then (nothingBelow file (d .1 .0) proof l) (λ steps. answered (d .1, steps)))

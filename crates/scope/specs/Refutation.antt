@@ -10,8 +10,8 @@ use Rattle.scope.specs.Cnf.{opp}
 use Rattle.scope.specs.Steps.{Step, add, delete, Live}
 use Rattle.scope.specs.PlainRun.{State, Limits}
 use Rattle.scope.specs.Instance.{Instance}
-use Rattle.scope.specs.Formula.{boundedVariables, boundedHard}
-use Rattle.scope.specs.Operations.{Lent}
+use Rattle.scope.specs.Formula.{variables, hardOf, boundedVariables, boundedHard}
+use Rattle.scope.specs.Operations.{Lent, limitsOf}
 use Rattle.scope.specs.Spelling.{SpellsProof}
 
 -- "no variable twice": a literal whose variable no literal of the list has
@@ -99,18 +99,27 @@ pub record Starts (f : List (List ℕ)) (st : State) : Type 0 where
   pub rows : st .rowsUsed ≡ length f
   pub steps : st .steps ≡ 0
 
--- "that answer comes exactly when all of this is so"
-pub record NoTimetable (i : Instance) (B : ℕ) (proof : List ℕ) (l : Lent) (n : ℕ) : Type 0 where
-  -- "The bound asked for and the formula keep document 01's sizes, and the formula fits the stores."
-  pub bound : B ≤ 4095
-  pub size : boundedVariables i B ≤ 8000000
-  pub word-room : length (flatMap (λ c. c) (boundedHard i B)) ≤ l .words
-  pub row-room : length (boundedHard i B) ≤ l .rows
-  pub byte-room : boundedVariables i B ≤ l .bytes
+-- a formula f with variables up to the last is refuted by a proof of n steps
+pub record Refuted (last : ℕ) (f : List (List ℕ)) (proof : List ℕ) (l : Lent) (n : ℕ) : Type 0 where
+  -- "the formula keep[s] document 01's sizes, and the formula fits the stores"
+  pub size : last ≤ 8000000
+  pub word-room : length (flatMap (λ c. c) f) ≤ l .words
+  pub row-room : length f ≤ l .rows
+  pub byte-room : last ≤ l .bytes
   -- "The proof is a list of well-formed steps and nothing else. From the formula alone as live clauses, .."
   pub steps : List Step
   pub spelt : SpellsProof steps proof
   pub first : State
-  pub starts : Starts (boundedHard i B) first
-  pub refutes : Refutes (record { lastVariable = boundedVariables i B; wordsLent = l .words; rowsLent = l .rows }) first steps
+  pub starts : Starts f first
+  pub refutes : Refutes (limitsOf last l) first steps
   pub counted : length steps ≡ n
+
+-- "that answer comes exactly when all of this is so": of a check at a bound
+pub record NoTimetable (i : Instance) (B : ℕ) (proof : List ℕ) (l : Lent) (n : ℕ) : Type 0 where
+  -- "The bound asked for .. keep[s] document 01's sizes"
+  pub bound : B ≤ 4095
+  pub refuted : Refuted (boundedVariables i B) (boundedHard i B) proof l n
+
+-- and of a check without the tail
+abbrev pub NoneAtAll : Instance → List ℕ → Lent → ℕ → Type 0
+NoneAtAll i = Refuted (variables i) (hardOf i)

@@ -1,18 +1,13 @@
 -- How a proof is spelt in bytes, as relations with no reader in them.
 use mathlib.Core.List.{List, [], _∷_, _++_}
-use Prim.Native.Nat.{ℕ, _+_, _*_, _≤_, _<_}
-use lib.ListN.{getD}
+use Prim.Native.Nat.{ℕ, _+_, _*_, _%_, _≤_, _<_}
 use Rattle.scope.specs.Number.{most}
 use Rattle.scope.specs.Steps.{Step, add, delete}
-
--- what bytes are
-abbrev pub Bytes : List ℕ → Type 0
-Bytes bs = (k : ℕ) → getD bs k 0 < 256
 
 -- "groups of seven bits, lowest first, the top bit set on all bytes but the last, in its shortest form": v is spelt by the bytes
 pub data Spells : ℕ → List ℕ → Type 0 where
   last : {b : ℕ} → b < 128 → Spells b (b ∷ [])
-  more : {b n : ℕ} {bs : List ℕ} → b < 128 → 1 ≤ n → Spells n bs → Spells (b + n * 128) ((b + 128) ∷ bs)
+  more : {b n : ℕ} {bs : List ℕ} → 128 ≤ b → 1 ≤ n → Spells n bs → Spells (b % 128 + n * 128) (b ∷ bs)
 
 -- numbers, none of them 0, "at most 4,294,967,295", and a closing 0
 pub data SpellsList : List ℕ → List ℕ → Type 0 where

@@ -77,3 +77,9 @@ pub enum CheckAnswer {
     NoTimetable(u64),
     Refused(Refusal),
 }
+
+// No timetable costs less than a decoded model's cost; with the number of steps that show it.
+pub enum BestAnswer {
+    Best(Objective, u64),
+    Refused(Refusal),
+}

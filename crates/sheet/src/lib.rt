@@ -3,4 +3,3 @@ mod operations;
 
 pub use operations::same_sheet;
 pub use operations::score;
-pub use operations::within;

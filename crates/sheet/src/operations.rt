@@ -1,14 +1,12 @@
 // The operations on timetables. They ask nothing of the caller.
 use instance::File;
 use instance::read;
-use scope::Objective;
 use scope::Refusal;
 use scope::ScoreAnswer;
 use scope::SheetAnswer;
 use verdict::same_read;
 use verdict::score_read;
 ghost use mathlib.Core.Path.{_≡_};
-ghost use lib.Dec.{leb};
 ghost use Rattle.scope.specs.Operations.{scoreOf, sameSheetOf};
 ghost use Rattle.scope.specs.Answers.{scoreMeans, sheetMeans};
 ghost use Rattle.sheet.specs.Answers.{refusalOfFile};
@@ -63,11 +61,4 @@ pub fn same_sheet(file: &[u8], first: &[u8], second: &[u8]) -> SheetAnswer
         return SheetAnswer::Refused(refusal_of_file(f));
     };
     same_read(first, second, head, &durations)
-}
-
-// Whether a cost is within a bound. Only an objective has a bound.
-pub fn within(cost: Objective, bound: u64) -> bool
-    ensures { λ r. ⌜ r ≡ leb (cost .0) bound ⌝ }
-{
-    cost.0 <= bound
 }

@@ -1,7 +1,8 @@
--- When a proof check answers "no timetable": the sizes are kept, the formula fits, and the plain run answers so.
-use mathlib.Core.Path.{_≡_, refl}
+-- When a proof check answers "no timetable", at a bound and without the tail: exactly in the words of demand 3; and then no
+-- assignment makes the clauses true.
+use mathlib.Core.Path.{_≡_}
 use mathlib.Core.Logic.{_↔_}
-use mathlib.Core.Bool.{Bool, true, false, _&&_}
+use mathlib.Core.Bool.{Bool, true, _&&_}
 use mathlib.Core.List.{List}
 use Prim.Native.Nat.{ℕ, _≤_}
 use lib.Dec.{leb}
@@ -10,110 +11,80 @@ use borrow.Author.Tests.{leb-true, le-leb}
 use Rattle.scope.specs.Parsed.{Answer, answered, provided}
 use Rattle.scope.specs.Instance.{Instance}
 use Rattle.scope.specs.Cnf.{Assignment, clauses}
-use Rattle.scope.specs.Formula.{boundedVariables, boundedHard, words, mostBound, mostVariables}
+use Rattle.scope.specs.Formula.{variables, hardOf, boundedVariables, boundedHard, words, mostBound, mostVariables}
 use Rattle.scope.specs.PlainRun.{plainRun}
-use Rattle.scope.specs.Operations.{Lent, limitsOf, formulaFits, checkOf}
+use Rattle.scope.specs.Operations.{Lent, limitsOf, formulaFits, against, checkOf, checkHardOf}
+use Rattle.scope.specs.Refutation.{Refuted, NoTimetable, NoneAtAll}
 use Rattle.scope.specs.Demands.{Accepted}
-use Rattle.scope.specs.Spelling.{Bytes}
-use Rattle.theory.specs.Performed.{Refuted}
-use Rattle.laws.specs.Booleans.{impossible, and-true}
+use Rattle.laws.specs.Booleans.{and-true}
+use Rattle.theory.specs.Answered.{provided-answers}
 use Rattle.theory.specs.Sound.{plain-sound}
-use Rattle.theory.specs.Exact.{plain-exact}
+use Rattle.theory.specs.InWords.{refuted-words, words-refuted, words-fit}
 
--- an answer that is given only where a test holds
-provided-exact : {A : Type 0} (t : Bool) (k v : ℕ) (a : Answer A) (x : A)
-    → (provided t k v a ≡ answered x) ↔ ((t ≡ true) × (a ≡ answered x))
-provided-exact true k v a x = (λ e. (refl, e), λ h. h .1)
-provided-exact false k v a x = (λ e. impossible (cc), λ h. impossible (cc (h .0)))
+-- a proof against clauses with variables up to the last: 8, then 9, then the plain run
+module _ (last : ℕ) (f : List (List ℕ)) (proof : List ℕ) (l : Lent) (n : ℕ) where
+  abbrev run : Answer ℕ
+  run = plainRun (limitsOf last l) f proof
 
--- none of 7 to 9 is given
-pub record Sized (i : Instance) (B : ℕ) (l : Lent) : Type 0 where
-  pub bound : B ≤ mostBound
-  pub size : boundedVariables i B ≤ mostVariables
-  pub word-room : words (boundedHard i B) ≤ l .words
-  pub row-room : length (boundedHard i B) ≤ l .rows
-  pub byte-room : boundedVariables i B ≤ l .bytes
+  abbrev pub sized : Answer ℕ
+  sized = provided (leb last mostVariables) 8 0 (against last f proof l)
 
--- from the tests, and back
-sized : (i : Instance) (B : ℕ) (l : Lent) → leb B mostBound ≡ true → leb (boundedVariables i B) mostVariables ≡ true
-    → formulaFits i B l ≡ true → Sized i B l
-unfolding formulaFits
-sized i B l b v f =
-    let x = leb (words (boundedHard i B)) (l .words) in
-    let y = leb (length (boundedHard i B)) (l .rows) in
-    let z = leb (boundedVariables i B) (l .bytes) in
-    let p = and-true (x && y) z f in
-    let q = and-true x y (p .0) in
-    record {
-      bound = leb-true _ _ b;
-      size = leb-true _ _ v;
-      word-room = leb-true _ _ (q .0);
-      row-room = leb-true _ _ (q .1);
-      byte-room = leb-true _ _ (p .1);
-    }
+  -- it answers so exactly where the proof refutes the clauses
+  answered-run : sized ≡ answered n → (leb last mostVariables ≡ true) × (formulaFits last f l ≡ true) × (run ≡ answered n)
+  answered-run e =
+      let v = provided-answers (leb last mostVariables) 8 0 (against last f proof l) .0 e in
+      let p = provided-answers (formulaFits last f l) 9 0 run .0 (v .1) in
+      (v .0, p .0, p .1)
 
-fits-lent : (i : Instance) (B : ℕ) (l : Lent) → Sized i B l → formulaFits i B l ≡ true
-unfolding formulaFits
-fits-lent i B l z = rw (le-leb _ _ (z .word-room), le-leb _ _ (z .row-room), le-leb _ _ (z .byte-room))
+  to : sized ≡ answered n → Refuted last f proof l n
+  unfolding formulaFits
+  to e =
+      let r = answered-run e in
+      let x = leb (words f) (l .words) in
+      let y = leb (length f) (l .rows) in
+      let p = and-true (x && y) (leb last (l .bytes)) (r .1) in
+      let q = and-true x y (p .0) in
+      refuted-words last f proof l n (leb-true _ _ (r .0)) (leb-true _ _ (q .0)) (leb-true _ _ (q .1)) (leb-true _ _ (p .1)) (r .2)
 
-module _ (file : List ℕ) (i : Instance) (B : ℕ) (proof : List ℕ) (l : Lent) (n : ℕ) (a : Accepted file i) where
-  -- the answer comes from the plain run, where the sizes are kept and the formula fits
-  pub check-plain : (checkOf file B proof l ≡ answered n)
-      ↔ (Sized i B l × (plainRun (limitsOf i B l) (boundedHard i B) proof ≡ answered n))
-  unfolding checkOf
-  check-plain = rw (a .parsed) (to, from)
-    where
-      run : Answer ℕ
-      run = plainRun (limitsOf i B l) (boundedHard i B) proof
+  from : Refuted last f proof l n → sized ≡ answered n
+  unfolding formulaFits
+  from w =
+      rw (le-leb _ _ (w .size), le-leb _ _ (words-fit last f proof l n w), le-leb _ _ (w .row-room), le-leb _ _ (w .byte-room))
+      (words-refuted last f proof l n w)
 
-      room : Answer ℕ
-      room = provided (formulaFits i B l) 9 0 run
+  pub sized-exact : (sized ≡ answered n) ↔ Refuted last f proof l n
+  sized-exact = (to, from)
 
-      size : Answer ℕ
-      size = provided (leb (boundedVariables i B) mostVariables) 8 0 room
+  -- and then no assignment makes them true
+  pub sized-unsat : sized ≡ answered n → (ν : Assignment) → clauses ν f ≡ true → ⊥
+  sized-unsat e = plain-sound (limitsOf last l) f proof n (answered-run e .2)
 
-      to : provided (leb B mostBound) 7 B size ≡ answered n → Sized i B l × (run ≡ answered n)
-      to e =
-          let b = provided-exact (leb B mostBound) 7 B size n .0 e in
-          let v = provided-exact (leb (boundedVariables i B) mostVariables) 8 0 room n .0 (b .1) in
-          let f = provided-exact (formulaFits i B l) 9 0 run n .0 (v .1) in
-          (sized i B l (b .0) (v .0) (f .0), f .1)
+module _ (file : List ℕ) (i : Instance) (proof : List ℕ) (l : Lent) (n : ℕ) (a : Accepted file i) where
+  -- at a bound: 7 first
+  module _ (B : ℕ) where
+    abbrev atBound : Answer ℕ
+    atBound = sized (boundedVariables i B) (boundedHard i B) proof l n
 
-      from : Sized i B l × (run ≡ answered n) → provided (leb B mostBound) 7 B size ≡ answered n
-      from h = rw (le-leb B mostBound (h .0 .bound), le-leb _ _ (h .0 .size), fits-lent i B l (h .0)) (h .1)
+    bound-first : (checkOf file B proof l ≡ answered n) ↔ ((leb B mostBound ≡ true) × (atBound ≡ answered n))
+    unfolding checkOf
+    bound-first = rw (a .parsed) (provided-answers (leb B mostBound) 7 B atBound)
 
-  -- demand 3's "exactly when"
-  pub check-exact : Bytes proof → (checkOf file B proof l ≡ answered n) ↔ Refuted i B proof l n
-  check-exact y = (to, from)
-    where
-      to : checkOf file B proof l ≡ answered n → Refuted i B proof l n
-      to e =
-          let h = check-plain .0 e in
-          let k = plain-exact (limitsOf i B l) (boundedHard i B) proof y n .0 (h .1) in
-          record {
-            bound = h .0 .bound;
-            size = h .0 .size;
-            word-room = h .0 .word-room;
-            row-room = h .0 .row-room;
-            byte-room = h .0 .byte-room;
-            steps = k .0;
-            spelt = k .1;
-            taken = k .2;
-            counted = k .3;
-          }
+    -- demand 3's "exactly when"
+    pub check-exact : (checkOf file B proof l ≡ answered n) ↔ NoTimetable i B proof l n
+    check-exact =
+        let z = sized-exact (boundedVariables i B) (boundedHard i B) proof l n in (
+          λ e. let b = bound-first .0 e in record { bound = leb-true _ _ (b .0); refuted = z .0 (b .1) },
+          λ w. bound-first .1 (le-leb B mostBound (w .bound), z .1 (w .refuted)),
+        )
 
-      from : Refuted i B proof l n → checkOf file B proof l ≡ answered n
-      from r =
-          let z : Sized i B l =
-          record { bound = r .bound; size = r .size; word-room = r .word-room; row-room = r .row-room; byte-room = r .byte-room }
-          in
-          let k = plain-exact (limitsOf i B l) (boundedHard i B) proof y n in
-          check-plain .1 (z, k .1 (r .steps, r .spelt, r .taken, r .counted))
+    pub check-unsat : checkOf file B proof l ≡ answered n → (ν : Assignment) → clauses ν (boundedHard i B) ≡ true → ⊥
+    check-unsat e = sized-unsat (boundedVariables i B) (boundedHard i B) proof l n (bound-first .0 e .1)
 
-  -- the answer comes only for a bound within its limit
-  pub check-bound : checkOf file B proof l ≡ answered n → B ≤ mostBound
-  check-bound e = check-plain .0 e .0 .bound
+  -- without the tail
+  pub hard-exact : (checkHardOf file proof l ≡ answered n) ↔ NoneAtAll i proof l n
+  unfolding checkHardOf
+  hard-exact = rw (a .parsed) (sized-exact (variables i) (hardOf i) proof l n)
 
-  -- and only where no assignment makes the hard clauses and the tail's true
-  pub check-unsat : checkOf file B proof l ≡ answered n → (ν : Assignment) → clauses ν (boundedHard i B) ≡ true → ⊥
-  check-unsat e = plain-sound (limitsOf i B l) (boundedHard i B) proof n (check-plain .0 e .1)
+  pub hard-unsat : checkHardOf file proof l ≡ answered n → (ν : Assignment) → clauses ν (hardOf i) ≡ true → ⊥
+  unfolding checkHardOf
+  hard-unsat e = sized-unsat (variables i) (hardOf i) proof l n (rw (a .parsed) at e)

@@ -1,5 +1,5 @@
--- Demands 2 and 3 of the definitions.
-use Rattle.scope.specs.Demands.{Demand2, Demand3}
+-- Demands 2 and 3 of the definitions, and what the two operations beside them owe.
+use Rattle.scope.specs.Demands.{Demand2, Demand3, DemandHard, DemandBest}
 use Rattle.theory.specs.Match as match
 use Rattle.theory.specs.Bounded.{bounded-model}
 use Rattle.theory.specs.Never as bound
@@ -9,3 +9,9 @@ demand2 = match.demand2
 
 pub demand3 : Demand3
 demand3 = bound.demand3 (λ file i B t cost a. bounded-model file i a B t cost)
+
+pub demandHard : DemandHard
+demandHard = bound.demand-hard (λ file i B t cost a. bounded-model file i a B t cost) demand2
+
+pub demandBest : DemandBest
+demandBest = bound.demand-best (λ file i B t cost a. bounded-model file i a B t cost) demand2

@@ -13,7 +13,7 @@ use Rattle.scope.specs.Steps.{Step, add, delete, Tokens, stop, bad, num, tokens
 use Rattle.scope.specs.Steps.{allOpen, allFalse, Live, Shown, follows, notLive, breaks, hintsShow, deleted}
 use Rattle.scope.specs.PlainRun.{State, Limits, Outcome, next, empty, refused, withClause, fits, byShown, byDeleted, perform}
 use Rattle.scope.specs.PlainRun.{atEnd, byOutcome, byForm, byRead, run, start, plainRun}
-use Rattle.scope.specs.Spelling.{SpellsProof, Bytes}
+use Rattle.scope.specs.Spelling.{SpellsProof}
 use Rattle.theory.specs.Performed.{Taken, ends, goes-on}
 use Rattle.laws.specs.Booleans.{impossible}
 use Rattle.theory.specs.Spelt.{ReadAs, done, first, proof-exact, few-steps}
@@ -126,10 +126,10 @@ lists-run (suc k) lim st (first {ts} {s} r q) (goes-on {st′} {ss} w e a) h =
     run-step k lim st ts r w ∙ rw e (lists-run k lim st′ q a (omega arith) ∙ ap answered (omega arith))
 
 -- demand 3's "exactly when", of the plain run
-pub plain-exact : (lim : Limits) (f : List (List ℕ)) (proof : List ℕ) → Bytes proof → (n : ℕ)
+pub plain-exact : (lim : Limits) (f : List (List ℕ)) (proof : List ℕ) (n : ℕ)
     → (plainRun lim f proof ≡ answered n) ↔ ((ss : List Step) × SpellsProof ss proof × Taken lim (start f) ss × (length ss ≡ n))
 unfolding plainRun start
-plain-exact lim f proof y n = (to, from)
+plain-exact lim f proof n = (to, from)
   where
     Steps : Type 0
     Steps = (ss : List Step) × SpellsProof ss proof × Taken lim (start f) ss × (length ss ≡ n)
@@ -137,10 +137,10 @@ plain-exact lim f proof y n = (to, from)
     to : plainRun lim f proof ≡ answered n → Steps
     to e =
         let h : Listed lim (start f) (tokens proof) n = rw e at (run-lists (suc (length proof)) lim (start f) (tokens proof)) in
-        (h .0, proof-exact proof y (h .0) .0 (h .1), h .2, omega (arith, h .3))
+        (h .0, proof-exact proof (h .0) .0 (h .1), h .2, omega (arith, h .3))
 
     from : Steps → plainRun lim f proof ≡ answered n
     from h =
-        let k = proof-exact proof y (h .0) .1 (h .1) in
+        let k = proof-exact proof (h .0) .1 (h .1) in
         lists-run (suc (length proof)) lim (start f) k (h .2) (omega (arith, few-steps (h .1)))
         ∙ ap answered (omega (arith, h .3))

@@ -1,6 +1,5 @@
--- A proof check answers "no timetable" exactly in the words of demand 3.
+-- The plain run answers "no timetable" exactly in the words of demand 3.
 use mathlib.Core.Path.{_≡_, refl, sym, ap, _∙_, fun-ext}
-use mathlib.Core.Logic.{_↔_}
 use mathlib.Core.Bool.{Bool, true, false}
 use mathlib.Core.List.{List, [], _∷_, flatMap}
 use mathlib.Core.Option.{none, some}
@@ -11,16 +10,12 @@ use lib.Dec.{ltb}
 use lib.ListN.{length, getD, getElem?, length-append}
 use borrow.Author.Tests.{ltb-true, ltb-false}
 use Rattle.scope.specs.Parsed.{answered}
-use Rattle.scope.specs.Instance.{Instance}
-use Rattle.scope.specs.Formula.{boundedHard, words}
-use Rattle.scope.specs.PlainRun.{State, byId, start}
-use Rattle.scope.specs.Operations.{Lent, limitsOf, checkOf}
-use Rattle.scope.specs.Demands.{Accepted}
-use Rattle.scope.specs.Spelling.{Bytes}
-use Rattle.theory.specs.Performed.{Refuted}
-use Rattle.theory.specs.Check.{check-exact}
+use Rattle.scope.specs.Formula.{words, mostVariables}
+use Rattle.scope.specs.PlainRun.{State, byId, start, plainRun}
+use Rattle.scope.specs.Operations.{Lent, limitsOf}
+use Rattle.scope.specs.Refutation.{Starts, Refuted}
+use Rattle.theory.specs.Exact.{plain-exact}
 use Rattle.theory.specs.Taken.{same-state, taken-exact}
-use Rattle.scope.specs.Refutation.{Starts, NoTimetable}
 
 -- a word for each literal
 words-counted : (f : List (List ℕ)) → words f ≡ length (flatMap (λ c. c) f)
@@ -70,42 +65,31 @@ words-start f st s = same-state (fun-ext live) (s .highest) (s .words ∙ sym (w
         go true t = let h = ltb-true n (length f) t in rw (← add-one n) (s .live n h) ∙ sym (clause-at f n h)
         go false t = let h = ltb-false n (length f) t in s .alone (suc n) (omega arith) ∙ sym (no-clause f n h)
 
--- demand 3's "exactly when", in words alone
-pub check-in-words : (file : List ℕ) (i : Instance) (B : ℕ) (proof : List ℕ) (l : Lent) (n : ℕ) → Accepted file i → Bytes proof
-    → (checkOf file B proof l ≡ answered n) ↔ NoTimetable i B proof l n
-check-in-words file i B proof l n a y = (to, from)
-  where
-    to : checkOf file B proof l ≡ answered n → NoTimetable i B proof l n
-    to e =
-        let r = check-exact file i B proof l n a y .0 e in
-        record {
-          bound = r .bound;
-          size = r .size;
-          word-room = rw words-counted at (r .word-room);
-          row-room = r .row-room;
-          byte-room = r .byte-room;
-          steps = r .steps;
-          spelt = r .spelt;
-          first = start (boundedHard i B);
-          starts = start-in-words (boundedHard i B);
-          refutes = taken-exact (limitsOf i B l) (start (boundedHard i B)) (r .steps) .0 (r .taken);
-          counted = r .counted;
-        }
+-- a formula that keeps its size and fits the stores is refuted exactly where the plain run answers so
+module _ (last : ℕ) (f : List (List ℕ)) (proof : List ℕ) (l : Lent) (n : ℕ) where
+  pub refuted-words : last ≤ mostVariables → words f ≤ l .words → length f ≤ l .rows → last ≤ l .bytes
+      → plainRun (limitsOf last l) f proof ≡ answered n → Refuted last f proof l n
+  refuted-words size word-room row-room byte-room e =
+      let k = plain-exact (limitsOf last l) f proof n .0 e in
+      record {
+        size = size;
+        word-room = rw words-counted at word-room;
+        row-room = row-room;
+        byte-room = byte-room;
+        steps = k .0;
+        spelt = k .1;
+        first = start f;
+        starts = start-in-words f;
+        refutes = taken-exact (limitsOf last l) (start f) (k .0) .0 (k .2);
+        counted = k .3;
+      }
 
-    refuted : NoTimetable i B proof l n → Refuted i B proof l n
-    refuted w =
-        let e = words-start (boundedHard i B) (w .first) (w .starts) in
-        record {
-          bound = w .bound;
-          size = w .size;
-          word-room = rw (words-counted (boundedHard i B)) (w .word-room);
-          row-room = w .row-room;
-          byte-room = w .byte-room;
-          steps = w .steps;
-          spelt = w .spelt;
-          taken = rw e at (taken-exact (limitsOf i B l) (w .first) (w .steps) .1 (w .refutes));
-          counted = w .counted;
-        }
+  pub words-refuted : Refuted last f proof l n → plainRun (limitsOf last l) f proof ≡ answered n
+  words-refuted w =
+      let e = words-start f (w .first) (w .starts) in
+      let t = rw e at (taken-exact (limitsOf last l) (w .first) (w .steps) .1 (w .refutes)) in
+      plain-exact (limitsOf last l) f proof n .1 (w .steps, w .spelt, t, w .counted)
 
-    from : NoTimetable i B proof l n → checkOf file B proof l ≡ answered n
-    from w = check-exact file i B proof l n a y .1 (refuted w)
+  -- a word for each literal
+  pub words-fit : Refuted last f proof l n → words f ≤ l .words
+  words-fit w = rw (words-counted f) (w .word-room)

@@ -27,11 +27,11 @@ pub mod Spelt
 pub mod Sound
 pub mod Performed
 pub mod Exact
-pub mod Check
 pub mod Formed
 pub mod Standing
 pub mod Hinted
 pub mod Taken
 pub mod InWords
+pub mod Check
 pub mod Never
 pub mod Demands

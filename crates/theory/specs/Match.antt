@@ -7,7 +7,7 @@ use native.Mathlib.Omega.{arith}
 use lib.Dec.{leb}
 use lib.ListN.{length}
 use lib.Seq.{take-at, length-take-le}
-use borrow.Author.Tests.{le-leb}
+use borrow.Author.Tests.{le-leb, leb-true}
 use Rattle.laws.specs.Lists.{All, All-take, All-everywhere, All-places}
 use Rattle.scope.specs.Parsed.{Answer, answered}
 use Rattle.scope.specs.Instance.{Instance}
@@ -49,6 +49,16 @@ decodes-models file i a l m x =
           let shown = u .1 (n .1 (h .0 .holds), h .1) in
           p .1 (le-leb (variables i) mostVariables l, b .1 (h .0 .size, model-bytes i m (h .0), shown)),
     )
+
+-- and only a formula within its limit
+pub decoded-few : (file : List ℕ) (i : Instance) → Accepted file i → (m : List ℕ) {x : List ℕ × Objective}
+    → decodeOf file m ≡ answered x → variables i ≤ mostVariables
+unfolding decodeOf
+decoded-few file i a m {x} e =
+    let said : Answer (List ℕ × Objective) = answered (part i m, falsifiedSoft i m) in
+    let found = lowestFalse (bit m) 1 (hardOf i) in
+    let p = provided-answers {x = x} (leb (variables i) mostVariables) 8 0 (ofBytes (variables i) m (unlessFound 13 found said)) in
+    leb-true (variables i) mostVariables (p .0 (rw (a .parsed) at e) .0)
 
 module _ (i : Instance) (v : ValidInstance i) where
   -- a model is the extension of its part with Y and S

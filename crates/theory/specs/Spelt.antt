@@ -1,5 +1,5 @@
 -- What is read is exactly what the relations of Demands spell: numbers, lists up to a 0, steps, whole proofs.
-use mathlib.Core.Path.{_≡_, refl, sym, ap, _∙_, subst}
+use mathlib.Core.Path.{_≡_, refl, sym, ap, _∙_}
 use mathlib.Core.Logic.{_↔_}
 use mathlib.Core.Bool.{Bool, true, false, cond}
 use mathlib.Core.List.{List, [], _∷_, _++_, append-assoc}
@@ -7,14 +7,14 @@ use Prim.Native.Nat.{ℕ, zero, suc, _+_, _-_, _≤_, _<_}
 use native.Mathlib.Omega.{arith}
 use lib.Dec.{leb, eqb}
 use lib.ListN.{length, drop, length-append}
-use lib.Seq.{drop-append-seam, drop-at, getD-append-add}
+use lib.Seq.{drop-append-seam, drop-at}
 use borrow.Author.Tests.{le-leb, leb-true, eqb-true}
 use Rattle.scope.specs.Number.{Front, broken, whole, front, most, within}
 use Rattle.scope.specs.Steps.{Step, add, delete, Tokens, stop, bad, num, byFront, tokensAfter, tokens}
 use Rattle.scope.specs.Steps.{Numbers, upTo0, cut, before, numbers}
 use Rattle.scope.specs.Steps.{StepRead, read, misread, readHints, readLiterals, readAdd, readDelete, readStep}
 use Rattle.scope.specs.Spelling.{Spells, last, more, SpellsList, closing, item, SpellsStep, adds, deletes}
-use Rattle.scope.specs.Spelling.{SpellsProof, nothing, step, Bytes}
+use Rattle.scope.specs.Spelling.{SpellsProof, nothing, step}
 use Rattle.laws.specs.Booleans.{impossible}
 use Rattle.theory.specs.Tokens.{tokens-whole, tokens-broken}
 use Rattle.theory.specs.Front.{Spelt, front-spelt, spelt-front}
@@ -22,7 +22,6 @@ use Rattle.theory.specs.Front.{Spelt, front-spelt, spelt-front}
 -- bytes of which these are the tokens
 record Source (ts : Tokens) : Type 0 where
   bytes : List ℕ
-  small : Bytes bytes
   same : tokens bytes ≡ ts
 
 -- the bytes begin with ones that satisfy S, and ts are the tokens of the others
@@ -58,20 +57,15 @@ within-whole (whole w m) v n e = go (leb w most) refl e
     go true t e = let p : w ≡ v = cc in (e, rw p at (leb-true w most t))
     go false t e = impossible (cc)
 
--- bytes after others are bytes
-bytes-after : (bs p r : List ℕ) → bs ≡ p ++ r → Bytes bs → Bytes r
-bytes-after bs p r e y k = rw (getD-append-add p r k 0) at (subst Bytes e y (length p + k))
-
 -- bytes that spell a number, as a reading
-of-spelt : (bs : List ℕ) → Bytes bs → (v n : ℕ) (ts : Tokens) → ts ≡ tokens (drop n bs) → Spelt bs v n
+of-spelt : (bs : List ℕ) (v n : ℕ) (ts : Tokens) → ts ≡ tokens (drop n bs) → Spelt bs v n
     → Reading (Spells v) bs ts
-of-spelt bs y v n ts e k =
+of-spelt bs v n ts e k =
     record {
       taken = k .0;
       left =
           record {
             bytes = k .1;
-            small = bytes-after bs (k .0) (k .1) (k .2) y;
             same = sym (e ∙ ap tokens (ap (drop n) (k .2) ∙ drop-at (k .0) (k .1) n (k .4)));
           };
       split = k .2;
@@ -79,10 +73,10 @@ of-spelt bs y v n ts e k =
     }
 
 -- a number that is read was spelt
-read-number : (bs : List ℕ) → Bytes bs → (v : ℕ) (ts : Tokens) → tokens bs ≡ num v ts → (v ≤ most) × Reading (Spells v) bs ts
+read-number : (bs : List ℕ) (v : ℕ) (ts : Tokens) → tokens bs ≡ num v ts → (v ≤ most) × Reading (Spells v) bs ts
 unfolding tokensAfter
-read-number [] y v ts e = impossible (cc)
-read-number (b ∷ bs) y v ts e = go (within (front (b ∷ bs))) refl
+read-number [] v ts e = impossible (cc)
+read-number (b ∷ bs) v ts e = go (within (front (b ∷ bs))) refl
   where
     go : (f : Front) → within (front (b ∷ bs)) ≡ f → (v ≤ most) × Reading (Spells v) (b ∷ bs) ts
     go broken t = let z = tokens-broken (b ∷ bs) (omega arith) t in impossible (cc)
@@ -91,10 +85,10 @@ read-number (b ∷ bs) y v ts e = go (within (front (b ∷ bs))) refl
         let p : w ≡ v = cc in
         let q : ts ≡ tokens (drop n (b ∷ bs)) = cc in
         let h = within-whole (front (b ∷ bs)) v n (rw p at t) in
-        (h .1, of-spelt (b ∷ bs) y v n ts q (front-spelt (b ∷ bs) y v n (h .0)))
+        (h .1, of-spelt (b ∷ bs) v n ts q (front-spelt (b ∷ bs) v n (h .0)))
 
 number-read : {v : ℕ} {ts : Tokens} (c : Source (num v ts)) → (v ≤ most) × Reading (Spells v) (c .bytes) ts
-number-read {v} {ts} c = read-number (c .bytes) (c .small) v ts (c .same)
+number-read {v} {ts} c = read-number (c .bytes) v ts (c .same)
 
 -- and a number that is spelt is read
 spelt-number : {v : ℕ} {p : List ℕ} → v ≤ most → Spells v p → (r : List ℕ) → tokens (p ++ r) ≡ num v (tokens r)
@@ -254,8 +248,8 @@ spelt-proof nothing = done
 spelt-proof (step {s} {ss} {bs} {cs} q k) = first (spelt-step q cs) (spelt-proof k)
 
 -- bytes are read as a list of steps and nothing more exactly where they spell it
-pub proof-exact : (bs : List ℕ) → Bytes bs → (ss : List Step) → ReadAs (tokens bs) ss ↔ SpellsProof ss bs
-proof-exact bs y ss = (λ k. proof-read k (record { bytes = bs; small = y; same = refl }), spelt-proof)
+pub proof-exact : (bs : List ℕ) (ss : List Step) → ReadAs (tokens bs) ss ↔ SpellsProof ss bs
+proof-exact bs ss = (λ k. proof-read k (record { bytes = bs; same = refl }), spelt-proof)
 
 -- each step takes a byte at least
 step-bytes : {s : Step} {p : List ℕ} → SpellsStep s p → 1 ≤ length p

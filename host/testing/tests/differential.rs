@@ -11,7 +11,9 @@ use std::env;
 use std::panic::{catch_unwind, AssertUnwindSafe};
 use std::thread;
 use std::time::{Duration, Instant};
-use support::both::{check, decode, read, same_sheet, score, sizes, text, text_size};
+use support::both::{
+    best, check, check_hard, decode, read, same_sheet, score, sizes, text, text_size,
+};
 use support::{long_list, oversized};
 use testing::forgeries::forgeries;
 use testing::generate::{
@@ -19,7 +21,7 @@ use testing::generate::{
     proof, school, timetable, Random, Shape,
 };
 use testing::prover::{clause_list, solve, Verdict};
-use testing::reference::{Instance, Refusal, Sizes};
+use testing::reference::{self, Instance, Refusal, Sizes};
 use testing::steps::{encode_steps, with_deletions, with_gaps};
 use timetable::engine;
 
@@ -126,27 +128,99 @@ fn proofs_are_checked_alike() {
         let Ok(sizes) = Sizes::of(&instance, Some(bound)) else {
             return number_of(check(&file, bound, &[], 0, 0, 0));
         };
-        let proof = any_proof(random, &instance, bound, sizes);
+        let proof = any_proof(random, &instance, Some(bound), sizes);
         // What the wrapper lends is never too short for the proof.
-        let more = proof.len() as u64;
-        let (words, rows) = (sizes.words + more, sizes.clauses + more);
-        let ample = check(&file, bound, &proof, words, rows, sizes.variables);
+        let [words, rows, bytes] = ample_for(sizes, &proof);
+        let ample = check(&file, bound, &proof, words, rows, bytes);
         if file == encode(&instance) {
             assert_eq!(engine::check(&file, bound, &proof), ample);
         }
-        let [words, rows, bytes] = match random.below(3) {
-            0 => return number_of(ample),
-            // Room for a part of the proof.
-            1 => [
-                sizes.words + random.below(proof.len() + 1) as u64 / 2,
-                sizes.clauses + random.below(proof.len() + 1) as u64 / 8,
-                sizes.variables,
-            ],
-            _ => [sizes.words, sizes.clauses, sizes.variables].map(|fits| lent(random, fits)),
-        };
+        if random.below(3) == 0 {
+            return number_of(ample);
+        }
+        let [words, rows, bytes] = scant_for(random, sizes, &proof);
         number_of(check(&file, bound, &proof, words, rows, bytes))
     });
     assert_eq!(seen, [0, 1, 2, 3, 4, 5, 6, 7, 8, 9, 14, 15, 16, 17, 18]);
+}
+
+#[test]
+fn proofs_without_the_tail_are_checked_alike() {
+    let seen = each_seed(FORMULAS, |random| {
+        let soft = random.pick(&[0, 50, 100]);
+        let instance = instance(
+            random,
+            &Shape {
+                soft,
+                ..refutable()
+            },
+        );
+        let file = match random.below(100) {
+            0 => oversized(),
+            1 => long_list(),
+            2..=5 => any_file(random),
+            _ => any_file_of(random, &instance),
+        };
+        let sizes = Sizes::of(&instance, None).expect("a small formula");
+        let proof = any_proof(random, &instance, None, sizes);
+        let ample = check_hard(&file, &proof, ample_for(sizes, &proof));
+        if file == encode(&instance) {
+            assert_eq!(engine::check_hard(&file, &proof), ample);
+        }
+        match random.below(3) {
+            0 => number_of(ample),
+            _ => number_of(check_hard(&file, &proof, scant_for(random, sizes, &proof))),
+        }
+    });
+    assert_eq!(seen, [0, 1, 2, 3, 4, 5, 6, 8, 9, 14, 15, 16, 17, 18]);
+}
+
+#[test]
+fn best_models_are_found_alike() {
+    let seen = each_seed(FORMULAS, |random| {
+        let soft = random.pick(&[90, 100]);
+        let instance = instance(
+            random,
+            &Shape {
+                soft,
+                ..refutable()
+            },
+        );
+        let file = match random.below(100) {
+            0 => oversized(),
+            1 => long_list(),
+            2..=5 => any_file(random),
+            _ => any_file_of(random, &instance),
+        };
+        let model = model(&instance, &timetable(random, &instance));
+        let model = match random.below(10) {
+            0 => damaged_table(random, &model),
+            _ => model,
+        };
+        let cost = reference_cost(&instance, &model);
+        let bound = cost.saturating_sub(1);
+        let Ok(sizes) = Sizes::of(&instance, Some(bound)) else {
+            return number_of(best(&file, &model, &[], [0, 0, 0]));
+        };
+        let proof = any_proof(random, &instance, Some(bound), sizes);
+        let ample = best(&file, &model, &proof, ample_for(sizes, &proof));
+        if file == encode(&instance) {
+            assert_eq!(engine::best(&file, &model, &proof), ample);
+        }
+        match random.below(3) {
+            0 => number_of(ample),
+            _ => number_of(best(
+                &file,
+                &model,
+                &proof,
+                scant_for(random, sizes, &proof),
+            )),
+        }
+    });
+    assert_eq!(
+        seen,
+        [0, 1, 2, 3, 4, 5, 6, 7, 8, 9, 10, 11, 13, 14, 15, 16, 17, 18]
+    );
 }
 
 #[test]
@@ -241,6 +315,8 @@ fn calls_fit_the_stack_that_the_header_names() {
         assert!(engine::decode(file, model).is_ok());
         let proof = include_bytes!("../../schools/small.proof");
         assert!(engine::check(file, 10, proof).is_ok());
+        assert!(engine::check_hard(file, proof).is_err());
+        assert!(engine::best(file, model, proof).is_ok());
     });
     calls.expect("a thread").join().expect("the calls return");
 }
@@ -358,10 +434,15 @@ fn any_file_of(random: &mut Random, instance: &Instance) -> Vec<u8> {
     }
 }
 
-/// A proof for the formula of an instance with its tail, honest, forged or
-/// damaged; random steps where there is none.
-fn any_proof(random: &mut Random, instance: &Instance, bound: u64, sizes: Sizes) -> Vec<u8> {
-    let clauses = clause_list(instance, Some(bound));
+/// A proof for the formula of an instance, with its tail if there is a bound,
+/// honest, forged or damaged; random steps where there is none.
+fn any_proof(
+    random: &mut Random,
+    instance: &Instance,
+    bound: Option<u64>,
+    sizes: Sizes,
+) -> Vec<u8> {
+    let clauses = clause_list(instance, bound);
     let variables = sizes.variables as usize;
     let honest = match solve(variables, &clauses) {
         Verdict::Refutation(steps) => match random.below(4) {
@@ -380,6 +461,30 @@ fn any_proof(random: &mut Random, instance: &Instance, bound: u64, sizes: Sizes)
         1 => damaged_bytes(random, &honest),
         _ => honest,
     }
+}
+
+/// Words, rows and bytes that are never too short for the proof.
+fn ample_for(sizes: Sizes, proof: &[u8]) -> [u64; 3] {
+    let more = proof.len() as u64;
+    [sizes.words + more, sizes.clauses + more, sizes.variables]
+}
+
+/// Words, rows and bytes that are room for a part of the proof, or near the
+/// formula's own sizes.
+fn scant_for(random: &mut Random, sizes: Sizes, proof: &[u8]) -> [u64; 3] {
+    match random.below(2) {
+        0 => [
+            sizes.words + random.below(proof.len() + 1) as u64 / 2,
+            sizes.clauses + random.below(proof.len() + 1) as u64 / 8,
+            sizes.variables,
+        ],
+        _ => [sizes.words, sizes.clauses, sizes.variables].map(|fits| lent(random, fits)),
+    }
+}
+
+/// The cost of a model by the reference; 0 where it is refused.
+fn reference_cost(instance: &Instance, model: &[u8]) -> u64 {
+    reference::decode(&encode(instance), model).map_or(0, |(_, cost)| cost.0)
 }
 
 /// An instance file, valid or damaged, or any bytes.

@@ -1,4 +1,4 @@
--- `timetable_check` meets its contract: a walk of its MIR by hand, a call of `check`, to which the stores are lent, and a call of `leave_steps`, to which value is lent.
+-- `timetable_check` meets its contract: a walk of its MIR by hand. A claim is made; then a call of `check`, to which the stores are lent, and a call of `leave_steps`, to which value is lent.
 use mathlib.Core.Path.{_≡_, refl}
 use mathlib.Core.List.{List, [], _∷_}
 use mathlib.Core.Option.{some}
@@ -17,7 +17,7 @@ use ghost.Atoms.{Atoms, sem}
 use contract.Monad.{Fun}
 use contract.Running.{givenOf, tables, tablesOf}
 use types.Kit.{Given, Item, raw, cut, use1, use2, use3, feqL, some as exists, later, pick, await, ‵, _⊛_, ⋆, _$_, _∵_, !, qed, by, move, keep, drop, split, join, rewrite, fsplit, fjoin, suffices, frame, done}
-use types.Run.{addr, land, look, init, stop, hop, fld, from, and-then, no-more, returns, enter, params1, pass1, pass0}
+use types.Run.{addr, land, look, init, lit, stop, hop, fld, from, and-then, no-more, returns, enter, params1, pass1, pass0}
 use types.Part.{whole, sub, look-in, agg}
 use types.Tokens.{lft-new, lft-end}
 use sound.WpLaws.{FmC, fmOf, WpFn-mono}
@@ -47,7 +47,10 @@ use Rattle.store.proofs.Walk.{rotate, allocs-all, frees-all, var, part, fills}
 use Rattle.store.proofs.Slices.{at-list, Whole, lent, back}
 use Rattle.store.proofs.Calls.{uint-same, both-said, and-said, calls-to}
 use Rattle.store.proofs.directory.Row as R
-use Rattle.checker.proofs.Values.{IsAnswer, answer-same, answer-typed}
+use Rattle.checker.specs.declared.claim.Claim.{Claim}
+use Rattle.checker.proofs.claim.Claim as G
+use Rattle.checker.proofs.claim.Claim.Laws as G′
+use Rattle.checker.proofs.Values.{IsAnswer, answer-same, answer-typed, IsClaim, claim-typed}
 use Rattle.checker.proofs.Calling.{check-to, to-check, Checking, goes-check}
 use Rattle.checker.proofs.check as check
 use Rattle.checker.proofs.check.Symbol as check-def
@@ -144,9 +147,13 @@ module _ {M : Type 1} (𝓤 : URA M) (H : Heap 𝓤) (A : Atoms 𝓤) (W : Given
       nothing ! $ fjoin ! $ nothing ! $ fjoin ! $ nothing ! $ fjoin ! $
       owned ! u32 (Is u32) (uint-makes 𝓤 H A W w32) r _ (refl, fits) $ move ! (1 ∷ 0 ∷ []) $ done !
 
+  -- the claim
+  is-claim : IsClaim (Claim.Bound bound) (G′.lowered (Claim.Bound bound))
+  is-claim = EL.owes G.the-type G′.the-laws (Claim.Bound bound) ((refl, bound-fits), tt)
+
   -- the calls: what each is passed, what it asks, and what is said of `check`
   abbrev checking : ℕ → GName → ℕ → GName → ℕ → GName → check-to 𝓤 H A mem run .Ghost
-  checking = to-check 𝓤 H A mem run κ₄ κ₀ q₄ q₀ b₄ o₄ γ₄ fs bound b₀ o₀ γ₀ ps b₁ o₁ us b₂ o₂ ys b₃ o₃ ms
+  checking = to-check 𝓤 H A mem run κ₄ κ₀ q₄ q₀ b₄ o₄ γ₄ fs (Claim.Bound bound) b₀ o₀ γ₀ ps b₁ o₁ us b₂ o₂ ys b₃ o₃ ms
 
   abbrev Says : CheckAnswer → List ℕ → List Row → List ℕ → Type 0
   Says x xs zs vs = (checkMeans x ≡ checkOf fs bound ps (lentBy (us, ys, ms))) × ((xs ≡ zeros us) × ((zs ≡ zeroRows ys) × (vs ≡ zeros ms)))
@@ -171,26 +178,27 @@ module _ {M : Type 1} (𝓤 : URA M) (H : Heap 𝓤) (A : Atoms 𝓤) (W : Given
       -- [value; no other parameter; the marks; the rows; the words; the proof; the file; the tokens, the last one first]
       keep ! (6 ∷ 13 ∷ 5 ∷ 12 ∷ 4 ∷ 11 ∷ 3 ∷ 10 ∷ 2 ∷ 9 ∷ 0 ∷ 7 ∷ []) $
       enter ! (𝓣 .C) (𝓣 .Λ) code.function (s₄ ∷ vint w64 bound ∷ s₀ ∷ s₁ ∷ s₂ ∷ s₃ ∷ vptr b₅ o₅ ∷ []) _ $ allocs-all ! body.locals (λ ls. params1 ! $
-      pass1 ! (init ! 28 refl (tt, (tt, (record { fits = room₄ .0 }, tt)))) $ pass1 ! (init ! 26 refl (tt, record { fits = bound-fits })) $
-      pass1 ! (init ! 24 refl (tt, (tt, (record { fits = room₀ .0 }, tt)))) $
-      pass1 ! (init ! 22 refl (tt, (tt, (record { fits = room₁ .0 }, tt)))) $
-      pass1 ! (init ! 20 refl (tt, (tt, (record { fits = room₂ .0 }, tt)))) $ pass1 ! (init ! 18 refl (tt, (tt, (record { fits = room₃ .0 }, tt)))) $
-      pass1 ! (init ! 16 refl (tt, tt)) $ pass0 ! $
+      pass1 ! (init ! 30 refl (tt, (tt, (record { fits = room₄ .0 }, tt)))) $ pass1 ! (init ! 28 refl (tt, record { fits = bound-fits })) $
+      pass1 ! (init ! 26 refl (tt, (tt, (record { fits = room₀ .0 }, tt)))) $
+      pass1 ! (init ! 24 refl (tt, (tt, (record { fits = room₁ .0 }, tt)))) $
+      pass1 ! (init ! 22 refl (tt, (tt, (record { fits = room₂ .0 }, tt)))) $ pass1 ! (init ! 20 refl (tt, (tt, (record { fits = room₃ .0 }, tt)))) $
+      pass1 ! (init ! 18 refl (tt, tt)) $ pass0 ! $
+      fills ! 16 (agg ! (and-then ! (lit ! tt) (and-then ! (var ! 28 refl) (no-more !)))) refl (claim-typed W (Claim.Bound bound) _ is-claim) $
       -- the stores are lent
-      fills ! 12 (addr ! (from ! (fld ! refl (hop ! (look-in ! 22 (sub ! 0 refl (whole !))) (stop !))))) refl (tt, tt) $
-      fills ! 10 (agg ! (and-then ! (var ! 12 refl) (and-then ! (part ! 22 refl (sub ! 1 refl (whole !))) (no-more !)))) refl (tt, (tt, (record { fits = room₁ .0 }, tt))) $
-      fills ! 8 (addr ! (from ! (fld ! refl (hop ! (look-in ! 20 (sub ! 0 refl (whole !))) (stop !))))) refl (tt, tt) $
-      fills ! 6 (agg ! (and-then ! (var ! 8 refl) (and-then ! (part ! 20 refl (sub ! 1 refl (whole !))) (no-more !)))) refl (tt, (tt, (record { fits = room₂ .0 }, tt))) $
-      fills ! 4 (addr ! (from ! (fld ! refl (hop ! (look-in ! 18 (sub ! 0 refl (whole !))) (stop !))))) refl (tt, tt) $
-      fills ! 2 (agg ! (and-then ! (var ! 4 refl) (and-then ! (part ! 18 refl (sub ! 1 refl (whole !))) (no-more !)))) refl (tt, (tt, (record { fits = room₃ .0 }, tt))) $
-      move ! (36 ∷ 37 ∷ []) $ lent u32 κ₁ q₁ γ₁ b₁ o₁ ! tt (named 2) us (λ ν₁ δ₁.
-      move ! (39 ∷ 40 ∷ []) $ lent R.the-row κ₂ q₂ γ₂ b₂ o₂ ! tt (named 3) ys (λ ν₂ δ₂.
-      move ! (42 ∷ 43 ∷ []) $ lent u8 κ₃ q₃ γ₃ b₃ o₃ ! tt (named 4) ms (λ ν₃ δ₃.
-      move ! (42 ∷ 44 ∷ 7 ∷ 4 ∷ 1 ∷ 41 ∷ 43 ∷ 6 ∷ 3 ∷ 0 ∷ []) $
-      cut (Checking 𝓤 H A mem run κ₄ κ₀ q₄ q₀ b₄ o₄ γ₄ fs bound b₀ o₀ γ₀ ps b₁ o₁ us b₂ o₂ ys b₃ o₃ ms ν₁ δ₁ ν₂ δ₂ ν₃ δ₃) (raw (check-to 𝓤 H A mem run .pre (checking ν₁ δ₁ ν₂ δ₂ ν₃ δ₃)) ∷ []) _
-      (goes-check 𝓤 H A mem run κ₄ κ₀ q₄ q₀ b₄ o₄ γ₄ fs bound b₀ o₀ γ₀ ps b₁ o₁ us b₂ o₂ ys b₃ o₃ ms ν₁ δ₁ ν₂ δ₂ ν₃ δ₃ W bound-fits) $
+      fills ! 12 (addr ! (from ! (fld ! refl (hop ! (look-in ! 24 (sub ! 0 refl (whole !))) (stop !))))) refl (tt, tt) $
+      fills ! 10 (agg ! (and-then ! (var ! 12 refl) (and-then ! (part ! 24 refl (sub ! 1 refl (whole !))) (no-more !)))) refl (tt, (tt, (record { fits = room₁ .0 }, tt))) $
+      fills ! 8 (addr ! (from ! (fld ! refl (hop ! (look-in ! 22 (sub ! 0 refl (whole !))) (stop !))))) refl (tt, tt) $
+      fills ! 6 (agg ! (and-then ! (var ! 8 refl) (and-then ! (part ! 22 refl (sub ! 1 refl (whole !))) (no-more !)))) refl (tt, (tt, (record { fits = room₂ .0 }, tt))) $
+      fills ! 4 (addr ! (from ! (fld ! refl (hop ! (look-in ! 20 (sub ! 0 refl (whole !))) (stop !))))) refl (tt, tt) $
+      fills ! 2 (agg ! (and-then ! (var ! 4 refl) (and-then ! (part ! 20 refl (sub ! 1 refl (whole !))) (no-more !)))) refl (tt, (tt, (record { fits = room₃ .0 }, tt))) $
+      move ! (38 ∷ 39 ∷ []) $ lent u32 κ₁ q₁ γ₁ b₁ o₁ ! tt (named 2) us (λ ν₁ δ₁.
+      move ! (41 ∷ 42 ∷ []) $ lent R.the-row κ₂ q₂ γ₂ b₂ o₂ ! tt (named 3) ys (λ ν₂ δ₂.
+      move ! (44 ∷ 45 ∷ []) $ lent u8 κ₃ q₃ γ₃ b₃ o₃ ! tt (named 4) ms (λ ν₃ δ₃.
+      move ! (44 ∷ 46 ∷ 7 ∷ 4 ∷ 1 ∷ 43 ∷ 45 ∷ 6 ∷ 3 ∷ 0 ∷ []) $
+      cut (Checking 𝓤 H A mem run κ₄ κ₀ q₄ q₀ b₄ o₄ γ₄ fs (Claim.Bound bound) b₀ o₀ γ₀ ps b₁ o₁ us b₂ o₂ ys b₃ o₃ ms ν₁ δ₁ ν₂ δ₂ ν₃ δ₃) (raw (check-to 𝓤 H A mem run .pre (checking ν₁ δ₁ ν₂ δ₂ ν₃ δ₃)) ∷ []) _
+      (goes-check 𝓤 H A mem run κ₄ κ₀ q₄ q₀ b₄ o₄ γ₄ fs (Claim.Bound bound) b₀ o₀ γ₀ ps b₁ o₁ us b₂ o₂ ys b₃ o₃ ms ν₁ δ₁ ν₂ δ₂ ν₃ δ₃ W is-claim) $
       calls-to check.ended (check.clauses 𝓤 H A mem run) (checking ν₁ δ₁ ν₂ δ₂ ν₃ δ₃) (λ x ws. Says x (ws .1 .1 .1 .0) (ws .1 .1 .1 .1 .0) (ws .1 .1 .1 .1 .1 .0)) (λ x ws. and-said 𝓤 _ _ (and-said 𝓤 _ _ (both-said 𝓤 _ _))) S′.lowered answer-same ! fm (known .check)
-      (and-then ! (var ! 32 refl) (and-then ! (var ! 30 refl) (and-then ! (var ! 28 refl) (and-then ! (var ! 14 refl) (and-then ! (var ! 10 refl) (and-then ! (var ! 6 refl) (no-more !))))))) (λ x ws checked is-x.
+      (and-then ! (var ! 34 refl) (and-then ! (var ! 20 refl) (and-then ! (var ! 30 refl) (and-then ! (var ! 14 refl) (and-then ! (var ! 10 refl) (and-then ! (var ! 6 refl) (no-more !))))))) (λ x ws checked is-x.
       use1 W (‵ (flft κ₄ q₄) ⊛ (‵ (flft κ₀ q₀) ⊛ (‵ (flft (ν₁ ∷ []) fullShare) ⊛ (‵ (flft (ν₂ ∷ []) fullShare) ⊛ (‵ (flft (ν₃ ∷ []) fullShare) ⊛ ‵ ftrue))))) (id⊢ 𝓤 _) $
       split ! $ move ! (1 ∷ []) $ split ! $ move ! (1 ∷ []) $ split ! $ move ! (1 ∷ []) $ split ! $ move ! (1 ∷ []) $ split ! $ move ! (1 ∷ []) $
       drop ! $ move ! (5 ∷ []) $
@@ -201,8 +209,8 @@ module _ {M : Type 1} (𝓤 : URA M) (H : Heap 𝓤) (A : Atoms 𝓤) (W : Given
       move ! (5 ∷ 8 ∷ 4 ∷ []) $ back u32 κ₁ q₁ γ₁ b₁ o₁ ! tt (named 2) us δ₁ (ws .1 .1 .1 .0) k₁ $
       land ! (from ! (stop !)) (init ! 22 refl (answer-typed W x _ is-x)) $ rotate ! 8 $
       -- value is lent
-      fills ! 0 (addr ! (from ! (hop ! (look ! 16 refl) (stop !)))) refl (tt, tt) $
-      lft-new ! tt (λ α. move ! (33 ∷ 34 ∷ []) $
+      fills ! 0 (addr ! (from ! (hop ! (look ! 18 refl) (stop !)))) refl (tt, tt) $
+      lft-new ! tt (λ α. move ! (35 ∷ 36 ∷ []) $
       use2 W (later (exists (λ (δ : GName). ‵ (Value (α ∷ []) δ n) ⊛ ‵ (LentAgain u64 κ₅ (α ∷ []) q₅ γ₅ b₅ o₅ δ n)))) (lends-again 𝓤 H A W u64 (named 5) κ₅ (α ∷ []) q₅ γ₅ b₅ o₅ (named 5) n) $
       await ! tt $ pick ! (λ δ. split ! $
       move ! (2 ∷ 0 ∷ []) $ use2 W (raw (told-to 𝓤 H A mem run .pre (to-told x α δ))) (goes-told x α δ is-x) $
@@ -213,9 +221,9 @@ module _ {M : Type 1} (𝓤 : URA M) (H : Heap 𝓤) (A : Atoms 𝓤) (W : Given
       lft-end ! tt $ move ! (0 ∷ 2 ∷ 1 ∷ []) $
       use3 W (later (‵ (Value κ₅ γ₅ (vs .1 .0)) ⊛ ‵ (flft κ₅ q₅))) (comes-back 𝓤 H A W u64 (named 5) κ₅ (α ∷ []) q₅ γ₅ b₅ o₅ δ n (vs .1 .0)) $
       await ! tt $ split ! $
-      land ! (from ! (stop !)) (init ! 32 refl (tt, record { fits = is-r .1 })) $ rotate ! 2 $ returns ! (look ! 30 refl) $
-      frees-all ! body.locals ls (some _ ∷ some _ ∷ some _ ∷ some _ ∷ some _ ∷ some _ ∷ some _ ∷ some _ ∷ some _ ∷ some _ ∷ some _ ∷ some _ ∷ some _ ∷ some _ ∷ some _ ∷ some _ ∷ []) $
-      by ! (exits r (is-r .1) (ws .1 .1 .1 .0) (ws .1 .1 .1 .1 .0) (ws .1 .1 .1 .1 .1 .0) (vs .1 .0) k₁ k₂ k₃ (check-told fs bound ps us ys ms x (checked .0) (checked .1 .0) (checked .1 .1 .0) (checked .1 .1 .1) said)))))))))))))
+      land ! (from ! (stop !)) (init ! 34 refl (tt, record { fits = is-r .1 })) $ rotate ! 2 $ returns ! (look ! 32 refl) $
+      frees-all ! body.locals ls (some _ ∷ some _ ∷ some _ ∷ some _ ∷ some _ ∷ some _ ∷ some _ ∷ some _ ∷ some _ ∷ some _ ∷ some _ ∷ some _ ∷ some _ ∷ some _ ∷ some _ ∷ some _ ∷ some _ ∷ []) $
+      by ! (exits r (is-r .1) (ws .1 .1 .1 .0) (ws .1 .1 .1 .1 .0) (ws .1 .1 .1 .1 .1 .0) (vs .1 .0) k₁ k₂ k₃ (check-told (checkOf fs bound ps (lentBy (us, ys, ms))) us ys ms x (checked .0) (checked .1 .0) (checked .1 .1 .0) (checked .1 .1 .1) said)))))))))))))
 
 meets : {M : Type 1} (𝓤 : URA M) (H : Heap 𝓤) (A : Atoms 𝓤) → Given 𝓤 H A → (mem : Memory → SProp 𝓤) (run : Routine → Fun 𝓤) (𝓣 : Tables 𝓤 H) → Known 𝓤 H A mem run (𝓣 .C)
     → Meets 𝓤 H A f.signature (WpFn 𝓤 H (𝓣 .C) (𝓣 .Λ) code.function) (f.spec 𝓤 H A mem run)

@@ -5,6 +5,7 @@
 //! instance, sizing, timetable or model, proof. The types of the answers are
 //! those of `timetable::engine`; nothing else is shared with it.
 
+mod best;
 mod clauses;
 mod instance;
 mod model;
@@ -15,6 +16,7 @@ mod score;
 mod sheet;
 mod text;
 
+pub use best::best;
 pub use clauses::{
     sizes, walk, walk_with_tail, Literal, Sink, Sizes, LARGEST_BOUND, LARGEST_FORMULA,
 };
@@ -23,7 +25,7 @@ pub use instance::{
 };
 pub use model::decode;
 pub use number::{read_number, write_number};
-pub use proof::{check, ADD, DELETE};
+pub use proof::{check, check_hard, ADD, DELETE};
 pub use score::{deviation, score};
 pub use sheet::{same_sheet, Sheet};
 pub use text::{text, text_program, text_size, TEXT_PROGRAM_BYTES};

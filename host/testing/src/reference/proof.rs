@@ -1,6 +1,6 @@
 //! Bound proofs: the plain run, refusals 7 to 9 and 14 to 18.
 
-use super::clauses::{walk_with_tail, Literal, Sink, Sizes};
+use super::clauses::{walk, walk_with_tail, Literal, Sink, Sizes};
 use super::instance::Instance;
 use super::number::read_number;
 use super::refusal::refuse;
@@ -22,8 +22,29 @@ pub fn check(
     rows_lent: u64,
     bytes_lent: u64,
 ) -> Result<u64, Refusal> {
+    plain_run(
+        file,
+        Some(bound),
+        proof,
+        [words_lent, rows_lent, bytes_lent],
+    )
+}
+
+/// Checks that no timetable keeps the hard constraints, whatever it costs: the
+/// same without the tail. Gives the number of steps, or 1 to 6, 8, 9, 14 to 18.
+pub fn check_hard(file: &[u8], proof: &[u8], lent: [u64; 3]) -> Result<u64, Refusal> {
+    plain_run(file, None, proof, lent)
+}
+
+/// The plain run over the hard clauses, with the tail for a bound if there is one.
+fn plain_run(
+    file: &[u8],
+    bound: Option<u64>,
+    proof: &[u8],
+    [words_lent, rows_lent, bytes_lent]: [u64; 3],
+) -> Result<u64, Refusal> {
     let instance = Instance::read(file)?;
-    let sizes = Sizes::of(&instance, Some(bound))?;
+    let sizes = Sizes::of(&instance, bound)?;
     if words_lent < sizes.words || rows_lent < sizes.clauses || bytes_lent < sizes.variables {
         return refuse(9, 0);
     }
@@ -32,7 +53,10 @@ pub fn check(
         rows: Vec::with_capacity(sizes.clauses as usize),
         highest: 0,
     };
-    walk_with_tail(&instance, bound, &mut store);
+    match bound {
+        Some(bound) => walk_with_tail(&instance, bound, &mut store),
+        None => walk(&instance, &mut store),
+    }
     debug_assert!(store.words.len() as u64 == sizes.words);
     debug_assert!(store.rows.len() as u64 == sizes.clauses);
     let run = Run {

@@ -92,6 +92,25 @@ pub fn check(
     expected
 }
 
+pub fn check_hard(file: &[u8], proof: &[u8], lent: [u64; 3]) -> Result<u64, Refusal> {
+    let expected = reference::check_hard(file, proof, lent);
+    #[cfg(feature = "engine")]
+    engine::check_hard(file, proof, lent, expected);
+    expected
+}
+
+pub fn best(
+    file: &[u8],
+    model: &[u8],
+    proof: &[u8],
+    lent: [u64; 3],
+) -> Result<(Objective, u64), Refusal> {
+    let expected = reference::best(file, model, proof, lent);
+    #[cfg(feature = "engine")]
+    engine::best(file, model, proof, lent, expected);
+    expected
+}
+
 /// The engine's calls. Each compares the number, the value, the outputs and the
 /// stores with what is expected.
 #[cfg(feature = "engine")]
@@ -250,6 +269,77 @@ mod engine {
         marks.assert_zero();
         lent[0].assert_holds(file);
         lent[1].assert_holds(proof);
+    }
+
+    /// The stores have these lengths.
+    pub fn check_hard(
+        file: &[u8],
+        proof: &[u8],
+        [words, rows, bytes]: [u64; 3],
+        expected: Result<u64, Refusal>,
+    ) {
+        let mut random = dirt(&[file, proof]);
+        let lent = [file, proof].map(|part| Lent::new(&mut random, part));
+        let mut words = Lent::<u32>::dirty(&mut random, words);
+        let mut rows = Lent::<Row>::dirty(&mut random, rows);
+        let mut marks = Lent::<u8>::dirty(&mut random, bytes);
+        let call = |value: &mut u64| {
+            call::check_hard(
+                lent[0].part(),
+                lent[1].part(),
+                words.part_mut(),
+                rows.part_mut(),
+                marks.part_mut(),
+                value,
+            )
+        };
+        let value = Value::after(&mut random, call, expected);
+        value.assert_is(expected);
+        words.assert_zero();
+        rows.assert_zero();
+        marks.assert_zero();
+        lent[0].assert_holds(file);
+        lent[1].assert_holds(proof);
+    }
+
+    /// The stores have these lengths.
+    pub fn best(
+        file: &[u8],
+        model: &[u8],
+        proof: &[u8],
+        [words, rows, bytes]: [u64; 3],
+        expected: Result<(Objective, u64), Refusal>,
+    ) {
+        let inputs = [file, model, proof];
+        let mut random = dirt(&inputs);
+        let lent = inputs.map(|part| Lent::new(&mut random, part));
+        let mut words = Lent::<u32>::dirty(&mut random, words);
+        let mut rows = Lent::<Row>::dirty(&mut random, rows);
+        let mut marks = Lent::<u8>::dirty(&mut random, bytes);
+        let before = random.draw();
+        let mut objective = before;
+        let call = |value: &mut u64| {
+            call::best(
+                lent[0].part(),
+                lent[1].part(),
+                lent[2].part(),
+                words.part_mut(),
+                rows.part_mut(),
+                marks.part_mut(),
+                &mut objective,
+                value,
+            )
+        };
+        let value = Value::after(&mut random, call, expected);
+        value.assert_is(expected.map(|(_, steps)| steps));
+        let objective_after = expected.map_or(before, |(cost, _)| cost.0);
+        assert_eq!(black_box(objective), objective_after);
+        words.assert_zero();
+        rows.assert_zero();
+        marks.assert_zero();
+        for (lent, input) in lent.iter().zip(inputs) {
+            lent.assert_holds(input);
+        }
     }
 
     /// `*value` before and after a call.

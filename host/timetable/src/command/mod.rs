@@ -4,6 +4,7 @@
 //! said in words goes to standard error. Each subcommand stands in a file of its
 //! own and on a line of `table`; `frame` is what they have in common.
 
+mod best;
 mod check;
 mod compile;
 mod completion;

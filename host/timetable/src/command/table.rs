@@ -2,8 +2,8 @@
 
 use super::frame::declare::Subcommand;
 use super::{
-    check, compile, completion, decode, diff, dimacs, explain, export, help, import, man, model,
-    read, same, score, show, sizes, solve, steps, text,
+    best, check, compile, completion, decode, diff, dimacs, explain, export, help, import, man,
+    model, read, same, score, show, sizes, solve, steps, text,
 };
 
 pub const SUBCOMMANDS: &[&Subcommand] = &[
@@ -23,6 +23,7 @@ pub const SUBCOMMANDS: &[&Subcommand] = &[
     &diff::SUBCOMMAND,
     &steps::SUBCOMMAND,
     &check::SUBCOMMAND,
+    &best::SUBCOMMAND,
     &solve::SUBCOMMAND,
     &help::SUBCOMMAND,
     &man::SUBCOMMAND,

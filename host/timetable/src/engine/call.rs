@@ -166,6 +166,70 @@ pub fn check(
     }
 }
 
+/// 0 with the number of steps in `value`, which is the answer that no timetable
+/// keeps the hard constraints, or 1 to 6, 8, 9, 14 to 18 with `value` written.
+/// The stores are zero after it.
+pub fn check_hard(
+    file: &[u8],
+    proof: &[u8],
+    words: &mut [u32],
+    rows: &mut [Row],
+    marks: &mut [u8],
+    value: &mut u64,
+) -> u32 {
+    // SAFETY: see the head of this file; a `Row` is laid out as C's struct.
+    unsafe {
+        c::timetable_check_hard(
+            file.as_ptr(),
+            file.len(),
+            proof.as_ptr(),
+            proof.len(),
+            words.as_mut_ptr(),
+            words.len(),
+            rows.as_mut_ptr(),
+            rows.len(),
+            marks.as_mut_ptr(),
+            marks.len(),
+            value,
+        )
+    }
+}
+
+/// 0 with the model's cost in `objective` and the number of steps in `value`,
+/// which is the answer that nothing costs less, or 1 to 11, 13 to 18 with
+/// `value` written. The stores are zero after it.
+#[allow(clippy::too_many_arguments)]
+pub fn best(
+    file: &[u8],
+    model: &[u8],
+    proof: &[u8],
+    words: &mut [u32],
+    rows: &mut [Row],
+    marks: &mut [u8],
+    objective: &mut u64,
+    value: &mut u64,
+) -> u32 {
+    // SAFETY: see the head of this file; a `Row` is laid out as C's struct.
+    unsafe {
+        c::timetable_best(
+            file.as_ptr(),
+            file.len(),
+            model.as_ptr(),
+            model.len(),
+            proof.as_ptr(),
+            proof.len(),
+            words.as_mut_ptr(),
+            words.len(),
+            rows.as_mut_ptr(),
+            rows.len(),
+            marks.as_mut_ptr(),
+            marks.len(),
+            objective,
+            value,
+        )
+    }
+}
+
 /// The declarations of `include/timetable.h`.
 mod c {
     use super::Row;
@@ -248,6 +312,37 @@ mod c {
             rows_length: usize,
             marks: *mut u8,
             marks_length: usize,
+            value: *mut u64,
+        ) -> u32;
+
+        pub fn timetable_check_hard(
+            file: *const u8,
+            file_length: usize,
+            proof: *const u8,
+            proof_length: usize,
+            words: *mut u32,
+            words_length: usize,
+            rows: *mut Row,
+            rows_length: usize,
+            marks: *mut u8,
+            marks_length: usize,
+            value: *mut u64,
+        ) -> u32;
+
+        pub fn timetable_best(
+            file: *const u8,
+            file_length: usize,
+            model: *const u8,
+            model_length: usize,
+            proof: *const u8,
+            proof_length: usize,
+            words: *mut u32,
+            words_length: usize,
+            rows: *mut Row,
+            rows_length: usize,
+            marks: *mut u8,
+            marks_length: usize,
+            objective: *mut u64,
             value: *mut u64,
         ) -> u32;
     }

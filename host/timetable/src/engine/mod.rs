@@ -19,7 +19,9 @@ mod store;
 pub use answers::{FormulaSize, Infeasibility, Objective, Refusal, Score, Summary};
 pub use limits::{LARGEST_BOUND, MOST_VARIABLES};
 #[cfg(feature = "engine")]
-pub use operations::{check, decode, read, same_sheet, score, sizes, text, text_size};
+pub use operations::{
+    best, check, check_hard, decode, read, same_sheet, score, sizes, text, text_size,
+};
 pub use refusals::{refusal, refusal_facts, RefusalFacts, REFUSALS};
 #[cfg(feature = "engine")]
 pub use store::Store;

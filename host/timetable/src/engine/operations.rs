@@ -2,6 +2,8 @@
 
 use super::answers::{accepted, FormulaSize, Infeasibility, Objective, Refusal, Score, Summary};
 use super::call::{self, Amounts, Counts};
+use super::limits::MOST_VARIABLES;
+use super::refusals::refusal;
 use super::store::Store;
 
 /// Reads an instance file: accepted, or 1 to 6.
@@ -81,4 +83,47 @@ pub fn decode<'a>(file: &[u8], model: &'a [u8]) -> Result<(&'a [u8], Objective),
 pub fn check(file: &[u8], bound: u64, proof: &[u8]) -> Result<u64, Refusal> {
     let mut store = Store::for_proof(sizes(file, bound)?, proof);
     store.check(file, bound, proof)
+}
+
+/// Checks that no timetable keeps the hard constraints, whatever it costs. Gives
+/// the number of steps, or 1 to 6, 8, 14 to 16, 18.
+pub fn check_hard(file: &[u8], proof: &[u8]) -> Result<u64, Refusal> {
+    let mut size = hard_size(file)?;
+    loop {
+        let answer = Store::for_proof(size, proof).check_hard(file, proof);
+        match answer {
+            Err(refused) if refused.number == refusal::TOO_SHORT => {
+                size = FormulaSize {
+                    variables: size.variables,
+                    clauses: 2 * size.clauses,
+                    words: 2 * size.words,
+                };
+            }
+            answer => return answer,
+        }
+    }
+}
+
+/// A size that is not below that of the hard clauses: with the tail for bound 0,
+/// or a guess where that tail has too many variables; or 1 to 6.
+fn hard_size(file: &[u8]) -> Result<FormulaSize, Refusal> {
+    match sizes(file, 0) {
+        Err(refused) if refused.number == refusal::TOO_MANY_VARIABLES => Ok(FormulaSize {
+            variables: MOST_VARIABLES,
+            clauses: MOST_VARIABLES,
+            words: 2 * MOST_VARIABLES,
+        }),
+        answer => answer,
+    }
+}
+
+/// A model's cost, with the number of steps of the proof that nothing costs
+/// less; or 1 to 8, 10, 11, 13 to 16, 18.
+pub fn best(file: &[u8], model: &[u8], proof: &[u8]) -> Result<(Objective, u64), Refusal> {
+    // Where the proof is not looked at, no store is needed.
+    let size = match decode(file, model) {
+        Ok((_, Objective(cost))) if cost > 0 => sizes(file, cost - 1).unwrap_or_default(),
+        _ => FormulaSize::default(),
+    };
+    Store::for_proof(size, proof).best(file, model, proof)
 }

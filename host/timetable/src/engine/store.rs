@@ -1,6 +1,6 @@
 //! The stores that a proof check is lent.
 
-use super::answers::{accepted, FormulaSize, Refusal};
+use super::answers::{accepted, FormulaSize, Objective, Refusal};
 use super::call::{self, Row};
 use crate::proof::room;
 
@@ -38,5 +38,46 @@ impl Store {
         );
         accepted(number, value)?;
         Ok(value)
+    }
+
+    /// Checks a proof against the hard clauses alone in this store, which is
+    /// zero after it. Gives the number of steps, or 1 to 6, 8, 9, 14 to 18.
+    pub fn check_hard(&mut self, file: &[u8], proof: &[u8]) -> Result<u64, Refusal> {
+        let mut value = 0;
+        let number = call::check_hard(
+            file,
+            proof,
+            &mut self.words,
+            &mut self.rows,
+            &mut self.marks,
+            &mut value,
+        );
+        accepted(number, value)?;
+        Ok(value)
+    }
+
+    /// Decodes a model and checks a proof that nothing costs less in this store,
+    /// which is zero after it. Gives the cost and the number of steps, or 1 to
+    /// 11, 13 to 18.
+    pub fn best(
+        &mut self,
+        file: &[u8],
+        model: &[u8],
+        proof: &[u8],
+    ) -> Result<(Objective, u64), Refusal> {
+        let mut objective = 0;
+        let mut value = 0;
+        let number = call::best(
+            file,
+            model,
+            proof,
+            &mut self.words,
+            &mut self.rows,
+            &mut self.marks,
+            &mut objective,
+            &mut value,
+        );
+        accepted(number, value)?;
+        Ok((Objective(objective), value))
     }
 }

@@ -24,7 +24,7 @@ use sound.WpLaws.{FmC, fmOf, WpFn-mono}
 use denote.RattleType.{owns}
 use denote.Laws.{Is}
 use denote.Plain.{uint-vals, uint-tells}
-use denote.Builtin.{u8, u32, u64, usize}
+use denote.Builtin.{u8, u32, usize}
 use denote.Ref.{RefT}
 use denote.Slice.{sliceVal, slice-vals, MutSlice, ShrSlice, Room, mut-slice-tells, shr-slice-tells}
 use denote.Signature.{plain, shrSliceOf}
@@ -59,7 +59,10 @@ use denote.Steps.{peeks}
 use denote.Struct.Laws as LL
 use denote.Triple.Walked.{needs}
 use borrow.Table.Elements.{at as place-at, cut-app, join-app}
-use Rattle.checker.proofs.Values.{IsAnswer, answer-same, answer-typed, says-all}
+use Rattle.checker.specs.declared.claim.Claim.{Claim}
+use Rattle.checker.proofs.claim.Claim as G
+use Rattle.checker.proofs.claim.Claim.Laws as G′
+use Rattle.checker.proofs.Values.{IsAnswer, answer-same, answer-typed, IsClaim, claim-typed, says-all}
 use Rattle.check_cases.proofs.Local.{made, emptied}
 use Rattle.checker.proofs.Calling.{check-to, to-check, Checking, goes-check}
 use Rattle.checker.proofs.check as check
@@ -73,7 +76,7 @@ use Rattle.check_cases.proofs.show.check_rows.Code as code
 use Rattle.check_cases.proofs.show.check_rows.Code.Mir as body
 
 abbrev stayed : Stays (f.ended .signature .params) (f.ended .kept)
-stayed = (stay-dropped (shrSliceOf (0 ∷ []) tt (plain (λ _. u8))) yes, (stay-dropped (plain (λ _. u64)) yes, (stay-dropped (shrSliceOf (1 ∷ []) tt (plain (λ _. u8))) yes, (stay-slice (2 ∷ []) tt (plain (λ _. u32)), (stay-dropped (plain (λ _. usize)) yes, (stay-slice (3 ∷ []) tt (plain (λ _. u8)), tt))))))
+stayed = (stay-dropped (shrSliceOf (0 ∷ []) tt (plain (λ _. u8))) yes, (stay-dropped (plain (λ _. G.the-row)) yes, (stay-dropped (shrSliceOf (1 ∷ []) tt (plain (λ _. u8))) yes, (stay-slice (2 ∷ []) tt (plain (λ _. u32)), (stay-dropped (plain (λ _. usize)) yes, (stay-slice (3 ∷ []) tt (plain (λ _. u8)), tt))))))
 
 -- the types and the addresses of the locals
 abbrev ty : ℕ → Ty
@@ -96,7 +99,7 @@ all-long : length all ≡ 1024
 unfolding all
 all-long = length-replicate 1024 top
 
-module _ {M : Type 1} (𝓤 : URA M) (H : Heap 𝓤) (A : Atoms 𝓤) (W : Given 𝓤 H A) (mm : Memory → SProp 𝓤) (run : Routine → Fun 𝓤) (κ₄ κ₀ κ₁ κ₃ : Lft) (q₄ q₀ q₁ q₃ : Share) (b₄ o₄ : ℕ) (γ₄ : GName) (fs : List ℕ) (bound : ℕ) (b₀ o₀ : ℕ) (γ₀ : GName) (ps : List ℕ) (b₁ o₁ : ℕ) (γ₁ : GName) (us : List ℕ) (rows : ℕ) (b₃ o₃ : ℕ) (γ₃ : GName) (ms : List ℕ) (bound-fits : bound < 2 ^ 64) (rows-fit : rows < 2 ^ 64) (few : rows ≤ 1024) where
+module _ {M : Type 1} (𝓤 : URA M) (H : Heap 𝓤) (A : Atoms 𝓤) (W : Given 𝓤 H A) (mm : Memory → SProp 𝓤) (run : Routine → Fun 𝓤) (κ₄ κ₀ κ₁ κ₃ : Lft) (q₄ q₀ q₁ q₃ : Share) (b₄ o₄ : ℕ) (γ₄ : GName) (fs : List ℕ) (claim : Claim) (b₀ o₀ : ℕ) (γ₀ : GName) (ps : List ℕ) (b₁ o₁ : ℕ) (γ₁ : GName) (us : List ℕ) (rows : ℕ) (b₃ o₃ : ℕ) (γ₃ : GName) (ms : List ℕ) (is-claim : IsClaim claim (G′.lowered claim)) (rows-fit : rows < 2 ^ 64) (few : rows ≤ 1024) where
   abbrev s₄ : Val
   s₄ = sliceVal (b₄, o₄) (length fs)
 
@@ -110,13 +113,13 @@ module _ {M : Type 1} (𝓤 : URA M) (H : Heap 𝓤) (A : Atoms 𝓤) (W : Given
   s₃ xs = sliceVal (b₃, o₃) (length xs)
 
   abbrev Arg : Type 0
-  Arg = RefT (List ℕ) × (ℕ × (RefT (List ℕ) × (RefT (List ℕ) × (ℕ × (RefT (List ℕ) × Unit {0})))))
+  Arg = RefT (List ℕ) × (Claim × (RefT (List ℕ) × (RefT (List ℕ) × (ℕ × (RefT (List ℕ) × Unit {0})))))
 
   abbrev a : Arg
-  a = (at-list b₄ o₄ γ₄ fs, (bound, (at-list b₀ o₀ γ₀ ps, (at-list b₁ o₁ γ₁ us, (rows, (at-list b₃ o₃ γ₃ ms, tt))))))
+  a = (at-list b₄ o₄ γ₄ fs, (claim, (at-list b₀ o₀ γ₀ ps, (at-list b₁ o₁ γ₁ us, (rows, (at-list b₃ o₃ γ₃ ms, tt))))))
 
   abbrev at : List Val × (List Val × (List Val × (List Val × (List Val × (List Val × Unit {0})))))
-  at = (s₄ ∷ [], (vint w64 bound ∷ [], (s₀ ∷ [], (s₁ us ∷ [], (vint w64 rows ∷ [], (s₃ ms ∷ [], tt))))))
+  at = (s₄ ∷ [], (G′.lowered claim ∷ [], (s₀ ∷ [], (s₁ us ∷ [], (vint w64 rows ∷ [], (s₃ ms ∷ [], tt))))))
 
   abbrev Post : Val → SProp 𝓤
   Post = walkOf 𝓤 H A f.ended stayed (f.clauses 𝓤 H A mm run) .post (((κ₄, (κ₀, (κ₁, (κ₃, tt)))), (q₄, (q₀, (q₁, (q₃, tt)))), tt, a, at), tt)
@@ -139,7 +142,7 @@ module _ {M : Type 1} (𝓤 : URA M) (H : Heap 𝓤) (A : Atoms 𝓤) (W : Given
 
   -- the call: what it is passed
   abbrev checking : ℕ → List Row → ℕ → GName → ℕ → GName → ℕ → GName → check-to 𝓤 H A mm run .Ghost
-  checking b zs = to-check 𝓤 H A mm run κ₄ κ₀ q₄ q₀ b₄ o₄ γ₄ fs bound b₀ o₀ γ₀ ps b₁ o₁ us b 0 zs b₃ o₃ ms
+  checking b zs = to-check 𝓤 H A mm run κ₄ κ₀ q₄ q₀ b₄ o₄ γ₄ fs claim b₀ o₀ γ₀ ps b₁ o₁ us b 0 zs b₃ o₃ ms
 
   -- the rows that are lent, and what comes back with the others is room for all
   abbrev some-rows : List Row
@@ -179,16 +182,16 @@ module _ {M : Type 1} (𝓤 : URA M) (H : Heap 𝓤) (A : Atoms 𝓤) (W : Given
       rewrite ! 0 (λ (k : ℕ). ‵ (froom (tyArray (lone (R.the-row .mir)) k) b 0)) (back-long zs e) refl $ done !)
 
   walk : (𝓣 : Tables 𝓤 H) → FmC 𝓤 H (W .laws) (𝓣 .C) → Triple 𝓤 (𝓣 .C #check) (check-to 𝓤 H A mm run) → Room u8 (length fs) → Room u8 (length ps) → Room u32 (length us) → Room u8 (length ms)
-      → ent 𝓤 (onEntry 𝓤 H A f.signature (κ₄, (κ₀, (κ₁, (κ₃, tt)))) (q₄, (q₀, (q₁, (q₃, tt)))) a at) (WpFn 𝓤 H (𝓣 .C) (𝓣 .Λ) code.function (s₄ ∷ vint w64 bound ∷ s₀ ∷ s₁ us ∷ vint w64 rows ∷ s₃ ms ∷ []) Post)
+      → ent 𝓤 (onEntry 𝓤 H A f.signature (κ₄, (κ₀, (κ₁, (κ₃, tt)))) (q₄, (q₀, (q₁, (q₃, tt)))) a at) (WpFn 𝓤 H (𝓣 .C) (𝓣 .Λ) code.function (s₄ ∷ G′.lowered claim ∷ s₀ ∷ s₁ us ∷ vint w64 rows ∷ s₃ ms ∷ []) Post)
   walk 𝓣 fm known room₄ room₀ room₁ room₃ =
-      qed W ((‵ (flft κ₄ q₄) ⊛ (‵ (flft κ₀ q₀) ⊛ (‵ (flft κ₁ q₁) ⊛ (‵ (flft κ₃ q₃) ⊛ ‵ ftrue)))) ∷ ‵ (owns (ShrSlice (named 0) κ₄ u8 ∷ u64 ∷ ShrSlice (named 1) κ₀ u8 ∷ MutSlice (named 2) κ₁ u32 ∷ usize ∷ MutSlice (named 3) κ₃ u8 ∷ []) a at) ∷ []) ∵
+      qed W ((‵ (flft κ₄ q₄) ⊛ (‵ (flft κ₀ q₀) ⊛ (‵ (flft κ₁ q₁) ⊛ (‵ (flft κ₃ q₃) ⊛ ‵ ftrue)))) ∷ ‵ (owns (ShrSlice (named 0) κ₄ u8 ∷ G.the-row ∷ ShrSlice (named 1) κ₀ u8 ∷ MutSlice (named 2) κ₁ u32 ∷ usize ∷ MutSlice (named 3) κ₃ u8 ∷ []) a at) ∷ []) ∵
       split ! $ move ! (1 ∷ []) $ split ! $ move ! (1 ∷ []) $ split ! $ move ! (1 ∷ []) $ split ! $ move ! (5 ∷ []) $
       fsplit ! $ move ! (1 ∷ []) $ fsplit ! $ drop ! $ fsplit ! $ move ! (1 ∷ []) $ fsplit ! $ move ! (1 ∷ []) $ fsplit ! $ drop ! $ fsplit ! $
       -- [the marks; no other parameter; the words; the proof; the file; the tokens, the last one first]
       keep ! (4 ∷ 9 ∷ 3 ∷ 8 ∷ 2 ∷ 7 ∷ 0 ∷ 5 ∷ []) $
-      enter ! (𝓣 .C) (𝓣 .Λ) code.function (s₄ ∷ vint w64 bound ∷ s₀ ∷ s₁ us ∷ vint w64 rows ∷ s₃ ms ∷ []) _ $
+      enter ! (𝓣 .C) (𝓣 .Λ) code.function (s₄ ∷ G′.lowered claim ∷ s₀ ∷ s₁ us ∷ vint w64 rows ∷ s₃ ms ∷ []) _ $
       allocs-all ! body.locals (λ ls. params1 ! $
-      pass1 ! (init ! 26 refl (tt, (tt, (record { fits = room₄ .0 }, tt)))) $ pass1 ! (init ! 24 refl (tt, record { fits = bound-fits })) $
+      pass1 ! (init ! 26 refl (tt, (tt, (record { fits = room₄ .0 }, tt)))) $ pass1 ! (init ! 24 refl (claim-typed W claim _ is-claim)) $
       pass1 ! (init ! 22 refl (tt, (tt, (record { fits = room₀ .0 }, tt)))) $
       pass1 ! (init ! 20 refl (tt, (tt, (record { fits = room₁ .0 }, tt)))) $ pass1 ! (init ! 18 refl (tt, record { fits = rows-fit })) $
       pass1 ! (init ! 16 refl (tt, (tt, (record { fits = room₃ .0 }, tt)))) $ pass0 ! $
@@ -212,8 +215,8 @@ module _ {M : Type 1} (𝓤 : URA M) (H : Heap 𝓤) (A : Atoms 𝓤) (W : Given
       use1 W (later (exists (λ (δ : GName). ‵ (MutSlice (named 3) (ν₂ ∷ []) R.the-row .own (at-list (l ls 8) 0 δ some-rows) (sliceVal (l ls 8, 0) (length some-rows) ∷ [])) ⊛ ‵ (flent (ν₂ ∷ []) (Held R.the-row (length some-rows) (l ls 8) 0 δ))))) (lends-slice 𝓤 H A W R.the-row (named 3) (ν₂ ∷ []) some-rows (l ls 8) 0 fit-rows) $
       await ! tt $ pick ! (λ δ₂. split ! $ rewrite ! 14 (λ (k : ℕ). ‵ (fat fullShare (ty 12) (l ls 12) 0 (sliceVal (l ls 8, 0) k))) (sym long) refl $
       move ! (40 ∷ 42 ∷ 8 ∷ 2 ∷ 5 ∷ 39 ∷ 41 ∷ 7 ∷ 0 ∷ 4 ∷ []) $
-      cut (Checking 𝓤 H A mm run κ₄ κ₀ q₄ q₀ b₄ o₄ γ₄ fs bound b₀ o₀ γ₀ ps b₁ o₁ us (l ls 8) 0 some-rows b₃ o₃ ms ν₁ δ₁ ν₂ δ₂ ν₃ δ₃) (raw (check-to 𝓤 H A mm run .pre (checking (l ls 8) some-rows ν₁ δ₁ ν₂ δ₂ ν₃ δ₃)) ∷ []) _
-      (goes-check 𝓤 H A mm run κ₄ κ₀ q₄ q₀ b₄ o₄ γ₄ fs bound b₀ o₀ γ₀ ps b₁ o₁ us (l ls 8) 0 some-rows b₃ o₃ ms ν₁ δ₁ ν₂ δ₂ ν₃ δ₃ W bound-fits) $
+      cut (Checking 𝓤 H A mm run κ₄ κ₀ q₄ q₀ b₄ o₄ γ₄ fs claim b₀ o₀ γ₀ ps b₁ o₁ us (l ls 8) 0 some-rows b₃ o₃ ms ν₁ δ₁ ν₂ δ₂ ν₃ δ₃) (raw (check-to 𝓤 H A mm run .pre (checking (l ls 8) some-rows ν₁ δ₁ ν₂ δ₂ ν₃ δ₃)) ∷ []) _
+      (goes-check 𝓤 H A mm run κ₄ κ₀ q₄ q₀ b₄ o₄ γ₄ fs claim b₀ o₀ γ₀ ps b₁ o₁ us (l ls 8) 0 some-rows b₃ o₃ ms ν₁ δ₁ ν₂ δ₂ ν₃ δ₃ W is-claim) $
       calls-to check.ended (check.clauses 𝓤 H A mm run) (checking (l ls 8) some-rows ν₁ δ₁ ν₂ δ₂ ν₃ δ₃) (λ r ws. Unit {0}) (λ r ws. factI 𝓤 (Unit {0}) _ tt) S′.lowered answer-same ! fm known
       (and-then ! (var ! 30 refl) (and-then ! (var ! 28 refl) (and-then ! (var ! 26 refl) (and-then ! (var ! 13 refl) (and-then ! (var ! 9 refl) (and-then ! (var ! 5 refl) (no-more !))))))) (λ r ws _ is-r.
       use1 W (‵ (flft κ₄ q₄) ⊛ (‵ (flft κ₀ q₀) ⊛ (‵ (flft (ν₁ ∷ []) fullShare) ⊛ (‵ (flft (ν₂ ∷ []) fullShare) ⊛ (‵ (flft (ν₃ ∷ []) fullShare) ⊛ ‵ ftrue))))) (id⊢ 𝓤 _) $
@@ -238,7 +241,7 @@ meets 𝓤 H A W mem run 𝓣 known =
     walk-meets 𝓤 H A f.ended stayed W (
       goes-dropped 𝓤 H A W 4 (shrSliceOf (0 ∷ []) tt (plain (λ _. u8))) yes (λ κs x f. refl),
       (
-        goes-dropped 𝓤 H A W 4 (plain (λ _. u64)) yes (λ κs x f. refl),
+        goes-dropped 𝓤 H A W 4 (plain (λ _. G.the-row)) yes (λ κs x f. refl),
         (
           goes-dropped 𝓤 H A W 4 (shrSliceOf (1 ∷ []) tt (plain (λ _. u8))) yes (λ κs x f. refl),
           (goes-slice 𝓤 H A W 4 2 tt (plain (λ _. u32)), (goes-dropped 𝓤 H A W 4 (plain (λ _. usize)) yes (λ κs x f. refl), (goes-slice 𝓤 H A W 4 3 tt (plain (λ _. u8)), tt))),
@@ -247,11 +250,11 @@ meets 𝓤 H A W mem run 𝓣 known =
     ) (f.clauses 𝓤 H A mem run)
     (WpFn 𝓤 H (𝓣 .C) (𝓣 .Λ) code.function) (WpFn-mono 𝓤 H (W .laws) 𝓣 code.function)
     (walked 𝓤 H A f.ended stayed (f.clauses 𝓤 H A mem run) (WpFn 𝓤 H (𝓣 .C) (𝓣 .Λ) code.function)
-    (λ κs. (slice-vals, (uint-vals w64, (slice-vals, (slice-vals, (uint-vals w64, (slice-vals, tt)))))))
-    (λ κs. (shr-slice-tells (named 0) (κs .0) u8, (uint-tells w64, (shr-slice-tells (named 1) (κs .1 .0) u8, (mut-slice-tells (named 2) (κs .1 .1 .0) u32, (uint-tells w64, (mut-slice-tells (named 3) (κs .1 .1 .1 .0) u8, tt)))))))
+    (λ κs. (slice-vals, ((λ d. G′.lowered d ∷ []), (slice-vals, (slice-vals, (uint-vals w64, (slice-vals, tt)))))))
+    (λ κs. (shr-slice-tells (named 0) (κs .0) u8, (G′.lowers .val-is, (shr-slice-tells (named 1) (κs .1 .0) u8, (mut-slice-tells (named 2) (κs .1 .1 .0) u32, (uint-tells w64, (mut-slice-tells (named 3) (κs .1 .1 .1 .0) u8, tt)))))))
     (λ κs qs bounds a g are. needs 𝓤 (a .1 .1 .1 .1 .0 ≤ 1024) _ (λ few. walk 𝓤 H A W mem run (κs .0) (κs .1 .0) (κs .1 .1 .0) (κs .1 .1 .1 .0) (qs .0) (qs .1 .0) (qs .1 .1 .0) (qs .1 .1 .1 .0)
     (a .0 .ptr .0) (a .0 .ptr .1) (a .0 .name) (a .0 .now) (a .1 .0) (a .1 .1 .0 .ptr .0) (a .1 .1 .0 .ptr .1) (a .1 .1 .0 .name) (a .1 .1 .0 .now) (a .1 .1 .1 .0 .ptr .0) (a .1 .1 .1 .0 .ptr .1) (a .1 .1 .1 .0 .name) (a .1 .1 .1 .0 .now) (a .1 .1 .1 .1 .0) (a .1 .1 .1 .1 .1 .0 .ptr .0) (a .1 .1 .1 .1 .1 .0 .ptr .1) (a .1 .1 .1 .1 .1 .0 .name) (a .1 .1 .1 .1 .1 .0 .now)
-    (are .1 .0 .1) (are .1 .1 .1 .1 .0 .1) few 𝓣 (fmOf 𝓤 H (W .laws) 𝓣) known (are .0 .0 .1) (are .1 .1 .0 .0 .1) (are .1 .1 .1 .0 .0 .1) (are .1 .1 .1 .1 .1 .0 .0 .1))))
+    (are .1 .0) (are .1 .1 .1 .1 .0 .1) few 𝓣 (fmOf 𝓤 H (W .laws) 𝓣) known (are .0 .0 .1) (are .1 .1 .0 .0 .1) (are .1 .1 .1 .0 .0 .1) (are .1 .1 .1 .1 .1 .0 .0 .1))))
 
 pub check-rows-spec : {M : Type 1} → stated.statement M
 unfolding code.routine tablesOf

@@ -23,8 +23,8 @@ use types.Part.{whole, sub, look-in, agg}
 use sound.WpLaws.{FmC, fmOf, WpFn-mono}
 use denote.RattleType.{owns}
 use denote.Laws.{Is}
-use denote.Plain.{uint-makes, uint-vals, uint-tells}
-use denote.Builtin.{u8, u32, u64, usize}
+use denote.Plain.{uint-makes}
+use denote.Builtin.{u8, u32, usize}
 use denote.Ref.{RefT}
 use denote.Slice.{sliceVal, slice-vals, MutSlice, ShrSlice, Room, mut-slice-tells, shr-slice-tells}
 use denote.Signature.{plain, shrSliceOf}
@@ -37,7 +37,6 @@ use denote.Triple.Table.{entered, cited}
 use denote.Triple.Walked.{Stays, stay-slice, stay-dropped, walkOf, goes-slice, goes-dropped, ends-at, walked, walk-meets}
 use denote.Exit.{yes}
 use Rattle.scope.specs.Answers.{checkMeans}
-use Rattle.scope.specs.Operations.{checkOf}
 use Rattle.scope.specs.declared.CheckAnswer.{CheckAnswer}
 use Rattle.scope.proofs.CheckAnswer as S
 use Rattle.scope.proofs.CheckAnswer.Laws as S′
@@ -67,10 +66,13 @@ use Rattle.checker.proofs.answer.follow as follow
 use Rattle.checker.proofs.answer.follow.Symbol as follow-def
 use Rattle.checker.proofs.answer.follow.Symbol.{name as #follow}
 use Rattle.checker.proofs.answer.follow.Met as follow-thm
+use Rattle.checker.specs.declared.claim.Claim.{Claim}
 use Rattle.checker.specs.declared.prepare.Ready.{Ready}
-use Rattle.checker.specs.Prepared.{lent as stores, Prepared}
+use Rattle.checker.specs.Prepared.{lent as stores, asked, Prepared}
 use Rattle.checker.specs.Checked.{Follows, zeros-kept, checked}
-use Rattle.checker.proofs.Values.{IsAnswer, answer-same, answer-typed, IsReady, ready-same, ready-typed, told, says-all}
+use Rattle.checker.proofs.Values.{IsAnswer, answer-same, answer-typed, IsReady, ready-same, ready-typed, IsClaim, claim-typed, told, says-all}
+use Rattle.checker.proofs.claim.Claim as G
+use Rattle.checker.proofs.claim.Claim.Laws as G′
 use Rattle.checker.proofs.prepare.Ready as Y
 use Rattle.checker.proofs.prepare.Ready.Laws as Y′
 use Rattle.checker.proofs.answer.check.Key.{name as #check}
@@ -80,7 +82,7 @@ use Rattle.checker.proofs.answer.check.Code as code
 use Rattle.checker.proofs.answer.check.Code.Mir as body
 
 abbrev stayed : Stays (f.ended .signature .params) (f.ended .kept)
-stayed = (stay-dropped (shrSliceOf (0 ∷ []) tt (plain (λ _. u8))) yes, (stay-dropped (plain (λ _. u64)) yes, (stay-dropped (shrSliceOf (1 ∷ []) tt (plain (λ _. u8))) yes, (stay-slice (2 ∷ []) tt (plain (λ _. u32)), (stay-slice (3 ∷ []) tt (plain (λ _. R.the-row)), (stay-slice (4 ∷ []) tt (plain (λ _. u8)), tt))))))
+stayed = (stay-dropped (shrSliceOf (0 ∷ []) tt (plain (λ _. u8))) yes, (stay-dropped (plain (λ _. G.the-row)) yes, (stay-dropped (shrSliceOf (1 ∷ []) tt (plain (λ _. u8))) yes, (stay-slice (2 ∷ []) tt (plain (λ _. u32)), (stay-slice (3 ∷ []) tt (plain (λ _. R.the-row)), (stay-slice (4 ∷ []) tt (plain (λ _. u8)), tt))))))
 
 -- the types and the addresses of the locals
 abbrev ty : ℕ → Ty
@@ -113,7 +115,7 @@ module _ {M : Type 1} (𝓤 : URA M) (H : Heap 𝓤) (A : Atoms 𝓤) (mem : Mem
     pub clear-rows : Triple 𝓤 (C #clear-rows) clear-rows-to
     pub clear-bytes : Triple 𝓤 (C #clear-bytes) clear-bytes-to
 
-module _ {M : Type 1} (𝓤 : URA M) (H : Heap 𝓤) (A : Atoms 𝓤) (W : Given 𝓤 H A) (mem : Memory → SProp 𝓤) (run : Routine → Fun 𝓤) (κ₄ κ₀ κ₁ κ₂ κ₃ : Lft) (q₄ q₀ q₁ q₂ q₃ : Share) (b₄ o₄ : ℕ) (γ₄ : GName) (fs : List ℕ) (bound : ℕ) (b₀ o₀ : ℕ) (γ₀ : GName) (ps : List ℕ) (b₁ o₁ : ℕ) (γ₁ : GName) (us : List ℕ) (b₂ o₂ : ℕ) (γ₂ : GName) (ys : List Row) (b₃ o₃ : ℕ) (γ₃ : GName) (ms : List ℕ) (bound-fits : bound < 2 ^ 64) where
+module _ {M : Type 1} (𝓤 : URA M) (H : Heap 𝓤) (A : Atoms 𝓤) (W : Given 𝓤 H A) (mem : Memory → SProp 𝓤) (run : Routine → Fun 𝓤) (κ₄ κ₀ κ₁ κ₂ κ₃ : Lft) (q₄ q₀ q₁ q₂ q₃ : Share) (b₄ o₄ : ℕ) (γ₄ : GName) (fs : List ℕ) (claim : Claim) (b₀ o₀ : ℕ) (γ₀ : GName) (ps : List ℕ) (b₁ o₁ : ℕ) (γ₁ : GName) (us : List ℕ) (b₂ o₂ : ℕ) (γ₂ : GName) (ys : List Row) (b₃ o₃ : ℕ) (γ₃ : GName) (ms : List ℕ) (is-claim : IsClaim claim (G′.lowered claim)) where
   abbrev s₄ : Val
   s₄ = sliceVal (b₄, o₄) (length fs)
 
@@ -130,13 +132,13 @@ module _ {M : Type 1} (𝓤 : URA M) (H : Heap 𝓤) (A : Atoms 𝓤) (W : Given
   s₃ xs = sliceVal (b₃, o₃) (length xs)
 
   abbrev Arg : Type 0
-  Arg = RefT (List ℕ) × (ℕ × (RefT (List ℕ) × (RefT (List ℕ) × (RefT (List Row) × (RefT (List ℕ) × Unit {0})))))
+  Arg = RefT (List ℕ) × (Claim × (RefT (List ℕ) × (RefT (List ℕ) × (RefT (List Row) × (RefT (List ℕ) × Unit {0})))))
 
   abbrev a : Arg
-  a = (at-list b₄ o₄ γ₄ fs, (bound, (at-list b₀ o₀ γ₀ ps, (at-list b₁ o₁ γ₁ us, (at-list b₂ o₂ γ₂ ys, (at-list b₃ o₃ γ₃ ms, tt))))))
+  a = (at-list b₄ o₄ γ₄ fs, (claim, (at-list b₀ o₀ γ₀ ps, (at-list b₁ o₁ γ₁ us, (at-list b₂ o₂ γ₂ ys, (at-list b₃ o₃ γ₃ ms, tt))))))
 
   abbrev at : List Val × (List Val × (List Val × (List Val × (List Val × (List Val × Unit {0})))))
-  at = (s₄ ∷ [], (vint w64 bound ∷ [], (s₀ ∷ [], (s₁ us ∷ [], (s₂ ys ∷ [], (s₃ ms ∷ [], tt))))))
+  at = (s₄ ∷ [], (G′.lowered claim ∷ [], (s₀ ∷ [], (s₁ us ∷ [], (s₂ ys ∷ [], (s₃ ms ∷ [], tt))))))
 
   abbrev Post : Val → SProp 𝓤
   Post = walkOf 𝓤 H A f.ended stayed (f.clauses 𝓤 H A mem run) .post (((κ₄, (κ₀, (κ₁, (κ₂, (κ₃, tt))))), (q₄, (q₀, (q₁, (q₂, (q₃, tt))))), tt, a, at), tt)
@@ -151,7 +153,7 @@ module _ {M : Type 1} (𝓤 : URA M) (H : Heap 𝓤) (A : Atoms 𝓤) (W : Given
   abbrev Had : List ℕ → List Row → List ℕ → List (Item 𝓤)
   Had xs zs vs = ‵ (flft κ₄ q₄) ∷ ‵ (flft κ₀ q₀) ∷ ‵ (Whole u32 κ₁ q₁ γ₁ b₁ o₁ (named 2) xs) ∷ ‵ (flft κ₁ q₁) ∷ ‵ (Whole R.the-row κ₂ q₂ γ₂ b₂ o₂ (named 3) zs) ∷ ‵ (flft κ₂ q₂) ∷ ‵ (Whole u8 κ₃ q₃ γ₃ b₃ o₃ (named 4) vs) ∷ ‵ (flft κ₃ q₃) ∷ []
 
-  exits : (r : CheckAnswer) → IsAnswer r (S′.lowered r) → (xs : List ℕ) (zs : List Row) (vs : List ℕ) → length xs ≡ length us → length zs ≡ length ys → length vs ≡ length ms → checkMeans r ≡ checkOf fs bound ps (stores (length us) (length ys) (length ms))
+  exits : (r : CheckAnswer) → IsAnswer r (S′.lowered r) → (xs : List ℕ) (zs : List Row) (vs : List ℕ) → length xs ≡ length us → length zs ≡ length ys → length vs ≡ length ms → checkMeans r ≡ asked fs claim (stores (length us) (length ys) (length ms)) ps
       → xs ≡ replicate (length us) 0 → zs ≡ replicate (length ys) noRow → vs ≡ replicate (length ms) 0 → ent 𝓤 (⋆ 𝓤 H A (Had xs zs vs)) (Post (S′.lowered r))
   exits r is xs zs vs e₁ e₂ e₃ z z₁ z₂ z₃ =
       qed W (Had xs zs vs) ∵
@@ -168,7 +170,7 @@ module _ {M : Type 1} (𝓤 : URA M) (H : Heap 𝓤) (A : Atoms 𝓤) (W : Given
 
   -- the calls: what each is passed, and what it asks
   abbrev to-prepare : ℕ → GName → ℕ → GName → prepare-to 𝓤 H A mem run .Ghost
-  to-prepare ν₁ δ₁ ν₃ δ₃ = (((κ₄, (ν₁ ∷ [], (ν₃ ∷ [], tt))), (q₄, (fullShare, (fullShare, tt))), tt, (at-list b₄ o₄ γ₄ fs, (bound, (at-list b₁ o₁ δ₁ us, (length ys, (at-list b₃ o₃ δ₃ ms, tt))))), (s₄ ∷ [], (vint w64 bound ∷ [], (s₁ us ∷ [], (vint w64 (length ys) ∷ [], (s₃ ms ∷ [], tt)))))), tt)
+  to-prepare ν₁ δ₁ ν₃ δ₃ = (((κ₄, (ν₁ ∷ [], (ν₃ ∷ [], tt))), (q₄, (fullShare, (fullShare, tt))), tt, (at-list b₄ o₄ γ₄ fs, (claim, (at-list b₁ o₁ δ₁ us, (length ys, (at-list b₃ o₃ δ₃ ms, tt))))), (s₄ ∷ [], (G′.lowered claim ∷ [], (s₁ us ∷ [], (vint w64 (length ys) ∷ [], (s₃ ms ∷ [], tt)))))), tt)
 
   abbrev Preparing : ℕ → GName → ℕ → GName → List (Item 𝓤)
   Preparing ν₁ δ₁ ν₃ δ₃ = ‵ (flft κ₄ q₄) ∷ ‵ (flft (ν₁ ∷ []) fullShare) ∷ ‵ (flft (ν₃ ∷ []) fullShare) ∷ ‵ File ∷ ‵ (MutSlice (named 2) (ν₁ ∷ []) u32 .own (at-list b₁ o₁ δ₁ us) (s₁ us ∷ [])) ∷ ‵ (MutSlice (named 4) (ν₃ ∷ []) u8 .own (at-list b₃ o₃ δ₃ ms) (s₃ ms ∷ [])) ∷ []
@@ -177,7 +179,7 @@ module _ {M : Type 1} (𝓤 : URA M) (H : Heap 𝓤) (A : Atoms 𝓤) (W : Given
   goes-prepare ν₁ δ₁ ν₃ δ₃ fits =
       qed W (Preparing ν₁ δ₁ ν₃ δ₃) ∵ nothing ! $ move ! (3 ∷ 0 ∷ []) $ join ! $ move ! (2 ∷ 0 ∷ []) $ join ! $ move ! (1 ∷ 0 ∷ []) $ join ! $
       nothing ! $ move ! (4 ∷ 0 ∷ []) $ fjoin ! $ owned ! usize (Is usize) (uint-makes 𝓤 H A W w64) (length ys) _ (refl, fits) $ fjoin ! $
-      move ! (3 ∷ 0 ∷ []) $ fjoin ! $ owned ! u64 (Is u64) (uint-makes 𝓤 H A W w64) bound _ (refl, bound-fits) $ fjoin ! $ move ! (2 ∷ 0 ∷ []) $
+      move ! (3 ∷ 0 ∷ []) $ fjoin ! $ owned ! G.the-row (Is G.the-row) ((EL.makes G.the-type G′.the-plain) 𝓤 H A) claim _ is-claim $ fjoin ! $ move ! (2 ∷ 0 ∷ []) $
       fjoin ! $ move ! (1 ∷ 0 ∷ []) $ join ! $ frame ! $ done !
 
   abbrev to-follow : Ready → List ℕ → List ℕ → ℕ → GName → ℕ → GName → ℕ → GName → follow-to 𝓤 H A mem run .Ghost
@@ -219,16 +221,16 @@ module _ {M : Type 1} (𝓤 : URA M) (H : Heap 𝓤) (A : Atoms 𝓤) (W : Given
       move ! (2 ∷ 0 ∷ []) $ join ! $ nothing ! $ move ! (2 ∷ 0 ∷ []) $ fjoin ! $ move ! (1 ∷ 0 ∷ []) $ join ! $ frame ! $ done !
 
   walk : (𝓣 : Tables 𝓤 H) → FmC 𝓤 H (W .laws) (𝓣 .C) → Known 𝓤 H A mem run (𝓣 .C) → Room u8 (length fs) → Room u8 (length ps) → Room u32 (length us) → Room R.the-row (length ys) → Room u8 (length ms)
-      → ent 𝓤 (onEntry 𝓤 H A f.signature (κ₄, (κ₀, (κ₁, (κ₂, (κ₃, tt))))) (q₄, (q₀, (q₁, (q₂, (q₃, tt))))) a at) (WpFn 𝓤 H (𝓣 .C) (𝓣 .Λ) code.function (s₄ ∷ vint w64 bound ∷ s₀ ∷ s₁ us ∷ s₂ ys ∷ s₃ ms ∷ []) Post)
+      → ent 𝓤 (onEntry 𝓤 H A f.signature (κ₄, (κ₀, (κ₁, (κ₂, (κ₃, tt))))) (q₄, (q₀, (q₁, (q₂, (q₃, tt))))) a at) (WpFn 𝓤 H (𝓣 .C) (𝓣 .Λ) code.function (s₄ ∷ G′.lowered claim ∷ s₀ ∷ s₁ us ∷ s₂ ys ∷ s₃ ms ∷ []) Post)
   walk 𝓣 fm known room₄ room₀ room₁ room₂ room₃ =
-      qed W ((‵ (flft κ₄ q₄) ⊛ (‵ (flft κ₀ q₀) ⊛ (‵ (flft κ₁ q₁) ⊛ (‵ (flft κ₂ q₂) ⊛ (‵ (flft κ₃ q₃) ⊛ ‵ ftrue))))) ∷ ‵ (owns (ShrSlice (named 0) κ₄ u8 ∷ u64 ∷ ShrSlice (named 1) κ₀ u8 ∷ MutSlice (named 2) κ₁ u32 ∷ MutSlice (named 3) κ₂ R.the-row ∷ MutSlice (named 4) κ₃ u8 ∷ []) a at) ∷ []) ∵
+      qed W ((‵ (flft κ₄ q₄) ⊛ (‵ (flft κ₀ q₀) ⊛ (‵ (flft κ₁ q₁) ⊛ (‵ (flft κ₂ q₂) ⊛ (‵ (flft κ₃ q₃) ⊛ ‵ ftrue))))) ∷ ‵ (owns (ShrSlice (named 0) κ₄ u8 ∷ G.the-row ∷ ShrSlice (named 1) κ₀ u8 ∷ MutSlice (named 2) κ₁ u32 ∷ MutSlice (named 3) κ₂ R.the-row ∷ MutSlice (named 4) κ₃ u8 ∷ []) a at) ∷ []) ∵
       split ! $ move ! (1 ∷ []) $ split ! $ move ! (1 ∷ []) $ split ! $ move ! (1 ∷ []) $ split ! $ move ! (1 ∷ []) $ split ! $ move ! (6 ∷ []) $
       fsplit ! $ move ! (1 ∷ []) $ fsplit ! $ drop ! $ fsplit ! $ move ! (1 ∷ []) $ fsplit ! $ move ! (1 ∷ []) $ fsplit ! $ move ! (1 ∷ []) $
       fsplit ! $
       -- [the marks; no other parameter; the rows; the words; the proof; the file; the tokens, the last one first]
       keep ! (5 ∷ 11 ∷ 4 ∷ 10 ∷ 3 ∷ 9 ∷ 2 ∷ 8 ∷ 0 ∷ 6 ∷ []) $
-      enter ! (𝓣 .C) (𝓣 .Λ) code.function (s₄ ∷ vint w64 bound ∷ s₀ ∷ s₁ us ∷ s₂ ys ∷ s₃ ms ∷ []) _ $ allocs-all ! body.locals (λ ls. params1 ! $
-      pass1 ! (init ! 50 refl (tt, (tt, (record { fits = room₄ .0 }, tt)))) $ pass1 ! (init ! 48 refl (tt, record { fits = bound-fits })) $
+      enter ! (𝓣 .C) (𝓣 .Λ) code.function (s₄ ∷ G′.lowered claim ∷ s₀ ∷ s₁ us ∷ s₂ ys ∷ s₃ ms ∷ []) _ $ allocs-all ! body.locals (λ ls. params1 ! $
+      pass1 ! (init ! 50 refl (tt, (tt, (record { fits = room₄ .0 }, tt)))) $ pass1 ! (init ! 48 refl (claim-typed W claim _ is-claim)) $
       pass1 ! (init ! 46 refl (tt, (tt, (record { fits = room₀ .0 }, tt)))) $
       pass1 ! (init ! 44 refl (tt, (tt, (record { fits = room₁ .0 }, tt)))) $
       pass1 ! (init ! 42 refl (tt, (tt, (record { fits = room₂ .0 }, tt)))) $
@@ -243,7 +245,7 @@ module _ {M : Type 1} (𝓤 : URA M) (H : Heap 𝓤) (A : Atoms 𝓤) (W : Given
       move ! (63 ∷ 64 ∷ []) $ lent u8 κ₃ q₃ γ₃ b₃ o₃ ! tt (named 4) ms (λ ν₃ δ₃.
       move ! (61 ∷ 4 ∷ 1 ∷ 60 ∷ 3 ∷ 0 ∷ []) $
       cut (Preparing ν₁ δ₁ ν₃ δ₃) (raw (prepare-to 𝓤 H A mem run .pre (to-prepare ν₁ δ₁ ν₃ δ₃)) ∷ []) _ (goes-prepare ν₁ δ₁ ν₃ δ₃ (room₂ .0)) $
-      calls-to prepare.ended (prepare.clauses 𝓤 H A mem run) (to-prepare ν₁ δ₁ ν₃ δ₃) (λ r ws. Prepared fs bound (stores (length us) (length ys) (length ms)) (ws .1 .1 .0) r × (ws .1 .1 .1 .1 .0 ≡ replicate (length ms) 0)) (λ r ws. both-said 𝓤 _ _) Y′.lowered ready-same ! fm (known .prepare)
+      calls-to prepare.ended (prepare.clauses 𝓤 H A mem run) (to-prepare ν₁ δ₁ ν₃ δ₃) (λ r ws. Prepared fs claim (stores (length us) (length ys) (length ms)) (ws .1 .1 .0) r × (ws .1 .1 .1 .1 .0 ≡ replicate (length ms) 0)) (λ r ws. both-said 𝓤 _ _) Y′.lowered ready-same ! fm (known .prepare)
       (and-then ! (var ! 53 refl) (and-then ! (var ! 51 refl) (and-then ! (var ! 35 refl) (and-then ! (var ! 33 refl) (and-then ! (var ! 29 refl) (no-more !)))))) (λ d ws prepared is-d.
       use1 W (‵ (flft κ₄ q₄) ⊛ (‵ (flft (ν₁ ∷ []) fullShare) ⊛ (‵ (flft (ν₃ ∷ []) fullShare) ⊛ ‵ ftrue))) (id⊢ 𝓤 _) $ split ! $ move ! (1 ∷ []) $
       split ! $ move ! (1 ∷ []) $ split ! $ move ! (1 ∷ []) $ drop ! $ move ! (3 ∷ []) $
@@ -309,7 +311,7 @@ module _ {M : Type 1} (𝓤 : URA M) (H : Heap 𝓤) (A : Atoms 𝓤) (W : Given
       land ! (from ! (stop !)) (init ! 14 refl (tt, tt)) $ rotate ! 2 $
       fills ! 52 (of-opd ! (var ! 36 refl)) refl (answer-typed W r _ is-r) $ returns ! (look ! 52 refl) $
       frees-all ! body.locals ls (some _ ∷ some _ ∷ some _ ∷ some _ ∷ some _ ∷ some _ ∷ some _ ∷ some _ ∷ some _ ∷ some _ ∷ some _ ∷ some _ ∷ some _ ∷ some _ ∷ some _ ∷ some _ ∷ some _ ∷ some _ ∷ some _ ∷ some _ ∷ some _ ∷ some _ ∷ some _ ∷ some _ ∷ some _ ∷ some _ ∷ some _ ∷ []) $
-      by ! (exits r is-r (vs₁ .0) (vs₂ .0) (vs₃ .0) (c₁ ∙ k₁′ ∙ k₁) (c₂ ∙ k₂′) (c₃ ∙ k₃′ ∙ k₃) (checked fs bound ps (ws .1 .1 .0) (length ys) (ws .1 .1 .1 .1 .0) (length us) (length ms) r (prepared .1) k₁ d (prepared .0) followed)
+      by ! (exits r is-r (vs₁ .0) (vs₂ .0) (vs₃ .0) (c₁ ∙ k₁′ ∙ k₁) (c₂ ∙ k₂′) (c₃ ∙ k₃′ ∙ k₃) (checked fs claim ps (ws .1 .1 .0) (length ys) (ws .1 .1 .1 .1 .0) (length us) (length ms) r (prepared .1) k₁ d (prepared .0) followed)
       (zeros-kept 0 z₁ (k₁′ ∙ k₁)) (zeros-kept noRow z₂ k₂′) (zeros-kept 0 z₃ (k₃′ ∙ k₃)))))))))))))))))))))))))
 
 meets : {M : Type 1} (𝓤 : URA M) (H : Heap 𝓤) (A : Atoms 𝓤) → Given 𝓤 H A → (mem : Memory → SProp 𝓤) (run : Routine → Fun 𝓤) (𝓣 : Tables 𝓤 H) → Known 𝓤 H A mem run (𝓣 .C)
@@ -318,7 +320,7 @@ meets 𝓤 H A W mem run 𝓣 known =
     walk-meets 𝓤 H A f.ended stayed W (
       goes-dropped 𝓤 H A W 5 (shrSliceOf (0 ∷ []) tt (plain (λ _. u8))) yes (λ κs x f. refl),
       (
-        goes-dropped 𝓤 H A W 5 (plain (λ _. u64)) yes (λ κs x f. refl),
+        goes-dropped 𝓤 H A W 5 (plain (λ _. G.the-row)) yes (λ κs x f. refl),
         (
           goes-dropped 𝓤 H A W 5 (shrSliceOf (1 ∷ []) tt (plain (λ _. u8))) yes (λ κs x f. refl),
           (goes-slice 𝓤 H A W 5 2 tt (plain (λ _. u32)), (goes-slice 𝓤 H A W 5 3 tt (plain (λ _. R.the-row)), (goes-slice 𝓤 H A W 5 4 tt (plain (λ _. u8)), tt))),
@@ -327,11 +329,11 @@ meets 𝓤 H A W mem run 𝓣 known =
     ) (f.clauses 𝓤 H A mem run)
     (WpFn 𝓤 H (𝓣 .C) (𝓣 .Λ) code.function) (WpFn-mono 𝓤 H (W .laws) 𝓣 code.function)
     (walked 𝓤 H A f.ended stayed (f.clauses 𝓤 H A mem run) (WpFn 𝓤 H (𝓣 .C) (𝓣 .Λ) code.function)
-    (λ κs. (slice-vals, (uint-vals w64, (slice-vals, (slice-vals, (slice-vals, (slice-vals, tt)))))))
-    (λ κs. (shr-slice-tells (named 0) (κs .0) u8, (uint-tells w64, (shr-slice-tells (named 1) (κs .1 .0) u8, (mut-slice-tells (named 2) (κs .1 .1 .0) u32, (mut-slice-tells (named 3) (κs .1 .1 .1 .0) R.the-row, (mut-slice-tells (named 4) (κs .1 .1 .1 .1 .0) u8, tt)))))))
+    (λ κs. (slice-vals, ((λ d. G′.lowered d ∷ []), (slice-vals, (slice-vals, (slice-vals, (slice-vals, tt)))))))
+    (λ κs. (shr-slice-tells (named 0) (κs .0) u8, (G′.lowers .val-is, (shr-slice-tells (named 1) (κs .1 .0) u8, (mut-slice-tells (named 2) (κs .1 .1 .0) u32, (mut-slice-tells (named 3) (κs .1 .1 .1 .0) R.the-row, (mut-slice-tells (named 4) (κs .1 .1 .1 .1 .0) u8, tt)))))))
     (λ κs qs bounds a g are. via 𝓤 _ (fst∗ 𝓤 _ (emp 𝓤)) (walk 𝓤 H A W mem run (κs .0) (κs .1 .0) (κs .1 .1 .0) (κs .1 .1 .1 .0) (κs .1 .1 .1 .1 .0) (qs .0) (qs .1 .0) (qs .1 .1 .0) (qs .1 .1 .1 .0) (qs .1 .1 .1 .1 .0)
     (a .0 .ptr .0) (a .0 .ptr .1) (a .0 .name) (a .0 .now) (a .1 .0) (a .1 .1 .0 .ptr .0) (a .1 .1 .0 .ptr .1) (a .1 .1 .0 .name) (a .1 .1 .0 .now) (a .1 .1 .1 .0 .ptr .0) (a .1 .1 .1 .0 .ptr .1) (a .1 .1 .1 .0 .name) (a .1 .1 .1 .0 .now) (a .1 .1 .1 .1 .0 .ptr .0) (a .1 .1 .1 .1 .0 .ptr .1) (a .1 .1 .1 .1 .0 .name) (a .1 .1 .1 .1 .0 .now) (a .1 .1 .1 .1 .1 .0 .ptr .0) (a .1 .1 .1 .1 .1 .0 .ptr .1) (a .1 .1 .1 .1 .1 .0 .name) (a .1 .1 .1 .1 .1 .0 .now)
-    (are .1 .0 .1) 𝓣 (fmOf 𝓤 H (W .laws) 𝓣) known (are .0 .0 .1) (are .1 .1 .0 .0 .1) (are .1 .1 .1 .0 .0 .1) (are .1 .1 .1 .1 .0 .0 .1) (are .1 .1 .1 .1 .1 .0 .0 .1))))
+    (are .1 .0) 𝓣 (fmOf 𝓤 H (W .laws) 𝓣) known (are .0 .0 .1) (are .1 .1 .0 .0 .1) (are .1 .1 .1 .0 .0 .1) (are .1 .1 .1 .1 .0 .0 .1) (are .1 .1 .1 .1 .1 .0 .0 .1))))
 
 pub check-spec : {M : Type 1} → stated.statement M
 unfolding code.routine tablesOf

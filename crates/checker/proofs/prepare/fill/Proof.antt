@@ -1,102 +1,42 @@
--- `prepare::fill` meets its contract: the file is measured, then the stores are judged, then the formula is written.
+-- `prepare::fill` meets its contract: a case for each claim.
 use borrow.Author.Needs.{needs}
-use mathlib.Core.Path.{refl, sym, _∙_}
-use native.Mathlib.Omega.{arith}
-use Rattle.checker.specs.Written.{bounding}
-use Rattle.checker.specs.Prepared.{refused-before, refused-short, formula-in}
+use Rattle.checker.specs.Prepared.{prepared-claim}
 use Rattle.checker.proofs.prepare.fill.Statement.{statement}
 use Rattle.checker.proofs.prepare.fill.Tie as tie
 
-durations-requires : tie.Need-durations-requires
-durations-requires c κs = search needs
+enum-known-claim : tie.Need-enum-known-claim
+enum-known-claim c = search needs
 
-resource-rows-requires : tie.Need-resource-rows-requires
-resource-rows-requires c κs = search needs
+fill-bounded-requires : tie.Need-fill-bounded-requires
+fill-bounded-requires c κs = search needs
 
-group-rows-requires : tie.Need-group-rows-requires
-group-rows-requires c κs = search needs
+enum-told : tie.Need-enum-told
+enum-told c = search needs
 
-list-requires : tie.Need-list-requires
-list-requires c κs = search needs
-
-slice-aggregate-measure-bound : tie.Need-slice-aggregate-measure-bound
-slice-aggregate-measure-bound c = search needs
-
-slice-aggregate-measure-bound-2 : tie.Need-slice-aggregate-measure-bound-2
-slice-aggregate-measure-bound-2 c = search needs
-
-slice-aggregate-measure-bound-3 : tie.Need-slice-aggregate-measure-bound-3
-slice-aggregate-measure-bound-3 c = search needs
-
-slice-aggregate-measure-bound-4 : tie.Need-slice-aggregate-measure-bound-4
-slice-aggregate-measure-bound-4 c = search needs
-
-measure-bound-requires : tie.Need-measure-bound-requires
-measure-bound-requires c κs = search needs
-
-enum-known-m : tie.Need-enum-known-m
-enum-known-m c = search needs
-
-fits-requires : tie.Need-fits-requires
-fits-requires c κs = search needs
-
-slice-aggregate-write-bounded : tie.Need-slice-aggregate-write-bounded
-slice-aggregate-write-bounded c = search needs
-
-slice-aggregate-write-bounded-2 : tie.Need-slice-aggregate-write-bounded-2
-slice-aggregate-write-bounded-2 c = search needs
-
-slice-aggregate-write-bounded-3 : tie.Need-slice-aggregate-write-bounded-3
-slice-aggregate-write-bounded-3 c = search needs
-
-slice-aggregate-write-bounded-4 : tie.Need-slice-aggregate-write-bounded-4
-slice-aggregate-write-bounded-4 c = search needs
-
-write-bounded-requires : tie.Need-write-bounded-requires
-write-bounded-requires c κs =
-    bounding (rw (c .before .before .before .before .before .before .before .before .m .given .1) at (c .before .before .before .before .before .before .before .before .before .before .before .before .before .before .measure-bound .ensures)) (search needs)
+fill-hard-requires : tie.Need-fill-hard-requires
+fill-hard-requires c κs = search needs
 
 same-length : tie.Need-same-length
 same-length c = search needs
 
 returns : tie.Need-returns
-returns c =
-    let m = rw (c .before .before .before .before .before .before .before .before .before .before .before .before .m .given .1) at (c .before .before .before .before .before .before .before .before .before .before .before .before .before .before .before .before .before .before .measure-bound .ensures) in
-    record { ready = formula-in _ _ _ m (sym (c .before .before .before .before .before .before .before .before .before .before .fits2 .ensures) ∙ c .before .before .before .before .before .before .before .before .before .if1 .taken) (c .before .before .before .write-bounded .ensures) refl (omega (arith, c .before .before .before .before .before .before .before .before .before .before .before .before .before .before .before .before .before .before .before .before .before .before .before .before .before .before .before .before .before)) }
+returns c = prepared-claim (c .before .before .before .before .before .claim .given .1) (c .before .before .fill-bounded .ensures)
 
-enum-known-m-2 : tie.Need-enum-known-m-2
-enum-known-m-2 c = search needs
+same-length-2 : tie.Need-same-length-2
+same-length-2 c = search needs
 
 returns-2 : tie.Need-returns-2
-returns-2 c =
-    let m = rw (c .before .before .before .m .given .1) at (c .before .before .before .before .before .before .before .before .before .measure-bound .ensures) in
-    record { ready = refused-short _ _ _ m (sym (c .before .fits2 .ensures) ∙ c .if1 .left) }
-
-returns-3 : tie.Need-returns-3
-returns-3 c = record { ready = refused-before _ _ _ (rw (c .before .m2 .given .1) at (c .before .before .before .before .before .before .before .measure-bound .ensures)) }
+returns-2 c = prepared-claim (c .before .before .before .before .enum-told .given .1) (c .before .before .fill-hard .ensures)
 
 pub fill-spec : {M : Type 1} → statement M
 fill-spec =
     tie.close
     (tie.spec
-    durations-requires
-    resource-rows-requires
-    group-rows-requires
-    list-requires
-    slice-aggregate-measure-bound
-    slice-aggregate-measure-bound-2
-    slice-aggregate-measure-bound-3
-    slice-aggregate-measure-bound-4
-    measure-bound-requires
-    enum-known-m
-    fits-requires
-    slice-aggregate-write-bounded
-    slice-aggregate-write-bounded-2
-    slice-aggregate-write-bounded-3
-    slice-aggregate-write-bounded-4
-    write-bounded-requires
+    enum-known-claim
+    fill-bounded-requires
+    enum-told
+    fill-hard-requires
     same-length
     returns
-    enum-known-m-2
-    returns-2
-    returns-3)
+    same-length-2
+    returns-2)

@@ -36,14 +36,13 @@ use denote.Triple.Statement.{Contract, Triple}
 use denote.Triple.Table.{entered, cited}
 use denote.Triple.Walked.{says, Stays, stay-dropped, walkOf, goes-dropped, ends-at, walked, walk-meets}
 use denote.Exit.{yes}
-use Rattle.scope.specs.Operations.{decodeOf}
 use Rattle.scope.specs.declared.DecodeAnswer.{DecodeAnswer}
 use Rattle.scope.proofs.DecodeAnswer as S
 use Rattle.scope.proofs.DecodeAnswer.Laws as S′
 use Rattle.store.proofs.Walk.{rotate, dropped, allocs-all, frees-all, var, fills}
 use Rattle.store.proofs.Slices.{slice, Bytes, IsSlice, slice-same}
 use Rattle.store.proofs.Calls.{calls-to, calls-giving}
-use Rattle.model.specs.Answers.{EvaluatedAs, partOf, partLength, answerOf, returned, decoded-as}
+use Rattle.model.specs.Answers.{EvaluatedAs, partOf, partLength, answerOf, Gives, decoded-as}
 use Rattle.model.specs.declared.operations.Decoding.{Decoding}
 use Rattle.model.specs.declared.operations.Evaluation.{Evaluation}
 use Rattle.model.proofs.Values.{IsEvaluation, evaluation-same, answer-val, IsAnswer, answer-same}
@@ -139,7 +138,7 @@ module _ {M : Type 1} (𝓤 : URA M) (H : Heap 𝓤) (A : Atoms 𝓤) (W : Given
     made-typed : T (hasTy (D′.mir (named 1)) made-val) × WT made-val
     made-typed = LL.lawful (D.the-type lft) (D′.the-laws lft) 𝓤 H A W .typed made _ (LL.owes (D.the-type lft) (D′.the-laws lft) made (is-p, (is-a, tt))) .0
 
-    exits : (now-p : (p .now, a) ≡ returned (decodeOf (x₀ .now) (x₁ .now))) → ent 𝓤 (⋆ 𝓤 H A (‵ (flft κ₁ q₁) ∷ ‵ (Bytes κ₁ p) ∷ ‵ (flft κ₀ q₀) ∷ [])) (Post made-val)
+    exits : (now-p : Gives (x₀ .now) (x₁ .now) (p .now) a) → ent 𝓤 (⋆ 𝓤 H A (‵ (flft κ₁ q₁) ∷ ‵ (Bytes κ₁ p) ∷ ‵ (flft κ₀ q₀) ∷ [])) (Post made-val)
     exits now-p =
         qed W (‵ (flft κ₁ q₁) ∷ ‵ (Bytes κ₁ p) ∷ ‵ (flft κ₀ q₀) ∷ []) ∵
         suffices ! _ (ends-at 𝓤 H A f.ended stayed (f.clauses 𝓤 H A mem run) W (((κ₀, (κ₁, tt)), (q₀, (q₁, tt)), tt, (x₀, (x₁, tt)), at), tt) made-val made (tt, (tt, tt)) (tt, (tt, tt))) $

@@ -1,0 +1,69 @@
+-- What is claimed of an evaluated model, what a check makes of it, and that this is what the operation is to answer.
+use mathlib.Core.Path.{_≡_, refl, sym, ap, _∙_}
+use mathlib.Core.Bool.{Bool, true, false, cond}
+use mathlib.Core.List.{List}
+use Prim.Native.Nat.{ℕ, zero, suc, _-_, _≤_}
+use native.Mathlib.Omega.{arith}
+use lib.Dec.{leb}
+use borrow.Author.Tests.{lt-leb, leb-false}
+use Rattle.scope.specs.Parsed.{Answer, answered, then}
+use Rattle.scope.specs.Operations.{Lent, decodeOf, checkOf, nothingBelow, bestOf}
+use Rattle.scope.specs.Answers.{checkMeans, bestMeans}
+use Rattle.scope.specs.declared.Refusal.{Refusal}
+use Rattle.scope.specs.declared.Objective.{Objective}
+use Rattle.scope.specs.declared.CheckAnswer.{CheckAnswer}
+use Rattle.scope.specs.declared.BestAnswer.{BestAnswer}
+use Rattle.model.specs.declared.operations.Evaluation.{Evaluation}
+use Rattle.model.specs.Answers.{EvaluatedAs}
+use Rattle.checker.specs.declared.claim.Claim.{Claim}
+use Rattle.checker.specs.Prepared.{asked}
+
+-- above every bound that is allowed
+abbrev pub noBound : ℕ
+noBound = 18446744073709551615
+
+abbrev pub claimFor : Evaluation → Claim
+claimFor (Evaluation.Holds n w) = Claim.Bound (cond (leb (w .0) 0) noBound (w .0 - 1))
+claimFor (Evaluation.Refused f) = Claim.Bound noBound
+
+abbrev pub shownFor : Objective → CheckAnswer → BestAnswer
+shownFor w (CheckAnswer.NoTimetable n) = BestAnswer.Best w n
+shownFor w (CheckAnswer.Refused f) = BestAnswer.Refused f
+
+abbrev pub judged : Evaluation → CheckAnswer → BestAnswer
+judged (Evaluation.Holds n w) c = cond (leb (w .0) 0) (BestAnswer.Best w 0) (shownFor w c)
+judged (Evaluation.Refused f) c = BestAnswer.Refused f
+
+-- a cost that is not within 0
+pub above-zero : {v : ℕ} {t : Bool} → t ≡ leb v 0 → t ≡ false → 1 ≤ v
+above-zero {v} e f = leb-false v 0 (sym e ∙ f)
+
+-- the cost beside the number of steps
+abbrev beside : Objective → Answer ℕ → Answer (Objective × ℕ)
+beside w a = then a (λ steps. answered (w, steps))
+
+shown-means : (w : Objective) (c : CheckAnswer) → bestMeans (shownFor w c) ≡ beside w (checkMeans c)
+shown-means w (CheckAnswer.NoTimetable n) = refl
+shown-means w (CheckAnswer.Refused f) = refl
+
+-- a cost that is decoded, at 0 and above it
+module _ (file : List ℕ) (proof : List ℕ) (l : Lent) (c : CheckAnswer) where
+  cost-judged : (n : ℕ) (v : ℕ) → checkMeans c ≡ asked file (claimFor (Evaluation.Holds n (record { 0 = v }))) l proof
+      → bestMeans (judged (Evaluation.Holds n (record { 0 = v })) c) ≡ beside (record { 0 = v }) (nothingBelow file v proof l)
+  cost-judged n zero e = refl
+  cost-judged n (suc B) e =
+      let f : leb (suc B) 0 ≡ false = lt-leb (suc B) 0 (omega arith) in
+      let p : suc B - 1 ≡ B = omega arith in
+      rw f (shown-means (record { 0 = suc B }) c ∙ ap (beside (record { 0 = suc B })) (rw (f, p) at e))
+
+  -- the evaluation and the check together answer what they are to
+  pub best-judged : (m : List ℕ) (e : Evaluation) → EvaluatedAs file m e → checkMeans c ≡ asked file (claimFor e) l proof
+      → bestMeans (judged e c) ≡ bestOf file m proof l
+  unfolding bestOf
+  best-judged m (Evaluation.Holds n w) a k = cost-judged n (w .0) k ∙ rw (sym (a .answer))
+  best-judged m (Evaluation.Refused f) a k = rw (sym (a .answer))
+
+  -- step by step
+  pub best-answered : {m : List ℕ} {e : Evaluation} {d : Claim} {r : BestAnswer} → EvaluatedAs file m e → d ≡ claimFor e
+      → checkMeans c ≡ asked file d l proof → r ≡ judged e c → bestMeans r ≡ bestOf file m proof l
+  best-answered {m} {e} a q k j = rw j (best-judged m e a (rw q at k))

@@ -1,0 +1,109 @@
+-- `prepare::fill_hard` meets its contract: the file is measured, then the stores are judged, then the hard clauses are written.
+use borrow.Author.Needs.{needs}
+use mathlib.Core.Path.{refl, sym, _∙_}
+use native.Mathlib.Omega.{arith}
+use Rattle.checker.specs.Written.{hard-writable}
+use Rattle.checker.specs.Prepared.{hard-refused, hard-short, hard-in, prepared-same}
+use Rattle.checker.proofs.prepare.fill_hard.Statement.{statement}
+use Rattle.checker.proofs.prepare.fill_hard.Tie as tie
+
+durations-requires : tie.Need-durations-requires
+durations-requires c κs = search needs
+
+resource-rows-requires : tie.Need-resource-rows-requires
+resource-rows-requires c κs = search needs
+
+group-rows-requires : tie.Need-group-rows-requires
+group-rows-requires c κs = search needs
+
+list-requires : tie.Need-list-requires
+list-requires c κs = search needs
+
+slice-aggregate-measure : tie.Need-slice-aggregate-measure
+slice-aggregate-measure c = search needs
+
+slice-aggregate-measure-2 : tie.Need-slice-aggregate-measure-2
+slice-aggregate-measure-2 c = search needs
+
+slice-aggregate-measure-3 : tie.Need-slice-aggregate-measure-3
+slice-aggregate-measure-3 c = search needs
+
+slice-aggregate-measure-4 : tie.Need-slice-aggregate-measure-4
+slice-aggregate-measure-4 c = search needs
+
+measure-requires : tie.Need-measure-requires
+measure-requires c κs = search needs
+
+enum-known-m : tie.Need-enum-known-m
+enum-known-m c = search needs
+
+stored-size-requires : tie.Need-stored-size-requires
+stored-size-requires c κs = search needs
+
+fits-requires : tie.Need-fits-requires
+fits-requires c κs = search needs
+
+slice-aggregate-write-hard : tie.Need-slice-aggregate-write-hard
+slice-aggregate-write-hard c = search needs
+
+slice-aggregate-write-hard-2 : tie.Need-slice-aggregate-write-hard-2
+slice-aggregate-write-hard-2 c = search needs
+
+slice-aggregate-write-hard-3 : tie.Need-slice-aggregate-write-hard-3
+slice-aggregate-write-hard-3 c = search needs
+
+slice-aggregate-write-hard-4 : tie.Need-slice-aggregate-write-hard-4
+slice-aggregate-write-hard-4 c = search needs
+
+write-hard-requires : tie.Need-write-hard-requires
+write-hard-requires c κs = hard-writable (rw (c .before .before .before .before .before .before .before .before .before .m .given .1) at (c .before .before .before .before .before .before .before .before .before .before .before .before .before .before .before .measure .ensures)) (search needs)
+
+same-length : tie.Need-same-length
+same-length c = search needs
+
+returns : tie.Need-returns
+returns c =
+    let m = rw (c .before .before .before .before .before .before .before .before .before .before .before .before .before .m .given .1) at (c .before .before .before .before .before .before .before .before .before .before .before .before .before .before .before .before .before .before .before .measure .ensures) in
+    record { ready = hard-in _ _ m (c .before .before .before .before .before .before .before .before .before .before .before .stored-size .ensures) (sym (c .before .before .before .before .before .before .before .before .before .before .fits2 .ensures) ∙ c .before .before .before .before .before .before .before .before .before .if1 .taken) (c .before .before .before .write-hard .ensures) refl (omega (arith, c .before .before .before .before .before .before .before .before .before .before .before .before .before .before .before .before .before .before .before .before .before .before .before .before .before .before .before .before .before .before)) }
+
+too-short-requires : tie.Need-too-short-requires
+too-short-requires c κs = search needs
+
+enum-known-m-2 : tie.Need-enum-known-m-2
+enum-known-m-2 c = search needs
+
+returns-2 : tie.Need-returns-2
+returns-2 c =
+    let m = rw (c .before .before .before .before .before .m .given .1) at (c .before .before .before .before .before .before .before .before .before .before .before .measure .ensures) in
+    prepared-same (c .too-short .ensures) (record { ready = hard-short _ _ m (c .before .before .before .stored-size .ensures) (sym (c .before .before .fits2 .ensures) ∙ c .before .if1 .left) })
+
+returns-3 : tie.Need-returns-3
+returns-3 c = record { ready = hard-refused _ _ (rw (c .before .m2 .given .1) at (c .before .before .before .before .before .before .before .measure .ensures)) }
+
+pub fill-hard-spec : {M : Type 1} → statement M
+fill-hard-spec =
+    tie.close
+    (tie.spec
+    durations-requires
+    resource-rows-requires
+    group-rows-requires
+    list-requires
+    slice-aggregate-measure
+    slice-aggregate-measure-2
+    slice-aggregate-measure-3
+    slice-aggregate-measure-4
+    measure-requires
+    enum-known-m
+    stored-size-requires
+    fits-requires
+    slice-aggregate-write-hard
+    slice-aggregate-write-hard-2
+    slice-aggregate-write-hard-3
+    slice-aggregate-write-hard-4
+    write-hard-requires
+    same-length
+    returns
+    too-short-requires
+    enum-known-m-2
+    returns-2
+    returns-3)
