@@ -1,7 +1,7 @@
 // The check of a bound proof, with lent stores.
 use crate::prepare::Ready;
 use crate::prepare::prepare;
-use bound::drive::drive;
+use run::drive::drive;
 use scope::CheckAnswer;
 use store::clauses::clear_words;
 use store::directory::Row;

@@ -1,0 +1,4 @@
+pub mod ReadingTurns
+pub mod StepReading
+pub mod Readers
+pub mod StepBytes
