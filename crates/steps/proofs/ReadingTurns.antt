@@ -17,7 +17,8 @@ use Rattle.steps.specs.declared.step.Numbers.{Numbers}
 use Rattle.steps.specs.declared.step.Numbers.the-variants.{End, Cut}
 use Rattle.steps.specs.declared.step.Literals.{Literals}
 use Rattle.steps.specs.declared.step.Literals.the-variants as found
-use Rattle.steps.specs.Reading.{numbersAt, Passes, ends, cut, literalOk, ReadsLiterals, reads, bad-literals}
+use Rattle.steps.specs.Reading.{numbersAt, Passes, ends, cut, ReadsLiterals, reads, bad-literals}
+use Rattle.steps.specs.Step.{literalOk}
 use Rattle.steps.specs.Listing.{list-cut, list-more, list-end, listed-more, consed}
 
 module _ (s : List ℕ) (at n next : ℕ) (e : number s at ≡ got n next) where

@@ -1,12 +1,12 @@
 -- What a step comes to, by the parts of it that were read.
 use mathlib.Core.Path.{_≡_, refl, sym, ap, _∙_}
-use mathlib.Core.Bool.{Bool, true, false}
+use mathlib.Core.Bool.{Bool, true, false, cond}
 use mathlib.Core.List.{List}
 use Prim.Native.Nat.{ℕ, _+_, _≤_, _<_}
 use native.Mathlib.Omega.{arith}
-use lib.Dec.{ltb}
+use lib.Dec.{ltb, leb, eqb}
 use lib.ListN.{length, getD}
-use borrow.Author.Tests.{lt-ltb, le-ltb, eq-eqb, ne-eqb, ltb-true, ltb-false}
+use borrow.Author.Tests.{lt-ltb, le-ltb, eq-eqb, ne-eqb, ltb-true, ltb-false, leb-true, leb-false, eqb-true, eqb-false}
 use Rattle.scope.specs.Parsed.{Parsed, got, refused}
 use Rattle.scope.specs.Number.{number}
 use Rattle.scope.specs.Steps as steps
@@ -14,11 +14,15 @@ use Rattle.scope.specs.Steps.{Tokens, stop, bad, upTo0, numbers, Step, add, Ste
 use Rattle.store.specs.Marks.{marksOf}
 use Rattle.laws.specs.Booleans.{impossible}
 use Rattle.theory.specs.Tokens.{tokens-got, tokens-bad, tokens-stop}
+use Rattle.steps.specs.declared.step.Numbers.{Numbers}
+use Rattle.steps.specs.declared.step.Literals.{Literals}
 use Rattle.steps.specs.declared.step.Numbers.the-variants.{End, Cut}
 use Rattle.steps.specs.declared.step.Literals.the-variants as found
 use Rattle.steps.specs.declared.step.Read.{Read}
 use Rattle.steps.specs.declared.step.Read.the-variants.{Adds, Deletes, Misformed}
 use Rattle.steps.specs.Reading.{tokensAt, numbersAt, Listed, Passes, ends, cut, LiteralsAt, ReadsLiterals, reads, bad-literals}
+use Rattle.steps.specs.Step.{passedAt, literalsAt, StepAt, stepIs, byHints, byLiterals, byId, addAt, byIds, stepAt}
+use Rattle.steps.proofs.Loops.{passes-at, literals-read}
 use Rattle.steps.proofs.StepBytes.{byte-inside, byte-number, Other, no-number, another, other-byte}
 use Rattle.steps.specs.Reading.{MisformedAt, Open, ReadsStep, adds, deletes, misformed}
 
@@ -208,3 +212,46 @@ module _ (s : List ℕ) (at highest last : ℕ) (ms : List ℕ) where
     pub byte-deletes : (end : ℕ) → Passes s (at + 1) (End end)
         → ReadsStep (readStep (tokensAt s at)) s at highest last ms ms (Deletes (at + 1))
     byte-deletes = step-deletes 100 (at + 1) ids-number (λ z. omega arith) refl
+
+-- a step that is read, by what stands at an offset
+module _ (s : List ℕ) (highest last : ℕ) (ms : List ℕ) where
+  abbrev Reads : StepRead → ℕ → StepAt → Type 0
+  Reads x at z = ReadsStep x s at highest last ms (z .marks) (z .read)
+
+  add-reads : (at : ℕ) → Reads (readAdd (tokensAt s at)) at (addAt s at highest last ms)
+  unfolding addAt
+  add-reads at = go (number s at) refl
+    where
+      by-hints : (id lits : ℕ) → number s at ≡ got id lits → highest < id → (ms′ : List ℕ) (size hints : ℕ)
+          → ReadsLiterals s lits last ms 0 ms′ (found.Read size hints) → (y : Numbers) → Passes s hints y
+          → Reads (readAdd (tokensAt s at)) at (byHints id lits size hints ms′ y)
+      by-hints id lits e h ms′ size hints r Cut p = add-cut s at highest last ms id lits e h ms′ size hints r p
+      by-hints id lits e h ms′ size hints r (End next) p = add-done s at highest last ms id lits e h ms′ size hints r next p
+
+      by-literals : (id lits : ℕ) → number s at ≡ got id lits → highest < id → (ms′ : List ℕ) (x : Literals)
+          → ReadsLiterals s lits last ms 0 ms′ x → Reads (readAdd (tokensAt s at)) at (byLiterals s id lits x ms′)
+      by-literals id lits e h ms′ found.Misformed r = add-misformed s at highest last ms id lits e h ms′ r
+      by-literals id lits e h ms′ (found.Read size hints) r = by-hints id lits e h ms′ size hints r (passedAt s hints) (passes-at s hints)
+
+      by-id : (id lits : ℕ) → number s at ≡ got id lits → (t : Bool) → leb id highest ≡ t
+          → Reads (readAdd (tokensAt s at)) at (cond t (stepIs Misformed ms) (byLiterals s id lits (literalsAt s lits last ms .found) (literalsAt s lits last ms .marks)))
+      by-id id lits e true t = add-low s at highest last ms id lits e (leb-true id highest t)
+      by-id id lits e false t = by-literals id lits e (leb-false id highest t) _ (literalsAt s lits last ms .found) (literals-read s last lits ms)
+
+      go : (x : Parsed ℕ) → number s at ≡ x → Reads (readAdd (tokensAt s at)) at (byId s highest last ms x)
+      go (refused k v) e = add-none s at highest last ms k v e
+      go (got id lits) e = by-id id lits e (leb id highest) refl
+
+  pub step-reads : (at : ℕ) → Reads (readStep (tokensAt s at)) at (stepAt s at highest last ms)
+  unfolding stepAt
+  step-reads at = go (eqb (getD s at 0) 97) refl (eqb (getD s at 0) 100) refl
+    where
+      by-ids : getD s at 0 ≡ 100 → (y : Numbers) → Passes s (at + 1) y → Reads (readStep (tokensAt s at)) at (byIds (at + 1) ms y)
+      by-ids e Cut p = byte-cut s at highest last ms e p
+      by-ids e (End next) p = byte-deletes s at highest last ms e next p
+
+      go : (t : Bool) → eqb (getD s at 0) 97 ≡ t → (u : Bool) → eqb (getD s at 0) 100 ≡ u
+          → Reads (readStep (tokensAt s at)) at (cond t (addAt s (at + 1) highest last ms) (cond u (byIds (at + 1) ms (passedAt s (at + 1))) (stepIs Misformed ms)))
+      go true t u e = byte-adds s at highest last ms (eqb-true (getD s at 0) 97 t) _ _ (add-reads (at + 1))
+      go false t true u = by-ids (eqb-true (getD s at 0) 100 u) (passedAt s (at + 1)) (passes-at s (at + 1))
+      go false t false u = byte-other s at highest last ms (eqb-false (getD s at 0) 97 t) (eqb-false (getD s at 0) 100 u)

@@ -1,12 +1,11 @@
 -- How a step's numbers stand in the bytes of a proof.
 use mathlib.Core.Path.{_≡_}
-use mathlib.Core.Bool.{Bool, true, false, _&&_}
+use mathlib.Core.Bool.{true, false}
 use mathlib.Core.List.{List}
-use Prim.Native.Nat.{ℕ, _+_, _/_, _≤_, _<_}
-use lib.Dec.{leb, eqb}
+use Prim.Native.Nat.{ℕ, _+_, _≤_, _<_}
 use lib.ListN.{length, drop}
 use Rattle.scope.specs.Steps as steps
-use Rattle.scope.specs.Steps.{Tokens, tokens, upTo0, numbers, Step, add, delete, read, Marks, allOpen, allFalse, literalsOk, wellFormed}
+use Rattle.scope.specs.Steps.{Tokens, tokens, upTo0, numbers, Step, add, delete, read, allOpen, allFalse, literalsOk, wellFormed}
 use Rattle.store.specs.Marks.{marksOf}
 use Rattle.steps.specs.declared.step.Numbers.{Numbers}
 use Rattle.steps.specs.declared.step.Numbers.the-variants.{End, Cut}
@@ -33,10 +32,6 @@ pub record Listed (s : List ℕ) (at : ℕ) (ns : List ℕ) (next : ℕ) : Type 
 pub data Passes (s : List ℕ) (at : ℕ) : Numbers → Type 0 where
   ends : (ns : List ℕ) (next : ℕ) → Listed s at ns next → Passes s at (End next)
   cut : numbersAt s at ≡ steps.cut → Passes s at Cut
-
--- a literal of a new clause, of a variable that those before it leave open
-abbrev pub literalOk : ℕ → Marks → ℕ → Bool
-literalOk last m l = leb 2 l && leb (l / 2) last && eqb (m (l / 2)) 0
 
 -- the literals of a clause that are read, after k others, where each variable has a mark
 pub record LiteralsAt (s : List ℕ) (at last : ℕ) (ms : List ℕ) (k : ℕ) (ms′ : List ℕ) (size next : ℕ) : Type 0 where

@@ -19,6 +19,13 @@ pub fn over<'a>(bytes: &'a [u8], at: usize) -> Reader<'a>
     Reader { bytes, at }
 }
 
+// The reader at another position.
+pub fn moved<'a>(r: Reader<'a>, at: usize) -> Reader<'a>
+    ensures { λ m. ⌜ (m .bytes ≡ r .entry .bytes) × (m .at ≡ at) ⌝ }
+{
+    Reader { bytes: r.bytes, at }
+}
+
 // The byte at a position; 0 where there is none.
 fn byte_at(bytes: &[u8], at: usize) -> u8
     ensures { λ r. ⌜ r ≡ getD (now (bytes .entry)) at 0 ⌝ }

@@ -1,8 +1,8 @@
-use mathlib.Core.Path.{_≡_}
+use mathlib.Core.Path.{_≡_, sym, _∙_}
 use Rattle.scope.specs.Parsed.{got}
 use Rattle.scope.specs.Number.{number}
 use Rattle.steps.specs.Listing.{value-at, no-value-at}
-use Rattle.steps.proofs.StepReading.{add-none, add-low, add-misformed, add-cut, add-done}
+use Rattle.steps.proofs.StepParts.{both, add-none, add-low, add-misformed, add-cut, add-done}
 use borrow.Author.Needs.{needs}
 use Rattle.steps.proofs.step.read_add.Statement.{statement}
 use Rattle.steps.proofs.step.read_add.Tie as tie
@@ -25,8 +25,8 @@ enum-told c = search needs
 returns : tie.Need-returns
 returns c =
     let a = c .before .before .before .before .before .args in
-    add-none (a .proof .now) (a .at) (a .highest) (a .last) (a .marks .now) _ _
-    (no-value-at (a .proof .now) (a .at) (c .before .before .number-in .result) (c .before .before .number-in .ensures) (c .enum-told .given .1))
+    both (add-none (a .proof .now) (a .at) (a .highest) (a .last) (a .marks .now) _ _
+    (no-value-at (a .proof .now) (a .at) (c .before .before .number-in .result) (c .before .before .number-in .ensures) (c .enum-told .given .1)))
 
 wide-requires : tie.Need-wide-requires
 wide-requires c κs = search needs
@@ -34,7 +34,7 @@ wide-requires c κs = search needs
 returns-2 : tie.Need-returns-2
 returns-2 c =
     let a = c .before .before .before .before .before .before .before .before .args in
-    add-low (a .proof .now) (a .at) (a .highest) (a .last) (a .marks .now) _ _ (read (c .before)) (c .if1 .taken)
+    both (add-low (a .proof .now) (a .at) (a .highest) (a .last) (a .marks .now) _ _ (read (c .before)) (c .if1 .taken))
 
 read-literals-requires : tie.Need-read-literals-requires
 read-literals-requires c κs = search needs
@@ -51,8 +51,9 @@ same-length c = search needs
 returns-3 : tie.Need-returns-3
 returns-3 c =
     let a = c .before .before .before .before .before .before .before .before .before .before .before .before .before .before .args in
-    add-misformed (a .proof .now) (a .at) (a .highest) (a .last) (a .marks .now) _ _ (read (c .before .before .before .before .before .before .before)) (c .before .before .before .before .before .before .if1 .left) (c .before .before .before .before .read-literals .last .1 .1 .1 .0)
-    (rw (c .enum-told2 .given .1) at (c .before .before .before .before .read-literals .ensures))
+    let z = c .before .before .before .before .read-literals in
+    both (add-misformed (a .proof .now) (a .at) (a .highest) (a .last) (a .marks .now) _ _ (read (c .before .before .before .before .before .before .before)) (c .before .before .before .before .before .before .if1 .left) _ (z .ensures .1)
+    (sym (z .ensures .0) ∙ c .enum-told2 .given .1))
 
 pass-numbers-requires : tie.Need-pass-numbers-requires
 pass-numbers-requires c κs = search needs
@@ -69,8 +70,9 @@ same-length-2 c = search needs
 returns-4 : tie.Need-returns-4
 returns-4 c =
     let a = c .before .before .before .before .before .before .before .before .before .before .before .before .before .before .before .before .before .before .args in
-    add-cut (a .proof .now) (a .at) (a .highest) (a .last) (a .marks .now) _ _ (read (c .before .before .before .before .before .before .before .before .before .before .before)) (c .before .before .before .before .before .before .before .before .before .before .if1 .left) (c .before .before .before .before .before .before .before .before .read-literals .last .1 .1 .1 .0)
-    _ _ (rw (c .before .before .before .before .ls .given .1) at (c .before .before .before .before .before .before .before .before .read-literals .ensures)) (rw (c .enum-told4 .given .1) at (c .before .before .pass-numbers .ensures))
+    let z = c .before .before .before .before .before .before .before .before .read-literals in
+    both (add-cut (a .proof .now) (a .at) (a .highest) (a .last) (a .marks .now) _ _ (read (c .before .before .before .before .before .before .before .before .before .before .before)) (c .before .before .before .before .before .before .before .before .before .before .if1 .left) _ (z .ensures .1)
+    _ _ (sym (z .ensures .0) ∙ c .before .before .before .before .ls .given .1) (sym (c .before .before .pass-numbers .ensures) ∙ c .enum-told4 .given .1))
 
 same-length-3 : tie.Need-same-length-3
 same-length-3 c = search needs
@@ -78,8 +80,9 @@ same-length-3 c = search needs
 returns-5 : tie.Need-returns-5
 returns-5 c =
     let a = c .before .before .before .before .before .before .before .before .before .before .before .before .before .before .before .before .before .before .args in
-    add-done (a .proof .now) (a .at) (a .highest) (a .last) (a .marks .now) _ _ (read (c .before .before .before .before .before .before .before .before .before .before .before)) (c .before .before .before .before .before .before .before .before .before .before .if1 .left) (c .before .before .before .before .before .before .before .before .read-literals .last .1 .1 .1 .0)
-    _ _ (rw (c .before .before .before .before .ls .given .1) at (c .before .before .before .before .before .before .before .before .read-literals .ensures)) _ (rw (c .enum-told3 .given .1) at (c .before .before .pass-numbers .ensures))
+    let z = c .before .before .before .before .before .before .before .before .read-literals in
+    both (add-done (a .proof .now) (a .at) (a .highest) (a .last) (a .marks .now) _ _ (read (c .before .before .before .before .before .before .before .before .before .before .before)) (c .before .before .before .before .before .before .before .before .before .before .if1 .left) _ (z .ensures .1)
+    _ _ (sym (z .ensures .0) ∙ c .before .before .before .before .ls .given .1) _ (sym (c .before .before .pass-numbers .ensures) ∙ c .enum-told3 .given .1))
 
 pub read-add-spec : {M : Type 1} → statement M
 read-add-spec =

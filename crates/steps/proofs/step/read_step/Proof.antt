@@ -1,7 +1,7 @@
-use mathlib.Core.Path.{sym, _∙_}
+use mathlib.Core.Path.{sym, ap, _∙_}
 use native.Mathlib.Omega.{arith}
 use Rattle.steps.proofs.StepBytes.{byte-inside}
-use Rattle.steps.proofs.StepReading.{byte-adds, byte-other, byte-cut, byte-deletes}
+use Rattle.steps.proofs.StepParts.{both, step-adds, step-other, step-cut, step-deletes}
 use borrow.Author.Needs.{needs}
 use Rattle.steps.proofs.step.read_step.Statement.{statement}
 use Rattle.steps.proofs.step.read_step.Tie as tie
@@ -23,15 +23,14 @@ same-length c = search needs
 returns : tie.Need-returns
 returns c =
     let a = c .before .before .before .before .before .before .before .before .args in
-    byte-adds (a .proof .now) (a .at) (a .highest) (a .last) (a .marks .now)
-    (sym (c .before .before .before .before .before .step-byte-in .ensures) ∙ c .before .before .before .before .if1 .taken) _ _
-    (c .before .before .read-add .ensures)
+    let e = step-adds (a .proof .now) (a .at) (a .highest) (a .last) (a .marks .now) (sym (c .before .before .before .before .before .step-byte-in .ensures) ∙ c .before .before .before .before .if1 .taken) in
+    (c .before .before .read-add .ensures .0 ∙ ap (λ z. z .read) (sym e), c .before .before .read-add .ensures .1 ∙ ap (λ z. z .marks) (sym e))
 
 returns-2 : tie.Need-returns-2
 returns-2 c =
     let a = c .before .before .before .before .before .args in
     let e = c .before .before .step-byte-in .ensures in
-    byte-other (a .proof .now) (a .at) (a .highest) (a .last) (a .marks .now) (λ z. c .before .if1 .left (e ∙ z)) (λ z. c .if2 .taken (e ∙ z))
+    both (step-other (a .proof .now) (a .at) (a .highest) (a .last) (a .marks .now) (λ z. c .before .if1 .left (e ∙ z)) (λ z. c .if2 .taken (e ∙ z)))
 
 add-next : tie.Need-add-next
 add-next c =
@@ -50,16 +49,16 @@ enum-told-2 c = search needs
 returns-3 : tie.Need-returns-3
 returns-3 c =
     let a = c .before .before .before .before .before .before .before .before .args in
-    byte-cut (a .proof .now) (a .at) (a .highest) (a .last) (a .marks .now)
-    (sym (c .before .before .before .before .before .step-byte-in .ensures) ∙ c .before .before .before .if2 .left)
-    (rw (c .enum-told2 .given .1) at (c .before .before .pass-numbers .ensures))
+    let e = c .before .before .before .before .before .step-byte-in .ensures in
+    both (step-cut (a .proof .now) (a .at) (a .highest) (a .last) (a .marks .now) (λ z. c .before .before .before .before .if1 .left (e ∙ z)) (sym e ∙ c .before .before .before .if2 .left)
+    (sym (c .before .before .pass-numbers .ensures) ∙ c .enum-told2 .given .1))
 
 returns-4 : tie.Need-returns-4
 returns-4 c =
     let a = c .before .before .before .before .before .before .before .before .args in
-    byte-deletes (a .proof .now) (a .at) (a .highest) (a .last) (a .marks .now)
-    (sym (c .before .before .before .before .before .step-byte-in .ensures) ∙ c .before .before .before .if2 .left)
-    _ (rw (c .enum-told .given .1) at (c .before .before .pass-numbers .ensures))
+    let e = c .before .before .before .before .before .step-byte-in .ensures in
+    both (step-deletes (a .proof .now) (a .at) (a .highest) (a .last) (a .marks .now) (λ z. c .before .before .before .before .if1 .left (e ∙ z)) (sym e ∙ c .before .before .before .if2 .left)
+    _ (sym (c .before .before .pass-numbers .ensures) ∙ c .enum-told .given .1))
 
 pub read-step-spec : {M : Type 1} → statement M
 read-step-spec =
