@@ -11,13 +11,13 @@ use Rattle.store.specs.declared.directory.Row.{Row}
 use Rattle.store.specs.Marks.{marksOf}
 use Rattle.store.specs.Live.{liveRows}
 use Rattle.store.specs.Holding.{Holding}
-use Rattle.bound.specs.declared.machine.Phase.{Phase}
-use Rattle.bound.specs.declared.machine.Phase.the-variants.{Next, Walk, Followed, Keep, Wipe, Delete, Proved, Refused}
-use Rattle.bound.specs.declared.machine.Machine.{Machine}
-use Rattle.bound.specs.declared.check.Tally.{Tally}
-use Rattle.bound.specs.declared.steps.Clause.{Clause}
-use Rattle.bound.specs.Reading.{tokensAt, numbersAt}
-use Rattle.bound.specs.Run.{World}
+use Rattle.run.specs.declared.machine.Phase.{Phase}
+use Rattle.run.specs.declared.machine.Phase.the-variants.{Next, Walk, Followed, Keep, Wipe, Delete, Proved, Refused}
+use Rattle.run.specs.declared.machine.Machine.{Machine}
+use Rattle.run.specs.declared.check.Tally.{Tally}
+use Rattle.steps.specs.declared.step.Clause.{Clause}
+use Rattle.steps.specs.Reading.{tokensAt, numbersAt}
+use Rattle.run.specs.Run.{World}
 use Rattle.bound.specs.Hints.{inHints, AllLive}
 
 -- the plain run's state after so many steps

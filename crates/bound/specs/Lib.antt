@@ -1,9 +1,3 @@
-pub mod Reading
-pub mod Listing
-pub mod Machine
-pub mod Check
-pub mod Run
-pub mod Termination
 pub mod Hints
 pub mod Invariant
 pub mod LookMeans

@@ -19,19 +19,20 @@ use Rattle.store.specs.Rows.{Found, hit, miss, Finds, Dies}
 use Rattle.store.specs.Live.{held, rowClause, liveRows, live-found}
 use Rattle.store.specs.Holding.{Holding, Good, found-good}
 use Rattle.store.specs.Marked.{mark, Plain, BuiltFor, Built}
-use Rattle.store.specs.Built.{Each, built-holding, built-live}
+use Rattle.store.specs.Built.{Each, built-for, built-holding, built-live}
+use Rattle.store.specs.Directory.{rowsOf}
 use Rattle.laws.specs.Booleans.{impossible}
-use Rattle.bound.specs.declared.machine.Phase.{Phase}
-use Rattle.bound.specs.declared.machine.Phase.the-variants.{Next, Walk, Followed, Keep, Wipe, Delete, Proved, Refused}
-use Rattle.bound.specs.declared.machine.Machine.{Machine}
-use Rattle.bound.specs.declared.check.Check.{Check}
-use Rattle.bound.specs.Listing.{list-cut}
-use Rattle.bound.specs.Machine as machine
-use Rattle.bound.specs.Machine.{turnOf, turn-phase, Advances, gone, broken, walks, wipes, idle}
-use Rattle.bound.specs.Check.{largest}
-use Rattle.bound.specs.Run as run
-use Rattle.bound.specs.Run.{World, Turn, looks, keeps, judges, reads, Ran, answerOf, Driven}
-use Rattle.bound.specs.Termination.{Past, turn-falls}
+use Rattle.run.specs.declared.machine.Phase.{Phase}
+use Rattle.run.specs.declared.machine.Phase.the-variants.{Next, Walk, Followed, Keep, Wipe, Delete, Proved, Refused}
+use Rattle.run.specs.declared.machine.Machine.{Machine}
+use Rattle.run.specs.declared.check.Check.{Check}
+use Rattle.steps.specs.Listing.{list-cut}
+use Rattle.run.specs.Machine as machine
+use Rattle.run.specs.Machine.{turnOf, turn-phase, Advances, gone, broken, walks, wipes, idle}
+use Rattle.run.specs.Check.{largest}
+use Rattle.run.specs.Run as run
+use Rattle.run.specs.Run.{World, Turn, looks, keeps, judges, reads, Ran, answerOf, Driven}
+use Rattle.run.specs.Termination.{Past, turn-falls}
 use Rattle.bound.specs.Invariant.{Base, liveIn, Walking, Wiping, Deleting, InvariantIn, InvariantAt, Invariant}
 use Rattle.bound.specs.LookMeans.{hint-gone, hint-judged, clause-wiped}
 use Rattle.bound.specs.StepMeans.{id-gone, id-deleted, clause-kept, clause-judged}
@@ -257,10 +258,10 @@ driven-means s last cap n used R ws ms r f d x =
     ) .1)
 
 -- the same for a formula that stood in the words with each clause's last word marked, of which the directory was built
-pub check-means : (s : List ℕ) (last cap n : ℕ) (R : ℕ → Row) (ws₀ ws ms : List ℕ) (r : CheckAnswer) (f : List (List ℕ)) (rest : List ℕ)
-    → Plain f → Each (Good last) f → ws₀ ≡ flatMap mark f ++ rest → length f ≤ cap → last ≤ length ms → marksOf ms ≡ allOpen
-    → Built ws₀ ws cap R (words f) n → Driven s last cap n (words f) R ws ms r
-    → checkMeans r ≡ plainRun (limits last (length ws) cap) f s
-check-means s last cap n R ws₀ ws ms r f rest plain good e fits marked unmarked b d =
-    driven-means s last cap n (words f) R ws ms r f d
-    (built-stands f rest last cap n R ws ms (b .built f rest plain e refl fits) good fits marked unmarked)
+pub check-means : (s : List ℕ) (last n : ℕ) (ys₀ ys : List Row) (ws₀ ws ms : List ℕ) (r : CheckAnswer) (f : List (List ℕ)) (rest : List ℕ)
+    → Plain f → Each (Good last) f → ws₀ ≡ flatMap mark f ++ rest → length f ≤ length ys₀ → last ≤ length ms → marksOf ms ≡ allOpen
+    → Built ws₀ ws ys₀ ys (words f) n → Driven s last (length ys₀) n (words f) (rowsOf ys) ws ms r
+    → checkMeans r ≡ plainRun (limits last (length ws) (length ys₀)) f s
+check-means s last n ys₀ ys ws₀ ws ms r f rest plain good e fits marked unmarked b d =
+    driven-means s last (length ys₀) n (words f) (rowsOf ys) ws ms r f d
+    (built-stands f rest last (length ys₀) n (rowsOf ys) ws ms (built-for f rest b plain e fits) good fits marked unmarked)

@@ -18,15 +18,15 @@ use Rattle.store.specs.declared.directory.Row.{Row}
 use Rattle.store.specs.Marks.{marksOf}
 use Rattle.laws.specs.Booleans.{impossible, and-true}
 use Rattle.theory.specs.Tokens.{tokens-stop}
-use Rattle.bound.specs.declared.steps.Clause.{Clause}
-use Rattle.bound.specs.declared.steps.Read.{Read}
-use Rattle.bound.specs.declared.steps.Read.the-variants.{Adds, Deletes}
-use Rattle.bound.specs.declared.machine.Phase.the-variants.{Next, Walk, Delete, Refused}
-use Rattle.bound.specs.declared.check.Check.{Check}
-use Rattle.bound.specs.Reading.{tokensAt, AddsAt, DeletesAt, MisformedAt, Open, ReadsStep, adds, deletes, misformed}
-use Rattle.bound.specs.Listing.{Ahead, last-id, more-ids, ids-ahead, list-cut}
-use Rattle.bound.specs.Machine.{onward, onward-end, onward-more}
-use Rattle.bound.specs.Check.{largest, firstId, entered, counted, stepped, TakesStep, over, takes}
+use Rattle.steps.specs.declared.step.Clause.{Clause}
+use Rattle.steps.specs.declared.step.Read.{Read}
+use Rattle.steps.specs.declared.step.Read.the-variants.{Adds, Deletes}
+use Rattle.run.specs.declared.machine.Phase.the-variants.{Next, Walk, Delete, Refused}
+use Rattle.run.specs.declared.check.Check.{Check}
+use Rattle.steps.specs.Reading.{tokensAt, AddsAt, DeletesAt, MisformedAt, Open, ReadsStep, adds, deletes, misformed}
+use Rattle.steps.specs.Listing.{Ahead, last-id, more-ids, ids-ahead, list-cut}
+use Rattle.run.specs.Machine.{onward, onward-end, onward-more}
+use Rattle.run.specs.Check.{largest, firstId, entered, counted, stepped, TakesStep, over, takes}
 use Rattle.bound.specs.Invariant.{Base, InStep, ending, Adding, before, liveIn, stateOf, Reading, InvariantAt}
 
 -- where bytes are left, the run takes the step that is read

@@ -9,8 +9,9 @@ use Rattle.scope.specs.declared.Refusal.{Refusal}
 use Rattle.scope.specs.declared.CheckAnswer.{CheckAnswer}
 use Rattle.store.specs.declared.directory.Row.{Row}
 use Rattle.store.specs.Marks.{marks-cleared}
+use Rattle.store.specs.Directory.{rowsOf}
 use Rattle.store.specs.Marked.{Built}
-use Rattle.bound.specs.Run.{Driven}
+use Rattle.run.specs.Run.{Driven}
 use Rattle.bound.specs.Meaning.{check-means}
 use Rattle.checker.specs.declared.claim.Claim.{Claim}
 use Rattle.checker.specs.declared.prepare.Ready.{Ready}
@@ -18,12 +19,14 @@ use Rattle.checker.specs.Prepared.{lent, asked, FormulaIn, preparedAs, P
 
 -- the directory was built of the words, and the proof s driven to its end
 pub record Followed (s ws : List ℕ) (cap : ℕ) (ms : List ℕ) (used last : ℕ) (r : CheckAnswer) : Type 0 where
-  pub rows : ℕ → Row
+  pub lent : List Row
+  pub rows : List Row
   pub words : List ℕ
   pub count : ℕ
+  pub room : length lent ≡ cap
   pub long : length words ≡ length ws
-  pub built : Built ws words cap rows used count
-  pub driven : Driven s last cap count used rows words ms r
+  pub built : Built ws words lent rows used count
+  pub driven : Driven s last cap count used (rowsOf rows) words ms r
 
 abbrev pub followedAs : List ℕ → List ℕ → ℕ → List ℕ → Ready → CheckAnswer → Type 0
 followedAs s ws cap ms (Ready.Formula used last) r = Followed s ws cap ms used last r
@@ -32,12 +35,12 @@ followedAs s ws cap ms (Ready.Refused f) r = r ≡ CheckAnswer.Refused f
 pub record Follows (s ws : List ℕ) (cap : ℕ) (ms : List ℕ) (x : Ready) (r : CheckAnswer) : Type 0 where
   pub followed : followedAs s ws cap ms x r
 
-pub follows-formula : {s ws ws′ : List ℕ} {cap cap′ : ℕ} {R : ℕ → Row} {ms : List ℕ} {x : Ready} {used last n : ℕ} {r : CheckAnswer}
-    → x ≡ Ready.Formula used last → length ws′ ≡ length ws → cap′ ≡ cap → Built ws ws′ cap R used n
-    → Driven s last cap′ n used R ws′ ms r → Follows s ws cap ms x r
-follows-formula {ws′ = ws′} {R = R} {n = n} e long same b d =
+pub follows-formula : {s ws ws′ : List ℕ} {ys ys′ : List Row} {cap : ℕ} {ms : List ℕ} {x : Ready} {used last n : ℕ} {r : CheckAnswer}
+    → x ≡ Ready.Formula used last → length ws′ ≡ length ws → cap ≡ length ys → Built ws ws′ ys ys′ used n
+    → Driven s last cap n used (rowsOf ys′) ws′ ms r → Follows s ws (length ys) ms x r
+follows-formula {ws′ = ws′} {ys} {ys′} {n = n} e long same b d =
     rw e (record {
-      followed = record { rows = R; words = ws′; count = n; long = long; built = b; driven = rw same at d };
+      followed = record { lent = ys; rows = ys′; words = ws′; count = n; room = refl; long = long; built = b; driven = rw same at d };
     })
 
 pub follows-refused : {s ws : List ℕ} {cap : ℕ} {ms : List ℕ} {x : Ready} {f : Refusal} → x ≡ Ready.Refused f
@@ -55,10 +58,10 @@ module _ (file : List ℕ) (c : Claim) (s ws : List ℕ) (cap : ℕ) (ms : List 
   formula-checked used last p q =
       let long : length (q .words) ≡ w = q .long ∙ same in
       let bytes : length ms ≡ b = ap length cleared ∙ length-replicate b 0 in
-      let e = check-means s last cap (q .count) (q .rows) ws (q .words) ms r (p .clauses) (p .rest) (p .plain) (p .good)
-      (p .marked) (p .rows-fit) (omega (arith, p .bytes-fit)) (rw cleared (marks-cleared b)) (rw (p .size) at (q .built))
-      (rw (p .size) at (q .driven)) in
-      rw long at e ∙ sym (p .answer s)
+      let e = check-means s last (q .count) (q .lent) (q .rows) ws (q .words) ms r (p .clauses) (p .rest) (p .plain) (p .good)
+      (p .marked) (omega (arith, p .rows-fit, q .room)) (omega (arith, p .bytes-fit)) (rw cleared (marks-cleared b)) (rw (p .size) at (q .built))
+      (rw (q .room) (rw (p .size) at (q .driven))) in
+      rw (long, q .room) at e ∙ sym (p .answer s)
 
   pub checked : (x : Ready) → Prepared file c (lent w cap b) ws x → Follows s ws cap ms x r
       → checkMeans r ≡ asked file c (lent w cap b) s

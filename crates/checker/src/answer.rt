@@ -2,7 +2,7 @@
 use crate::claim::Claim;
 use crate::prepare::Ready;
 use crate::prepare::prepare;
-use bound::drive::drive;
+use run::drive::drive;
 use scope::CheckAnswer;
 use store::clauses::clear_words;
 use store::directory::Row;

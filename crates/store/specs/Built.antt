@@ -3,20 +3,21 @@ use mathlib.Core.Path.{_≡_, refl, sym, ap, _∙_, fun-ext}
 use mathlib.Core.Bool.{Bool, true, false}
 use mathlib.Core.List.{List, [], _∷_, _++_, flatMap, append-assoc}
 use mathlib.Core.Option.{none, some}
-use Prim.Native.Nat.{ℕ, zero, suc, _+_, _≤_, _<_}
+use Prim.Native.Nat.{ℕ, zero, suc, _+_, _-_, _≤_, _<_}
 use native.Mathlib.Omega.{arith}
 use lib.Dec.{ltb}
-use lib.ListN.{length, getD, getElem?, take, length-append, List·getD-append}
-use lib.Seq.{take-at, drop-append-add}
-use borrow.Author.Tests.{ltb-true, ltb-false}
+use lib.ListN.{length, getD, getElem?, set, take, drop, length-append, length-set, List·getD-append}
+use lib.Seq.{sets, take-at, drop-at, drop-append-add, getD-set-same, getD-set-other}
+use borrow.Author.Tests.{ltb-true, ltb-false, le-leb, lt-leb}
 use Rattle.scope.specs.Formula.{words}
 use Rattle.scope.specs.PlainRun.{byId}
 use Rattle.store.specs.declared.directory.Row.{Row}
 use Rattle.store.specs.Clauses.{part}
-use Rattle.store.specs.Rows.{Rising}
+use Rattle.store.specs.Rows.{noRow, Rising}
+use Rattle.store.specs.Directory.{rowsOf}
 use Rattle.store.specs.Live.{liveRows, row-found, row-missing}
 use Rattle.store.specs.Holding.{All, all-at, Good, Holding}
-use Rattle.store.specs.Marked.{flat, rowsFor, RowsAre, BuiltFor}
+use Rattle.store.specs.Marked.{mark, Small, Plain, length-marks, flat, parted, rowsFor, length-rows, length-flat, RowsAre, BuiltFor, Built}
 
 -- P of every literal of some clauses
 abbrev pub Each : (ℕ → Type 0) → List (List ℕ) → Type 0
@@ -74,10 +75,45 @@ unfolding flatMap
 all-flat P [] a = tt
 all-flat P (c ∷ cs) a = all-append P c (flat cs) (a .0) (all-flat P cs (a .1))
 
-length-flat : (f : List (List ℕ)) → length (flat f) ≡ words f
-unfolding flatMap words
-length-flat [] = refl
-length-flat (c ∷ cs) = length-append c (flat cs) ∙ rw (length-flat cs)
+-- the marked words of clauses part into the clauses
+parted-mark : (c rest : List ℕ) (l : ℕ) → Small (l ∷ c) → parted (mark (l ∷ c) ++ rest) ≡ (l ∷ c) ∷ parted rest
+unfolding parted mark
+parted-mark [] rest l s =
+    let e : l + 2147483648 - 2147483648 ≡ l = omega arith in rw (le-leb 2147483648 (l + 2147483648) (omega arith), e)
+parted-mark (k ∷ ks) rest l s = rw (lt-leb 2147483648 l (s .0), parted-mark ks rest k (s .1))
+
+parted-marks : (f : List (List ℕ)) → Plain f → parted (flatMap mark f) ≡ f
+unfolding parted flatMap
+parted-marks [] p = refl
+parted-marks ([] ∷ f) p = absurd p
+parted-marks ((l ∷ ls) ∷ f) p = parted-mark ls (flatMap mark f) l (p .0) ∙ ap (λ cs. (l ∷ ls) ∷ cs) (parted-marks f (p .1))
+
+-- rows that are stored one after the other
+row-before : (rs : List Row) (at k : ℕ) (ys : List Row) → k < at → getD (sets ys at rs) k noRow ≡ getD ys k noRow
+row-before [] at k ys h = refl
+row-before (r ∷ rs) at k ys h =
+    row-before rs (suc at) k (set ys at r) (omega arith) ∙ getD-set-other ys at k r noRow (λ e. omega arith)
+
+rows-stored : (rs : List Row) (k : ℕ) (ys : List Row) → k + length rs ≤ length ys → RowsAre (rowsOf (sets ys k rs)) k rs
+unfolding RowsAre
+rows-stored [] k ys h = tt
+rows-stored (r ∷ rs) k ys h = (
+  row-before rs (suc k) k (set ys k r) (omega arith) ∙ getD-set-same ys k r noRow (omega arith),
+  rows-stored rs (suc k) (set ys k r) (rw length-set (omega arith)),
+)
+
+-- a formula that stood in the words with each clause's last word marked, of which the directory was built
+pub built-for : {ws ws′ : List ℕ} {ys ys′ : List Row} {n : ℕ} (f : List (List ℕ)) (rest : List ℕ) → Built ws ws′ ys ys′ (words f) n → Plain f
+    → ws ≡ flatMap mark f ++ rest → length f ≤ length ys → BuiltFor f rest ws′ (rowsOf ys′) n
+built-for {ws} {ys = ys} f rest b p e h =
+    let t : parted (take (words f) ws) ≡ f =
+        rw (e, take-at (flatMap mark f) rest (words f) (length-marks f)) (parted-marks f p) in
+    let d : drop (words f) ws ≡ rest = rw e (drop-at (flatMap mark f) rest (words f) (length-marks f)) in
+    record {
+      unmarked = b .words ∙ rw (t, d);
+      rows = rw (b .rows, t) (rows-stored (rowsFor 1 0 f) 0 ys (rw (length-rows 1 0 f) (omega arith)));
+      count = b .count ∙ rw t;
+    }
 
 -- of a directory with room for the formula, whose literals are good
 module _ (f : List (List ℕ)) (rest ws : List ℕ) (R : ℕ → Row) (n : ℕ) (b : BuiltFor f rest ws R n) where

@@ -43,7 +43,7 @@ drop-take [] (suc first) len = let e : suc first + len ≡ suc (first + len) = o
     nil (suc n) = refl
 drop-take (w ∷ ws) (suc first) len = let e : suc first + len ≡ suc (first + len) = omega arith in rw e (drop-take ws first len)
 
-take-min : (n : ℕ) (ws : List ℕ) → take (min (length ws) n) ws ≡ take n ws
+pub take-min : (n : ℕ) (ws : List ℕ) → take (min (length ws) n) ws ≡ take n ws
 take-min n ws = go (leb n (length ws)) refl
   where
     go : (t : Bool) → leb n (length ws) ≡ t → take (min (length ws) n) ws ≡ take n ws
@@ -52,6 +52,15 @@ take-min n ws = go (leb n (length ws)) refl
         let h = leb-false n (length ws) t in
         let e : min (length ws) n ≡ length ws = omega arith in
         rw (e, take-length ws, take-all n ws (omega arith))
+
+pub drop-min : (n : ℕ) (ws : List ℕ) → drop (min (length ws) n) ws ≡ drop n ws
+drop-min n ws = go (leb n (length ws)) refl
+  where
+    go : (t : Bool) → leb n (length ws) ≡ t → drop (min (length ws) n) ws ≡ drop n ws
+    go true t = let e : min (length ws) n ≡ n = omega (arith, leb-true n (length ws) t) in rw e
+    go false t =
+        let h = leb-false n (length ws) t in
+        drop-of-length-le ws {i = min (length ws) n} (omega arith) ∙ sym (drop-of-length-le ws {i = n} (omega arith))
 
 -- a clause, from its first word to its end
 pub part-slice : (ws : List ℕ) (first len end : ℕ) → end ≡ min (length ws) (first + len) → slice first end ws ≡ part first len ws

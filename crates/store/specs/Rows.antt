@@ -1,6 +1,8 @@
--- The directory's rows: what is looked up, and what a search finds.
+-- The directory's rows: what is looked up, and how it is searched.
 use mathlib.Core.Path.{_≡_}
-use Prim.Native.Nat.{ℕ, _<_, _≤_, _+_}
+use mathlib.Core.Bool.{cond}
+use Prim.Native.Nat.{ℕ, zero, suc, _<_, _≤_, _+_, _-_, _/_, min}
+use lib.Dec.{eqb, ltb}
 use Rattle.scope.specs.Steps.{put}
 use Rattle.store.specs.declared.directory.Row.{Row}
 use Rattle.store.specs.declared.directory.Probe.{Probe}
@@ -12,30 +14,44 @@ noRow = record { id = 0; first = 0; len = 0; live = 0 }
 abbrev pub dying : Row → Row
 dying r = record { id = r .id; first = r .first; len = r .len; live = 0 }
 
+-- A search of n rows for an id. The first look is at row id − 1, which has the id where no id was left out, or at the last row
+abbrev pub started : ℕ → ℕ → Probe
+started n id = record { lo = 0; hi = n; at = min n id - 1; hit = noRow }
+
+-- After a look at a row with a lower id: ids ascend, so the wanted row stands at most as far ahead as the ids differ
+abbrev pub upward : Probe → ℕ → Probe
+upward s d =
+    record {
+      lo = s .at + 1;
+      hi = s .at + 1 + min (s .hi - (s .at + 1)) d;
+      at = s .at + 1 + min (s .hi - (s .at + 1)) d / 2;
+      hit = s .hit;
+    }
+
+-- after a look at a row with a higher id: it stands at most as far back, and just there where no id was left out between
+abbrev pub downward : Probe → ℕ → Probe
+downward s d =
+    record { lo = s .at - min (s .at - s .lo) d; hi = s .at; at = s .at - min (s .at - s .lo) d; hit = s .hit }
+
+-- the search after a look at a row
+unfoldable pub narrowed : Probe → Row → ℕ → Probe
+narrowed s row id =
+    cond (eqb (row .id) id) (record { lo = s .hi; hi = s .hi; at = s .at; hit = row })
+    (cond (ltb (row .id) id) (upward s (id - row .id)) (downward s (row .id - id)))
+
+-- at most k looks
+unfoldable pub seek : ℕ → (ℕ → Row) → ℕ → Probe → Probe
+seek zero R id s = s
+seek (suc k) R id s = cond (ltb (s .lo) (s .hi)) (seek k R id (narrowed s (R (s .at)) id)) s
+
 -- the first n rows stand in ascending order of their ids
 pub record Rising (R : ℕ → Row) (n : ℕ) : Type 0 where
   pub up : (i j : ℕ) → i < j → j < n → R i .id < R j .id
 
--- what a search of the first n rows for an id answers
+-- what a search of the first n rows for an id finds
 pub data Found (R : ℕ → Row) (n id : ℕ) (p : Probe) : Type 0 where
   hit : p .at < n → p .hit ≡ R (p .at) → p .hit .id ≡ id → Found R n id p
   miss : p .hit ≡ noRow → ((i : ℕ) → i < n → R i .id ≡ id → ⊥) → Found R n id p
-
--- the place that is looked at next lies between the bounds
-abbrev pub Inside : Probe → Type 0
-Inside p = p .lo < p .hi → (p .lo ≤ p .at) × (p .at < p .hi)
-
-pub record Started (n : ℕ) (p : Probe) : Type 0 where
-  pub low : p .lo ≡ 0
-  pub high : p .hi ≡ n
-  pub inside : Inside p
-  pub none : p .hit ≡ noRow
-
--- what one look does to a search
-pub data Narrowed (s : Probe) (row : Row) (id : ℕ) (p : Probe) : Type 0 where
-  met : row .id ≡ id → p .lo ≡ s .hi → p .hi ≡ s .hi → p .at ≡ s .at → p .hit ≡ row → Narrowed s row id p
-  above : row .id < id → p .lo ≡ s .at + 1 → p .hi ≡ s .hi → Inside p → p .hit ≡ s .hit → Narrowed s row id p
-  below : id < row .id → p .lo ≡ s .lo → p .hi ≡ s .at → Inside p → p .hit ≡ s .hit → Narrowed s row id p
 
 -- In a directory of cap rows: a search, a row that dies, and a row that is appended to the first n
 pub record Finds (cap : ℕ) (R : ℕ → Row) (n id : ℕ) (p : Probe) : Type 0 where

@@ -1,11 +1,13 @@
 // The directory: a row for each clause, in ascending order of their ids. No other function but the loop that drives a check
 // takes the directory.
 ghost use mathlib.Core.Path.{_≡_};
-ghost use Prim.Native.Nat.{_≤_, _<_};
-ghost use lib.ListN.{length, replicate};
-ghost use Rattle.store.specs.Rows.{noRow, Started, Narrowed, Finds, Dies, Appends};
-ghost use Rattle.store.specs.Directory.{rowsOf};
-ghost use Rattle.store.specs.Marked.{Unmarks, rowBetween, Built};
+ghost use mathlib.Core.List.{_++_};
+ghost use Prim.Native.Nat.{_+_, _≤_, _<_, min};
+ghost use lib.ListN.{length, set, take, drop, replicate};
+ghost use lib.Seq.{slice, sets};
+ghost use Rattle.store.specs.Rows.{noRow, started, narrowed};
+ghost use Rattle.store.specs.Directory.{lookUp, withDead};
+ghost use Rattle.store.specs.Marked.{flat, parted, firstClause, rowsFor, rowBetween};
 
 // A clause's id, its first word, its length, and 1 as long as it is live.
 #[repr(C)]
@@ -24,9 +26,18 @@ pub struct Probe {
     pub hit: Row,
 }
 
-// A search for an id in n rows: the first look is at row id - 1, which has the id where no id was left out.
+fn least(a: usize, b: usize) -> usize
+    ensures { λ r. ⌜ r ≡ min a b ⌝ }
+{
+    if a <= b {
+        return a;
+    }
+    b
+}
+
+// A search for an id in n rows: the first look is at row id - 1, which has the id where no id was left out, or at the last.
 fn start(n: usize, id: usize) -> Probe
-    ensures { λ r. ⌜ Started n r ⌝ }
+    ensures { λ r. ⌜ r ≡ started n id ⌝ }
 {
     let hit = Row {
         id: 0,
@@ -34,34 +45,22 @@ fn start(n: usize, id: usize) -> Probe
         len: 0,
         live: 0,
     };
-    if id == 0 {
-        return Probe {
-            lo: 0,
-            hi: n,
-            at: n / 2,
-            hit,
-        };
-    }
-    if id <= n {
-        return Probe {
-            lo: 0,
-            hi: n,
-            at: id - 1,
-            hit,
-        };
+    let mut at = least(n, id);
+    if at != 0 {
+        at -= 1;
     }
     Probe {
         lo: 0,
         hi: n,
-        at: n / 2,
+        at,
         hit,
     }
 }
 
-// The search after a look at a row.
+// The search after a look at a row. Ids ascend, so they differ by as much as the places of their rows, or by more.
 fn narrow(s: Probe, row: Row, id: usize) -> Probe
     requires { ⌜ (s .lo ≤ s .at) × (s .at < s .hi) ⌝ }
-    ensures { λ r. ⌜ Narrowed s row id r ⌝ }
+    ensures { λ r. ⌜ r ≡ narrowed s row id ⌝ }
 {
     if row.id == id {
         return Probe {
@@ -74,35 +73,23 @@ fn narrow(s: Probe, row: Row, id: usize) -> Probe
     let hit = s.hit;
     if row.id < id {
         let lo = s.at + 1;
-        let at = lo + (s.hi - lo) / 2;
-        return Probe {
-            lo,
-            hi: s.hi,
-            at,
-            hit,
-        };
+        let ahead = least(s.hi - lo, id - row.id);
+        let hi = lo + ahead;
+        let at = lo + ahead / 2;
+        return Probe { lo, hi, at, hit };
     }
-    let at = s.lo + (s.at - s.lo) / 2;
+    let lo = s.at - least(s.at - s.lo, row.id - id);
     Probe {
-        lo: s.lo,
+        lo,
         hi: s.at,
-        at,
+        at: lo,
         hit,
     }
 }
 
-fn least(a: usize, b: usize) -> usize
-    ensures { λ r. ⌜ (r ≤ a) × (r ≤ b) × (a ≤ b → r ≡ a) ⌝ }
-{
-    if a <= b {
-        return a;
-    }
-    b
-}
-
-// The row with an id among the first n; where there is none, the row that is found is not live.
+// The row with an id among the first n, whose ids ascend; where there is none, the row that is found is not live.
 pub fn find(rows: &[Row], n: usize, id: usize) -> Probe
-    ensures { λ r. ⌜ Finds (length (now (rows .entry))) (rowsOf (now (rows .entry))) n id r ⌝ }
+    ensures { λ r. ⌜ r ≡ lookUp (now (rows .entry)) n id ⌝ }
 {
     let mut s = start(least(n, rows.len()), id);
     while s.lo < s.hi {
@@ -114,7 +101,7 @@ pub fn find(rows: &[Row], n: usize, id: usize) -> Probe
 
 // The row i is no longer live.
 pub fn mark_dead(rows: &mut [Row], i: usize)
-    ensures { λ _. ⌜ Dies (length (now (rows .entry))) (rowsOf (now (rows .entry))) (rowsOf (now (rows .exit))) i ⌝ }
+    ensures { λ _. ⌜ now (rows .exit) ≡ withDead (now (rows .entry)) i ⌝ }
 {
     if rows.len() <= i {
         return;
@@ -122,9 +109,9 @@ pub fn mark_dead(rows: &mut [Row], i: usize)
     rows[i].live = 0;
 }
 
-// A row after the first n.
+// A row after the first n, if there is room.
 pub fn append(rows: &mut [Row], n: usize, row: Row)
-    ensures { λ _. ⌜ Appends (length (now (rows .entry))) (rowsOf (now (rows .entry))) (rowsOf (now (rows .exit))) n row ⌝ }
+    ensures { λ _. ⌜ now (rows .exit) ≡ set (now (rows .entry)) n row ⌝ }
 {
     if rows.len() <= n {
         return;
@@ -134,8 +121,9 @@ pub fn append(rows: &mut [Row], n: usize, row: Row)
 
 // The words from first on are passed up to one that is marked by 2^31, whose mark is taken off. Where what follows it stands.
 fn unmark(words: &mut [u32], first: usize, end: usize) -> usize
-    requires { ⌜ end ≤ length (now words) ⌝ }
-    ensures { λ r. ⌜ Unmarks (now (words .entry)) (now (words .exit)) first end r ⌝ }
+    requires { ⌜ (first ≤ end) × (end ≤ length (now words)) ⌝ }
+    ensures { λ r. ⌜ r ≡ first + length (firstClause (slice first end (now (words .entry)))) ⌝ }
+    ensures { λ r. ⌜ now (words .exit) ≡ take first (now (words .entry)) ++ (firstClause (slice first end (now (words .entry))) ++ drop r (now (words .entry))) ⌝ }
 {
     let mut i = first;
     while i < end {
@@ -166,7 +154,9 @@ fn row_between(n: usize, first: usize, next: usize) -> Row
 // The rows of the clauses in the first total words, where each clause's last word is marked by 2^31; the words are then as
 // they were before they were marked. The clauses have the ids 1, 2, .. in turn. How many they are.
 pub fn build_directory(words: &mut [u32], rows: &mut [Row], total: usize) -> usize
-    ensures { λ r. ⌜ Built (now (words .entry)) (now (words .exit)) (length (now (rows .entry))) (rowsOf (now (rows .exit))) total r ⌝ }
+    ensures { λ r. ⌜ r ≡ length (parted (take total (now (words .entry)))) ⌝ }
+    ensures { λ _. ⌜ now (words .exit) ≡ flat (parted (take total (now (words .entry)))) ++ drop total (now (words .entry)) ⌝ }
+    ensures { λ _. ⌜ now (rows .exit) ≡ sets (now (rows .entry)) 0 (rowsFor 1 0 (parted (take total (now (words .entry))))) ⌝ }
 {
     let end = least(total, words.len());
     let mut n = 0;

@@ -44,7 +44,7 @@ use Rattle.store.specs.declared.directory.Row.{Row}
 use Rattle.store.specs.Rows.{noRow}
 use Rattle.store.proofs.Walk.{ty-at, Addrs, addr-at, rotate, allocs-all, frees-all, var, part, fills}
 use Rattle.store.proofs.Slices.{at-list, Whole, lent, back}
-use Rattle.store.proofs.Calls.{unit-same, both-said, calls-to}
+use Rattle.store.proofs.Calls.{unit-same, both-said, told, says-all, calls-to}
 use Rattle.store.proofs.directory.Row as R
 use Rattle.store.proofs.clauses.clear_words as clear-words
 use Rattle.store.proofs.clauses.clear_words.Symbol as clear-words-def
@@ -70,7 +70,7 @@ use Rattle.checker.specs.declared.claim.Claim.{Claim}
 use Rattle.checker.specs.declared.prepare.Ready.{Ready}
 use Rattle.checker.specs.Prepared.{lent as stores, asked, Prepared}
 use Rattle.checker.specs.Checked.{Follows, zeros-kept, checked}
-use Rattle.checker.proofs.Values.{IsAnswer, answer-same, answer-typed, IsReady, ready-same, ready-typed, IsClaim, claim-typed, told, says-all}
+use Rattle.checker.proofs.Values.{IsAnswer, answer-same, answer-typed, IsReady, ready-same, ready-typed, IsClaim, claim-typed}
 use Rattle.checker.proofs.claim.Claim as G
 use Rattle.checker.proofs.claim.Claim.Laws as G′
 use Rattle.checker.proofs.prepare.Ready as Y

@@ -1,8 +1,8 @@
 -- `find` meets its contract: a walk of its MIR by hand. A turn of its loop reads a row and hands it to `narrow`.
-use mathlib.Core.Path.{_≡_, refl, sym, subst}
+use mathlib.Core.Path.{_≡_, refl, sym, ap, _∙_}
 use mathlib.Core.List.{List, [], _∷_}
 use mathlib.Core.Option.{none, some}
-use Prim.Native.Nat.{ℕ, _<_, _≤_, _^_, _-_}
+use Prim.Native.Nat.{ℕ, _<_, _≤_, _^_, _-_, min}
 use native.Mathlib.Omega.{arith}
 use lib.ListN.{length, getD}
 use lib.Dec.{ltb→lt, nltb→le}
@@ -42,8 +42,8 @@ use denote.Triple.Walked.{says, Stays, stay-dropped, walkOf, goes-dropped, ends-
 use denote.Exit.{yes}
 use Rattle.store.specs.declared.directory.Row.{Row}
 use Rattle.store.specs.declared.directory.Probe.{Probe}
-use Rattle.store.specs.Rows.{noRow}
-use Rattle.store.specs.Directory.{rowsOf}
+use Rattle.store.specs.Rows.{noRow, started, narrowed}
+use Rattle.store.specs.Directory.{rowsOf, lookUp}
 use Rattle.store.proofs.Walk.{rest, ty-at, Addrs, addr-at, env-of, laid, rotate, dropped, allocs-all, frees-all, var, part, fills}
 use Rattle.store.proofs.Slices.{at-list}
 use Rattle.store.proofs.Elements.{IsRow, row-typed, row-out, IsProbe, probe-same, probe-typed}
@@ -52,8 +52,7 @@ use Rattle.store.proofs.directory.Row.Laws as R′
 use lib.WfN.{Nat·lt-wfRel}
 use mathlib.Core.WellFounded.{WellFounded, InvImage·wf}
 use denote.Signature.{shrSliceOf}
-use Rattle.store.specs.Rows.{Finds, Rising, Started, Narrowed}
-use Rattle.store.proofs.Search.{Bounded, Seeking, starts-bounded, starts, ends, nearer, bounded, looked}
+use Rattle.store.proofs.Search.{Bounded, starts-bounded, narrows, nearer, bounded, Left, left-all, left-more, left-over}
 use Rattle.store.proofs.Calls.{uint-same, calls-to, calls-to-last}
 use Rattle.store.proofs.directory.Probe as P
 use Rattle.store.proofs.directory.Probe.Laws as P′
@@ -91,7 +90,7 @@ module _ (ys : List Row) (n id : ℕ) where
     pub p : Probe
     pub is : IsProbe p (P′.lowered p)
     pub bound : Bounded (length ys) p
-    pub seek : n ≤ length ys → Rising (rowsOf ys) n → Seeking (rowsOf ys) n id p
+    pub left : Left (rowsOf ys) id p (lookUp ys n id)
 
   abbrev Nearer : Upto → Upto → Type 0
   Nearer s t = s .p .hi - s .p .lo < t .p .hi - t .p .lo
@@ -100,15 +99,24 @@ module _ (ys : List Row) (n id : ℕ) where
   Nearer-wf = InvImage·wf (λ (t : Upto). t .p .hi - t .p .lo) (Nat·lt-wfRel .wf)
 
 module _ {ys : List Row} {n id : ℕ} where
-  next : (t : Upto ys n id) (r : Probe) → IsProbe r (P′.lowered r) → t .p .lo < t .p .hi → Narrowed (t .p) (getD ys (t .p .at) noRow) id r → Upto ys n id
+  next : (t : Upto ys n id) (r : Probe) → IsProbe r (P′.lowered r) → t .p .lo < t .p .hi → r ≡ narrowed (t .p) (getD ys (t .p .at) noRow) id → Upto ys n id
   next t r is less e =
       let inside = t .bound .inside less in
       record {
         p = r;
         is = is;
-        bound = bounded (t .p) (getD ys (t .p .at) noRow) id r (inside .0) (inside .1) (length ys) (t .bound .high) e;
-        seek = λ h up. looked (rowsOf ys) n up id (t .p) r (t .bound .inside) less (t .seek h up) e;
+        bound = bounded (t .p) (getD ys (t .p .at) noRow) id (inside .0) (inside .1) (length ys) (t .bound .high) r (rw e (narrows (t .p) (getD ys (t .p .at) noRow) id));
+        left = left-more (rowsOf ys) id (t .p) (lookUp ys n id) (t .left) less (inside .0) (inside .1) r e;
       }
+
+started-at : {ys : List Row} {n id : ℕ} (p : Probe) → IsProbe p (P′.lowered p) → p ≡ started (min n (length ys)) id → Upto ys n id
+started-at {ys} {n} {id} p is e =
+    record {
+      p = p;
+      is = is;
+      bound = rw e (starts-bounded (length ys) (min n (length ys)) id (omega arith));
+      left = rw e (left-all ys n id);
+    }
 
 -- the contracts that are cited
 module _ {M : Type 1} (𝓤 : URA M) (H : Heap 𝓤) (A : Atoms 𝓤) (mem : Memory → SProp 𝓤) (run : Routine → Fun 𝓤) where
@@ -141,7 +149,7 @@ module _ {M : Type 1} (𝓤 : URA M) (H : Heap 𝓤) (A : Atoms 𝓤) (W : Given
   abbrev Lent : Fml
   Lent = fshr-bor κ (λ s′. arr-parts (shares R.the-row) (length ys) .part s′ ys b o)
 
-  exits : (p : Probe) → IsProbe p (P′.lowered p) → Finds (length ys) (rowsOf ys) n id p → ent 𝓤 (⋆ 𝓤 H A (‵ (flft κ q) ∷ [])) (Post (P′.lowered p))
+  exits : (p : Probe) → IsProbe p (P′.lowered p) → p ≡ lookUp ys n id → ent 𝓤 (⋆ 𝓤 H A (‵ (flft κ q) ∷ [])) (Post (P′.lowered p))
   exits p is e =
       qed W (‵ (flft κ q) ∷ []) ∵
       suffices ! _ (ends-at 𝓤 H A f.ended stayed (f.clauses 𝓤 H A mem run) W (((κ, tt), (q, tt), tt, a, at), tt) (P′.lowered p) p (tt, (tt, (tt, tt))) (tt, (tt, (tt, tt)))) $
@@ -211,19 +219,20 @@ module _ {M : Type 1} (𝓤 : URA M) (H : Heap 𝓤) (A : Atoms 𝓤) (W : Given
         fills ! 17 (of-opd ! (var ! 5 refl)) refl (row-typed W (h t) _ was) $
         elem-back ! R.the-row q′ ys (t .p .at) noRow (R′.lowered (h t) ∷ []) b o within $ shuts-slice ! tt R.the-row q′ ys b o $
         nothing ! $ use1 W (raw (Narrow 𝓤 H A mem run .pre (to-narrow (t .p) (h t)))) (goes-narrow (t .p) (h t) (t .is) was inside) $
-        calls-to-last narrow.ended (narrow.clauses 𝓤 H A mem run) (to-narrow (t .p) (h t)) (λ r ws. Narrowed (t .p) (h t) id r) (λ r ws. id⊢ 𝓤 _) P′.lowered probe-same ! fm known-narrow (and-then ! (var ! 17 refl) (and-then ! (var ! 15 refl) (and-then ! (var ! 19 refl) (no-more !)))) (λ r ws e is. drop ! $
+        calls-to-last narrow.ended (narrow.clauses 𝓤 H A mem run) (to-narrow (t .p) (h t)) (λ r ws. r ≡ narrowed (t .p) (h t) id) (λ r ws. id⊢ 𝓤 _) P′.lowered probe-same ! fm known-narrow (and-then ! (var ! 17 refl) (and-then ! (var ! 15 refl) (and-then ! (var ! 19 refl) (no-more !)))) (λ r ws e is. drop ! $
         drop ! $
         land-last ! (from ! (stop !)) (store ! 16 refl (probe-typed W r _ is)) $
         forget ! 14 refl $ forget ! 8 refl $ forget ! 6 refl $ forget ! 4 refl $ forget ! 2 refl $
-        rotate ! 2 $ again ! (Nearer ys n id) At t (next t r is less e) (nearer (t .p) (h t) id r (inside .0) (inside .1) e)))))
+        rotate ! 2 $ again ! (Nearer ys n id) At t (next t r is less e) (nearer (t .p) (h t) id (inside .0) (inside .1) r (rw e (narrows (t .p) (h t) id)))))))
         (λ over.
         jumps ! $ exec ! C Λ En body.t-5 (atRet En Post) $ fills ! 22 (of-opd ! (var ! 14 refl)) refl (probe-typed W (t .p) _ (t .is)) $
         returns ! (look ! 22 refl) $
         frees-all ! body.locals ls (some _ ∷ some _ ∷ some _ ∷ some _ ∷ some _ ∷ none ∷ none ∷ none ∷ some _ ∷ []) $ keep ! (0 ∷ []) $
-        by ! (exits (t .p) (t .is) (record { found = λ h up. ends (rowsOf ys) n id (t .p) (t .seek h up) (nltb→le (t .p .lo) (t .p .hi) over) })))
+        by ! (exits (t .p) (t .is) (left-over (rowsOf ys) id (t .p) (lookUp ys n id) (t .left) (nltb→le (t .p .lo) (t .p .hi) over))))
 
   walk : (𝓣 : Tables 𝓤 H) → FmC 𝓤 H (W .laws) (𝓣 .C) → Triple 𝓤 (𝓣 .C #least) (Least 𝓤 H A mem run) → Triple 𝓤 (𝓣 .C #start) (Start 𝓤 H A mem run) → Triple 𝓤 (𝓣 .C #narrow) (Narrow 𝓤 H A mem run) → Room R.the-row (length ys)
       → ent 𝓤 (onEntry 𝓤 H A f.signature (κ, tt) (q, tt) a at) (WpFn 𝓤 H (𝓣 .C) (𝓣 .Λ) code.function (s ∷ vint w64 n ∷ vint w64 id ∷ []) Post)
+  unfolding started-at
   walk 𝓣 fm known-least known-start known-narrow room =
       qed W ((‵ (flft κ q) ⊛ ‵ ftrue) ∷ ‵ (owns (ShrSlice (named 0) κ R.the-row ∷ usize ∷ usize ∷ []) a at) ∷ []) ∵ split ! $ move ! (2 ∷ []) $
       fsplit ! $ fsplit ! $ drop ! $ fsplit ! $ keep ! (3 ∷ 1 ∷ []) $
@@ -233,15 +242,15 @@ module _ {M : Type 1} (𝓤 : URA M) (H : Heap 𝓤) (A : Atoms 𝓤) (W : Given
       pass1 ! (init ! 16 refl (tt, record { fits = id-fits })) $ pass0 ! $
       fills ! 8 (of-opd ! (part ! 20 refl (sub ! 1 refl (whole !)))) refl (tt, record { fits = room .0 }) $
       nothing ! $ use1 W (raw (Least 𝓤 H A mem run .pre to-least)) (goes-least (room .0)) $
-      calls-to least.ended (least.clauses 𝓤 H A mem run) to-least (λ r ws. (r ≤ n) × (r ≤ length ys) × (n ≤ length ys → r ≡ n)) (λ r ws. id⊢ 𝓤 _) (vint w64) (uint-same w64) ! fm known-least (and-then ! (var ! 19 refl) (and-then ! (var ! 9 refl) (no-more !))) (λ m ws few is-m. drop ! $
+      calls-to least.ended (least.clauses 𝓤 H A mem run) to-least (λ r ws. r ≡ min n (length ys)) (λ r ws. id⊢ 𝓤 _) (vint w64) (uint-same w64) ! fm known-least (and-then ! (var ! 19 refl) (and-then ! (var ! 9 refl) (no-more !))) (λ m ws few is-m. drop ! $
       drop ! $
       land ! (from ! (stop !)) (init ! 10 refl (tt, record { fits = is-m .1 })) $
       nothing ! $ use1 W (raw (Start 𝓤 H A mem run .pre (to-start m))) (goes-start m (is-m .1)) $
-      calls-to start.ended (start.clauses 𝓤 H A mem run) (to-start m) (λ r ws. Started m r) (λ r ws. id⊢ 𝓤 _) P′.lowered probe-same ! fm known-start (and-then ! (var ! 11 refl) (and-then ! (var ! 17 refl) (no-more !))) (λ p ws e is. drop ! $
+      calls-to start.ended (start.clauses 𝓤 H A mem run) (to-start m) (λ r ws. r ≡ started m id) (λ r ws. id⊢ 𝓤 _) P′.lowered probe-same ! fm known-start (and-then ! (var ! 11 refl) (and-then ! (var ! 17 refl) (no-more !))) (λ p ws e is. drop ! $
       drop ! $
       land ! (from ! (stop !)) (init ! 14 refl (probe-typed W p _ is)) $ forget ! 10 refl $ forget ! 8 refl $
       first ! $ blocks ! $ loops ! 𝓣 (Nearer ys n id) (Nearer-wf ys n id) (At 𝓣 fm known-narrow room ls) (turns 𝓣 fm known-narrow room ls)
-      (record { p = p; is = is; bound = starts-bounded (length ys) p e (few .1); seek = λ h up. starts (rowsOf ys) n id p (subst (λ (k : ℕ). Started k p) (few .2 h) e) }))))
+      (started-at p is (e ∙ ap (λ (k : ℕ). started k id) few)))))
 
 meets : {M : Type 1} (𝓤 : URA M) (H : Heap 𝓤) (A : Atoms 𝓤) → Given 𝓤 H A → (mem : Memory → SProp 𝓤) (run : Routine → Fun 𝓤) (𝓣 : Tables 𝓤 H) → Triple 𝓤 (𝓣 .C #least) (Least 𝓤 H A mem run) → Triple 𝓤 (𝓣 .C #start) (Start 𝓤 H A mem run) → Triple 𝓤 (𝓣 .C #narrow) (Narrow 𝓤 H A mem run)
     → Meets 𝓤 H A f.signature (WpFn 𝓤 H (𝓣 .C) (𝓣 .Λ) code.function) (f.spec 𝓤 H A mem run)

@@ -7,7 +7,7 @@ use Rattle.store.proofs.directory.unmark.Statement.{statement}
 use Rattle.store.proofs.directory.unmark.Tie as tie
 
 abbrev Inv-loop : tie.InvT-loop
-Inv-loop words₀ first end i₀ words i = Passing words₀ words first i
+Inv-loop words₀ first end i₀ words i = Passing words₀ words first end i
 
 abbrev μ-loop : tie.MeasureT-loop
 μ-loop words₀ first end i₀ words i = end - i
@@ -17,7 +17,7 @@ same-words : (c : tie.At-loop Inv-loop μ-loop) → length (c .loop .words) ≡ 
 same-words c = ap length (c .loop .inv .same)
 
 loop-holds : tie.Need-loop-holds Inv-loop μ-loop
-loop-holds c = pass-start (c .args .words .now) (c .args .first)
+loop-holds c = pass-start (c .args .words .now) (c .args .first) (c .args .end) (omega arith)
 
 mul-w : tie.Need-mul-w Inv-loop μ-loop
 mul-w c = omega (arith, same-words (c .before))
@@ -41,7 +41,7 @@ returns : tie.Need-returns Inv-loop μ-loop
 returns c =
     let l = c .before .before .before .loop in
     let a = c .before .before .before .before .args in
-    pass-marked (a .words .now) (l .words) (a .first) (l .i) (l .inv) (a .end) (c .before .before .loop-test .taken) (c .if1 .taken)
+    pass-marked (a .words .now) (l .words) (a .first) (a .end) (l .i) (l .inv) (omega arith) (c .before .before .loop-test .taken) (c .if1 .taken)
 
 loop-less : tie.Need-loop-less Inv-loop μ-loop
 loop-less c = omega arith
@@ -50,7 +50,7 @@ loop-again : tie.Need-loop-again Inv-loop μ-loop
 loop-again c =
     let l = c .before .before .before .loop in
     let a = c .before .before .before .before .args in
-    pass-next (a .words .now) (l .words) (a .first) (l .i) (l .inv) (c .if1 .left)
+    pass-next (a .words .now) (l .words) (a .first) (a .end) (l .i) (l .inv) (omega arith) (c .before .before .loop-test .taken) (c .if1 .left)
 
 same-length-2 : tie.Need-same-length-2 Inv-loop μ-loop
 same-length-2 c = same-words (c .before)
@@ -59,7 +59,7 @@ returns-2 : tie.Need-returns-2 Inv-loop μ-loop
 returns-2 c =
     let l = c .before .loop in
     let a = c .before .before .args in
-    pass-end (a .words .now) (l .words) (a .first) (l .i) (l .inv) (a .end) (c .loop-test .left)
+    pass-end (a .words .now) (l .words) (a .first) (a .end) (l .i) (l .inv) (omega arith) (c .loop-test .left)
 
 pub unmark-spec : {M : Type 1} → statement M
 unmark-spec =

@@ -1,0 +1,4 @@
+pub mod Machine
+pub mod Check
+pub mod Run
+pub mod Termination

@@ -1,0 +1,105 @@
+-- The machine that judges a proof: what each turn makes of it.
+use mathlib.Core.Path.{_≡_, refl}
+use mathlib.Core.List.{List}
+use Prim.Native.Nat.{ℕ, zero, suc, _+_, _/_, _%_, _≤_}
+use native.Mathlib.Omega.{arith}
+use Rattle.scope.specs.Parsed.{got, refused}
+use Rattle.scope.specs.Number.{number}
+use Rattle.scope.specs.Steps.{Standing, falsified, oneOpen, other, standing}
+use Rattle.store.specs.declared.directory.Row.{Row}
+use Rattle.store.specs.Marks.{marksOf, putMark}
+use Rattle.store.specs.Clauses.{Wiped, inClause}
+use Rattle.store.specs.Live.{rowClause}
+use Rattle.run.specs.declared.machine.Phase.{Phase}
+use Rattle.run.specs.declared.machine.Phase.the-variants.{Next, Walk, Followed, Keep, Wipe, Delete, Proved, Refused}
+use Rattle.run.specs.declared.machine.Machine.{Machine}
+
+-- no id is wanted
+abbrev pub stopped : Phase → ℕ → Machine
+stopped p at = record { phase = p; at = at; want = 0 }
+
+-- an id was read before next: it is wanted, or a 0 ends the ids
+unfoldable pub onward : Phase → Phase → ℕ → ℕ → Machine
+onward p over zero next = stopped over next
+onward p over (suc id) next = record { phase = p; at = next; want = suc id }
+
+pub onward-end : (p over : Phase) (id next : ℕ) → id ≡ 0 → onward p over id next ≡ stopped over next
+unfolding onward
+onward-end p over zero next h = refl
+onward-end p over (suc id) next h = absurd (omega arith)
+
+pub onward-more : (p over : Phase) (id next : ℕ) → (id ≡ 0 → ⊥)
+    → onward p over id next ≡ record { phase = p; at = next; want = id }
+unfolding onward
+onward-more p over zero next h = absurd (h refl)
+onward-more p over (suc id) next h = refl
+
+-- a hint was judged, where an id was read before next
+unfoldable pub walked : Standing → ℕ → ℕ → Machine
+walked falsified zero next = stopped Followed next
+walked falsified (suc id) next = stopped (Refused 16) next
+walked (oneOpen l) id next = onward Walk (Refused 16) id next
+walked other id next = stopped (Refused 16) next
+
+unfoldable pub walkedMarks : Standing → List ℕ → List ℕ
+walkedMarks falsified ms = ms
+walkedMarks (oneOpen l) ms = putMark ms (l / 2) (1 + l % 2)
+walkedMarks other ms = ms
+
+-- all literals of the hint are false
+pub walked-last : (id next : ℕ) → id ≡ 0 → walked falsified id next ≡ stopped Followed next
+unfolding walked
+walked-last zero next h = refl
+walked-last (suc id) next h = absurd (omega arith)
+
+pub walked-early : (id next : ℕ) → (id ≡ 0 → ⊥) → walked falsified id next ≡ stopped (Refused 16) next
+unfolding walked
+walked-early zero next h = absurd (h refl)
+walked-early (suc id) next h = refl
+
+-- the turn that a machine waits for: a clause is looked at (0); one is deleted (1); one is kept (2); one is judged (3);
+-- a step is read (4); none is left (5)
+abbrev pub turnOf : Phase → ℕ
+turnOf Next = 4
+turnOf Walk = 0
+turnOf Followed = 3
+turnOf Keep = 2
+turnOf Wipe = 0
+turnOf Delete = 1
+turnOf Proved = 5
+turnOf (Refused k) = 5
+
+-- the phase of a turn that no other phase waits for
+abbrev pub phaseOf : ℕ → Phase
+phaseOf zero = Walk
+phaseOf (suc zero) = Delete
+phaseOf (suc (suc zero)) = Keep
+phaseOf (suc (suc (suc zero))) = Followed
+phaseOf (suc (suc (suc (suc n)))) = Next
+
+pub turn-phase : (p : Phase) {n : ℕ} → turnOf p ≡ n → 1 ≤ n → n ≤ 4 → p ≡ phaseOf n
+turn-phase p e l h = rw (← e) (go p (omega arith) (omega arith))
+  where
+    go : (p : Phase) → 1 ≤ turnOf p → turnOf p ≤ 4 → p ≡ phaseOf (turnOf p)
+    go Next l h = refl
+    go Walk l h = absurd (omega arith)
+    go Followed l h = refl
+    go Keep l h = refl
+    go Wipe l h = absurd (omega arith)
+    go Delete l h = refl
+    go Proved l h = absurd (omega arith)
+    go (Refused k) l h = absurd (omega arith)
+
+-- one turn with the row of the id that was wanted
+pub data Advances (s : List ℕ) (m : Machine) (row : Row) (ws ms : List ℕ) (r : Machine) (ms′ : List ℕ) : Type 0 where
+  gone : row .live ≡ 0 → r ≡ stopped (Refused 15) (m .at) → Advances s m row ws ms r ms′
+  broken : (k v : ℕ) → number s (m .at) ≡ refused k v → r ≡ stopped (Refused 14) (m .at) → Advances s m row ws ms r ms′
+  walks : (id next : ℕ) → (row .live ≡ 0 → ⊥) → number s (m .at) ≡ got id next → m .phase ≡ Walk
+      → r ≡ walked (standing (marksOf ms) falsified (rowClause row ws)) id next
+      → ms′ ≡ walkedMarks (standing (marksOf ms) falsified (rowClause row ws)) ms → Advances s m row ws ms r ms′
+  wipes : (id next : ℕ) → (row .live ≡ 0 → ⊥) → number s (m .at) ≡ got id next → m .phase ≡ Wipe → r ≡ onward Wipe Next id next
+      → Wiped (inClause (rowClause row ws)) ms ms′ → Advances s m row ws ms r ms′
+  deletes : (id next : ℕ) → (row .live ≡ 0 → ⊥) → number s (m .at) ≡ got id next → m .phase ≡ Delete
+      → r ≡ onward Delete Next id next
+      → ms′ ≡ ms → Advances s m row ws ms r ms′
+  idle : 2 ≤ turnOf (m .phase) → Advances s m row ws ms r ms′

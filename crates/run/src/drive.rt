@@ -1,0 +1,105 @@
+// The loop that drives a check. It alone lends the directory: to look up the ids that the machine wants, to mark those dead
+// that are deleted, and to append the clauses that are kept.
+use crate::check::Check;
+use crate::check::begin;
+use crate::check::enter;
+use crate::check::judge;
+use crate::check::keep;
+use crate::check::next_step;
+use crate::check::row_of;
+use crate::machine::DELETE;
+use crate::machine::JUDGE;
+use crate::machine::KEEP;
+use crate::machine::Machine;
+use crate::machine::Phase;
+use crate::machine::READ;
+use crate::machine::advance;
+use crate::machine::stop;
+use crate::machine::turn_of;
+use scope::CheckAnswer;
+use scope::Refusal;
+use store::directory::Row;
+use store::directory::append;
+use store::directory::find;
+use store::directory::mark_dead;
+ghost use mathlib.Core.Path.{_≡_};
+ghost use lib.ListN.{length};
+ghost use Rattle.store.specs.Directory.{rowsOf};
+ghost use Rattle.run.specs.declared.machine.Phase.the-variants.{Next};
+ghost use Rattle.run.specs.Machine.{stopped};
+ghost use Rattle.run.specs.Run.{answerOf, Driven};
+
+// The machine before the first step.
+fn ready() -> Machine
+    ensures { λ r. ⌜ r ≡ stopped Next 0 ⌝ }
+{
+    stop(Phase::Next, 0)
+}
+
+// The answer of a check that has ended; one that has not is never asked.
+fn answer(c: Check, m: Machine) -> CheckAnswer
+    ensures { λ r. ⌜ r ≡ answerOf (c .tally .steps) (m .phase) ⌝ }
+{
+    let tally = c.tally;
+    let steps = tally.steps;
+    let unread = Refusal {
+        number: 14,
+        value: steps,
+    };
+    let phase = m.phase;
+    match phase {
+        Phase::Proved => CheckAnswer::NoTimetable(steps),
+        Phase::Refused(number) => {
+            let refusal = Refusal {
+                number,
+                value: steps,
+            };
+            CheckAnswer::Refused(refusal)
+        }
+        Phase::Next => CheckAnswer::Refused(unread),
+        Phase::Walk => CheckAnswer::Refused(unread),
+        Phase::Followed => CheckAnswer::Refused(unread),
+        Phase::Keep => CheckAnswer::Refused(unread),
+        Phase::Wipe => CheckAnswer::Refused(unread),
+        Phase::Delete => CheckAnswer::Refused(unread),
+    }
+}
+
+// The proof is judged, where the stores hold a formula of n clauses and used words: its clauses are the first n rows and have
+// the ids 1 to n. Its variables go up to the last; their marks are open.
+pub fn drive(
+    proof: &[u8],
+    words: &mut [u32],
+    rows: &mut [Row],
+    marks: &mut [u8],
+    last: usize,
+    n: usize,
+    used: usize,
+) -> CheckAnswer
+    ensures { λ r. ⌜ Driven (now (proof .entry)) last (length (now (rows .entry))) n used (rowsOf (now (rows .entry))) (now (words .entry)) (now (marks .entry)) r ⌝ }
+{
+    let mut c = begin(n, used);
+    let mut m = ready();
+    loop {
+        let turn = turn_of(m);
+        if turn <= DELETE {
+            let p = find(rows, c.tally.rows, m.want);
+            m = advance(m, p.hit, proof, words, marks);
+            if turn == DELETE {
+                mark_dead(rows, p.at);
+            }
+        } else if turn == KEEP {
+            append(rows, c.tally.rows, row_of(c));
+            c = keep(c, proof, words);
+            m = enter(c, proof);
+        } else if turn == JUDGE {
+            c = judge(c, m.at, proof.len(), words.len(), rows.len());
+            m = enter(c, proof);
+        } else if turn == READ {
+            c = next_step(c, m.at, proof, last, marks);
+            m = enter(c, proof);
+        } else {
+            return answer(c, m);
+        }
+    }
+}

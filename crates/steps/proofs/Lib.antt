@@ -1,0 +1,6 @@
+pub mod ReadingTurns
+pub mod Loops
+pub mod StepParts
+pub mod StepReading
+pub mod Readers
+pub mod StepBytes
