@@ -46,7 +46,7 @@ use Rattle.store.specs.declared.directory.Row.{Row}
 use Rattle.store.specs.Rows.{noRow}
 use Rattle.store.proofs.Walk.{rotate, allocs-all, frees-all, var, part, fills}
 use Rattle.store.proofs.Slices.{at-list, Whole, lent, back}
-use Rattle.store.proofs.Calls.{both-said, and-said, calls-to}
+use Rattle.store.proofs.Calls.{both-said, and-said, calls-to, told, says-all}
 use Rattle.store.proofs.directory.Row as R
 use Rattle.model.specs.declared.operations.Evaluation.{Evaluation}
 use Rattle.model.specs.Answers.{EvaluatedAs}
@@ -61,7 +61,7 @@ use Rattle.checker.specs.declared.claim.Claim.{Claim}
 use Rattle.checker.specs.Prepared.{lent as stores, asked}
 use Rattle.checker.proofs.claim.Claim as G
 use Rattle.checker.proofs.claim.Claim.Laws as G′
-use Rattle.checker.proofs.Values.{IsAnswer, answer-same, answer-typed, IsClaim, claim-typed, told, says-all}
+use Rattle.checker.proofs.Values.{IsAnswer, answer-same, answer-typed, IsClaim, claim-typed}
 use Rattle.checker.proofs.Calling.{check-to, to-check, Checking, goes-check}
 use Rattle.checker.proofs.check as check
 use Rattle.checker.proofs.check.Symbol as check-def

@@ -42,7 +42,7 @@ use Rattle.scope.proofs.CheckAnswer.Laws as S′
 use Rattle.store.specs.declared.directory.Row.{Row}
 use Rattle.store.proofs.Walk.{ty-at, Addrs, addr-at, rotate, allocs-all, frees-all, var, part, fills}
 use Rattle.store.proofs.Slices.{at-list, Whole, lent, back}
-use Rattle.store.proofs.Calls.{calls-to}
+use Rattle.store.proofs.Calls.{calls-to, says-all}
 use Rattle.store.proofs.Elements.{IsRow, row-typed}
 use Rattle.store.proofs.directory.Row as R
 use Rattle.store.proofs.directory.Row.Laws as R′
@@ -62,7 +62,7 @@ use borrow.Table.Elements.{at as place-at, cut-app, join-app}
 use Rattle.checker.specs.declared.claim.Claim.{Claim}
 use Rattle.checker.proofs.claim.Claim as G
 use Rattle.checker.proofs.claim.Claim.Laws as G′
-use Rattle.checker.proofs.Values.{IsAnswer, answer-same, answer-typed, IsClaim, claim-typed, says-all}
+use Rattle.checker.proofs.Values.{IsAnswer, answer-same, answer-typed, IsClaim, claim-typed}
 use Rattle.check_cases.proofs.Local.{made, emptied}
 use Rattle.checker.proofs.Calling.{check-to, to-check, Checking, goes-check}
 use Rattle.checker.proofs.check as check
