@@ -7,6 +7,9 @@
 mod best_model;
 mod check_hard;
 
+pub use best_model::timetable_best;
+pub use check_hard::timetable_check_hard;
+
 use calls::leave_amounts;
 use calls::leave_counts;
 use calls::leave_length;
