@@ -3,7 +3,7 @@
  * slices in place of pointers and lengths, and answers in place of outputs.
  *
  * An empty vector or string may hold a null pointer, which the engine is never
- * to be given; a slice replaces it. text and check allocate what they lend.
+ * to be given; a slice replaces it. text, the checks and best allocate what they lend.
  * Nothing here throws but an allocation.
  */
 #ifndef TIMETABLE_HPP
@@ -155,24 +155,82 @@ inline result<decoded> decode(slice file, slice model)
     return detail::answered(number, value, found);
 }
 
+namespace detail {
+
+/* Stores with room for a formula and for every clause that a proof adds. */
+struct stores {
+    std::vector<std::uint32_t> words;
+    std::vector<timetable_row> rows;
+    std::vector<std::uint8_t> marks;
+
+    stores(const size &formula, slice proof)
+    {
+        std::size_t added_words = 0, added_rows = 0;
+        timetable_room(proof.data(), proof.size(), &added_words, &added_rows);
+        words = lent<std::uint32_t>(formula.words + added_words);
+        rows = lent<timetable_row>(formula.clauses + added_rows);
+        marks = lent<std::uint8_t>(formula.variables);
+    }
+};
+
+} // namespace detail
+
 /* "No timetable" at the bound, with the number of steps; in stores of the size that is needed. */
 inline result<std::uint64_t> check(slice file, std::uint64_t bound, slice proof)
 {
     result<size> formula = sizes(file, bound);
     if (!formula)
         return {formula.refusal, formula.value, 0};
-    std::size_t added_words = 0, added_rows = 0;
-    timetable_room(proof.data(), proof.size(), &added_words, &added_rows);
-    std::vector<std::uint32_t> words =
-        detail::lent<std::uint32_t>(formula.answer.words + added_words);
-    std::vector<timetable_row> rows =
-        detail::lent<timetable_row>(formula.answer.clauses + added_rows);
-    std::vector<std::uint8_t> marks = detail::lent<std::uint8_t>(formula.answer.variables);
+    detail::stores lent(formula.answer, proof);
     std::uint64_t value = 0;
-    std::uint32_t number = timetable_check(
-        file.data(), file.size(), bound, proof.data(), proof.size(), words.data(),
-        words.size(), rows.data(), rows.size(), marks.data(), marks.size(), &value);
+    std::uint32_t number =
+        timetable_check(file.data(), file.size(), bound, proof.data(), proof.size(),
+                        lent.words.data(), lent.words.size(), lent.rows.data(),
+                        lent.rows.size(), lent.marks.data(), lent.marks.size(), &value);
     return detail::answered(number, value, value);
+}
+
+/* "No timetable" at any cost, with the number of steps; the stores grow until the clauses fit. */
+inline result<std::uint64_t> check_hard(slice file, slice proof)
+{
+    result<size> formula = sizes(file, 0);
+    if (formula.refusal == TIMETABLE_TOO_MANY_VARIABLES)
+        formula.answer = {TIMETABLE_MOST_VARIABLES, TIMETABLE_MOST_VARIABLES,
+                          2 * TIMETABLE_MOST_VARIABLES};
+    else if (!formula)
+        return {formula.refusal, formula.value, 0};
+    for (;;) {
+        detail::stores lent(formula.answer, proof);
+        std::uint64_t value = 0;
+        std::uint32_t number =
+            timetable_check_hard(file.data(), file.size(), proof.data(), proof.size(),
+                                 lent.words.data(), lent.words.size(), lent.rows.data(),
+                                 lent.rows.size(), lent.marks.data(), lent.marks.size(), &value);
+        if (number != TIMETABLE_TOO_SHORT)
+            return detail::answered(number, value, value);
+        formula.answer.clauses *= 2;
+        formula.answer.words *= 2;
+    }
+}
+
+struct shown_best {
+    std::uint64_t objective, steps;
+};
+
+/* A model's cost, which no timetable undercuts, with the number of steps that show it. */
+inline result<shown_best> best(slice file, slice model, slice proof)
+{
+    result<decoded> part = decode(file, model);
+    bool costs = part && part.answer.objective > 0;
+    /* Where the proof is not looked at, no store is needed. */
+    size formula = costs ? sizes(file, part.answer.objective - 1).answer : size();
+    detail::stores lent(formula, proof);
+    shown_best found = shown_best();
+    std::uint32_t number = timetable_best(
+        file.data(), file.size(), model.data(), model.size(), proof.data(), proof.size(),
+        lent.words.data(), lent.words.size(), lent.rows.data(), lent.rows.size(),
+        lent.marks.data(), lent.marks.size(), &found.objective, &found.steps);
+    return detail::answered(number, found.steps, found);
 }
 
 } // namespace timetable

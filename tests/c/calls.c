@@ -180,11 +180,16 @@ static uint32_t words[30];
 static struct timetable_row rows[16];
 static uint8_t marks[8];
 
-static uint32_t check_at(uint64_t bound, uint64_t *value)
+static void fill_stores(void)
 {
     memset(words, 255, sizeof words);
     memset(rows, 255, sizeof rows);
     memset(marks, 255, sizeof marks);
+}
+
+static uint32_t check_at(uint64_t bound, uint64_t *value)
+{
+    fill_stores();
     return timetable_check(file, sizeof file, bound, proof, sizeof proof, words,
                            sizeof words / sizeof *words, rows,
                            sizeof rows / sizeof *rows, marks, sizeof marks, value);
@@ -216,6 +221,53 @@ static void checked(void)
     stores_are_zero();
     expect("check below", check_at(2, &value), 15);
     expect("value, check below", value, 1);
+    stores_are_zero();
+}
+
+/* The same file with its constraint hard, which no timetable keeps. */
+static void checked_hard(void)
+{
+    static const uint8_t hard[] = {1, 1, 0, 1, 0, 1, 0, 1, 3, 0, 1, 1};
+    static const uint8_t refutation[] = {'a', 9, 0, 5, 4, 6, 8, 0};
+    uint64_t value = kept;
+    fill_stores();
+    expect("check without the tail",
+           timetable_check_hard(hard, sizeof hard, refutation, sizeof refutation, words,
+                                sizeof words / sizeof *words, rows,
+                                sizeof rows / sizeof *rows, marks, sizeof marks, &value),
+           0);
+    expect("value, check without the tail", value, 1);
+    stores_are_zero();
+    fill_stores();
+    expect("a proof at bound 3 without the tail",
+           timetable_check_hard(file, sizeof file, proof, sizeof proof, words,
+                                sizeof words / sizeof *words, rows,
+                                sizeof rows / sizeof *rows, marks, sizeof marks, &value),
+           15);
+    expect("value, a proof at bound 3 without the tail", value, 1);
+    stores_are_zero();
+}
+
+static uint32_t best_of(const uint8_t *found, size_t length, uint64_t *objective,
+                        uint64_t *value)
+{
+    fill_stores();
+    return timetable_best(file, sizeof file, found, length, proof, sizeof proof, words,
+                          sizeof words / sizeof *words, rows, sizeof rows / sizeof *rows,
+                          marks, sizeof marks, objective, value);
+}
+
+static void found_best(void)
+{
+    uint64_t objective = kept, value = kept;
+    expect("best", best_of(model, sizeof model, &objective, &value), 0);
+    expect("objective, best", objective, 4);
+    expect("value, best", value, 1);
+    stores_are_zero();
+    objective = kept;
+    expect("best, no model", best_of(no_model, sizeof no_model, &objective, &value), 13);
+    expect("objective, best, no model", objective, kept);
+    expect("value, best, no model", value, 6);
     stores_are_zero();
 }
 
@@ -256,6 +308,8 @@ int main(void)
     written();
     decoded();
     checked();
+    checked_hard();
+    found_best();
     room_counted();
     if (failures == 0)
         puts("ok");

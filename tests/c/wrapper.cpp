@@ -15,6 +15,9 @@ static const bytes no_model = {1, 1, 1, 0};
 /* A refutation at bound 3, and one that first adds the clause (3). */
 static const bytes proof = {'a', 17, 0, 5, 4, 6, 14, 16, 0};
 static const bytes longer = {'a', 17, 6, 0, 5, 0, 'd', 5, 0, 'a', 18, 0, 17, 4, 6, 14, 16, 0};
+/* The same file with its constraint hard, and a refutation of its hard clauses. */
+static const bytes hard = {1, 1, 0, 1, 0, 1, 0, 1, 3, 0, 1, 1};
+static const bytes hard_proof = {'a', 9, 0, 5, 4, 6, 8, 0};
 static const bytes nothing;
 
 static int failures = 0;
@@ -59,6 +62,14 @@ static void operations()
     expect("check", steps && steps.answer == 1);
     steps = timetable::check(file, 3, longer);
     expect("check in the room that the proof needs", steps && steps.answer == 3);
+    steps = timetable::check_hard(hard, hard_proof);
+    expect("check without the tail", steps && steps.answer == 1);
+    refused("check without the tail, a proof at bound 3", timetable::check_hard(file, proof),
+            TIMETABLE_NOT_LIVE, 1);
+    timetable::result<timetable::shown_best> best = timetable::best(file, model, proof);
+    expect("best", best && best.answer.objective == 4 && best.answer.steps == 1);
+    refused("best, no model", timetable::best(file, no_model, proof), TIMETABLE_CLAUSE_FALSE,
+            6);
 }
 
 /* Empty vectors, whose pointers may be null. */
@@ -73,6 +84,9 @@ static void empty_slices()
     refused("text, empty", timetable::text(std::string()), TIMETABLE_BAD_NUMBER, 0);
     refused("decode, empty", timetable::decode(file, nothing), TIMETABLE_WRONG_LENGTH, 4);
     refused("check, empty", timetable::check(file, 3, nothing), TIMETABLE_BAD_END, 0);
+    refused("check without the tail, empty", timetable::check_hard(file, nothing),
+            TIMETABLE_BAD_END, 0);
+    refused("best, empty", timetable::best(file, model, nothing), TIMETABLE_BAD_END, 0);
     expect("a slice's pointer", timetable::slice(nothing).data() != nullptr &&
                                     timetable::slice(nothing).size() == 0);
 }

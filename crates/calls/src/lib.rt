@@ -158,9 +158,9 @@ pub fn leave_best(answer: BestAnswer, objective: &mut u64, value: &mut u64) -> u
 {
     match answer {
         BestAnswer::Refused(f) => refuse(f, value),
-        BestAnswer::Best(w, steps) => {
+        BestAnswer::Best(w, count) => {
             *objective = w.0;
-            *value = steps;
+            *value = count;
             0
         }
     }

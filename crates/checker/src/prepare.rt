@@ -38,6 +38,15 @@ fn fits(z: FormulaSize, words: usize, rows: usize, bytes: usize) -> bool
     z.variables <= bytes as u64
 }
 
+// A formula of a size that was written.
+fn formula_of(z: FormulaSize) -> Ready
+    ensures { λ r. ⌜ r ≡ Ready.Formula (z .words) (z .variables) ⌝ }
+{
+    let used = z.words as usize;
+    let last = z.variables as usize;
+    Ready::Formula(used, last)
+}
+
 fn too_short() -> Ready
     ensures { λ r. ⌜ r ≡ Ready.Refused tooShort ⌝ }
 {
@@ -77,9 +86,7 @@ fn fill_bounded(file: &[u8], bound: u64, words: &mut [u32], rows: usize, bytes: 
                     &groups,
                     &mut list,
                 );
-                let used = all.words as usize;
-                let last = all.variables as usize;
-                return Ready::Formula(used, last);
+                return formula_of(all);
             }
             too_short()
         }
@@ -109,9 +116,7 @@ fn fill_hard(file: &[u8], words: &mut [u32], rows: usize, bytes: usize) -> Ready
                     &groups,
                     &mut list,
                 );
-                let used = all.words as usize;
-                let last = all.variables as usize;
-                return Ready::Formula(used, last);
+                return formula_of(all);
             }
             too_short()
         }

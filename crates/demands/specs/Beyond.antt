@@ -9,6 +9,7 @@ use Rattle.scope.specs.Operations.{decodeOf, checkHardOf, nothingBelow, bestOf}
 use Rattle.scope.specs.Refutation.{NoneAtAll}
 use Rattle.scope.specs.Demands.{Accepted, KeepsHard, IsBest}
 use Rattle.scope.specs.declared.Objective.{Objective}
+use Rattle.laws.specs.Booleans.{impossible}
 use Rattle.theory.specs.Demands.{demandHard, demandBest}
 use Rattle.calls.specs.Outputs.{cost}
 use Rattle.engine.specs.Operations.{Stores, lentBy, zeroed, stepsCall, checkHardCall, bestCall}
@@ -58,7 +59,7 @@ module _ (file m proof : List ℕ) (before : Objective) (s : Stores) where
           → then {B = Objective × ℕ} a (λ d. then (nothingBelow file (d .1 .0) proof (lentBy s)) (λ steps. answered (d .1, steps))) ≡ answered (w, n)
           → (x : List ℕ × Objective) × (decodeOf file m ≡ answered x)
       decoded (answered x) e h = (x, e)
-      decoded (refusal k v) e h = cc h
+      decoded (refusal k v) e h = impossible (cc h)
 
   -- timetable_best returns 0, with n in *value and w in *objective
   pub record ShownBest (w n : ℕ) : Type 0 where
@@ -67,11 +68,13 @@ module _ (file m proof : List ℕ) (before : Objective) (s : Stores) where
     pub objective : bestCall file m proof before s .outputs .0 ≡ cost w
 
   best-answers : {w n : ℕ} → ShownBest w n → bestOf file m proof (lentBy s) ≡ answered (cost w, n)
-  best-answers b =
+  best-answers {w} {n} b =
       let a = zero-accepted (λ (x : Objective × ℕ). (x .1, (x .0, zeroed s))) (before, zeroed s) refl (best-numbers file m proof (lentBy s)) (b .number) in
-      let p : a .result .0 ≡ cost _ = rw (a .eq) at (b .objective) in
-      let q : a .result .1 ≡ _ = rw (a .eq) at (b .value) in
-      a .eq ∙ rw (p, q)
+      let costs : Objective → Answer (Objective × ℕ) = λ x. answered (x, a .result .1) in
+      let counts : ℕ → Answer (Objective × ℕ) = λ k. answered (cost w, k) in
+      let p : a .result .0 ≡ cost w = rw (a .eq) at (b .objective) in
+      let q : a .result .1 ≡ n = rw (a .eq) at (b .value) in
+      a .eq ∙ ap costs p ∙ ap counts q
 
   -- then the model's part keeps every hard constraint at the cost w, and every timetable that does costs at least w
   pub shown-best : {w n : ℕ} → ShownBest w n → (i : Instance) → Accepted file i → IsBest file i m (cost w)

@@ -7,6 +7,7 @@
 mod best_model;
 mod check_hard;
 
+pub use best_model::timetable_best;
 use calls::leave_amounts;
 use calls::leave_counts;
 use calls::leave_length;
@@ -15,6 +16,7 @@ use calls::leave_sizes;
 use calls::leave_steps;
 use calls::leave_written;
 use calls::refuse;
+pub use check_hard::timetable_check_hard;
 use checker::Claim;
 use checker::check;
 use instance::read_instance;

@@ -149,3 +149,51 @@ fn the_five_days_end_with_a_price_that_no_timetable_undercuts() {
         assert!(printed.contains(line), "{printed}");
     }
 }
+
+/// A with its constraint hard: no timetable keeps it.
+const HARD_A: &str = "01 01 00 01 00 01 00 01 03 00 01 01";
+
+#[test]
+fn check_at_none_says_that_there_is_no_timetable_at_all() {
+    let hard = file("hard", &hex(HARD_A));
+    let proof = file("proof-without-tail", &hex("61 09 00 05 04 06 08 00"));
+    let found = run(&["check", &hard, "none", &proof]);
+    assert_eq!(found.printed, "no timetable at all\nsteps 1\n");
+    assert_eq!((found.said.as_str(), found.status), ("", 0));
+    // The proof at a bound names clauses of the tail.
+    let found = run(&["check", &school("toy.instance"), "none", &school("toy.proof")]);
+    assert!(found.printed.starts_with("refused 1"), "{}", found.printed);
+    assert_eq!(found.status, 1);
+    let found = run(&["check", &hard, "nothing", &proof]);
+    assert_eq!(found.status, 2);
+}
+
+#[test]
+fn best_says_that_nothing_costs_less_than_a_model() {
+    for (name, printed) in [
+        ("toy", "best\nobjective 4\nsteps 136\n"),
+        ("small", "best\nobjective 11\nsteps 539\n"),
+    ] {
+        let [instance, model, proof] =
+            ["instance", "model", "proof"].map(|kind| school(&format!("{name}.{kind}")));
+        let found = run(&["best", &instance, &model, &proof]);
+        assert_eq!(found.printed, printed);
+        assert_eq!((found.said.as_str(), found.status), ("", 0));
+        // Without the proof nothing is shown; a timetable is no model.
+        let nothing = file("no-proof", &[]);
+        let found = run(&["best", &instance, &model, &nothing]);
+        assert_eq!((found.printed.as_str(), found.status), ("refused 18 0\n", 1));
+        let found = run(&["best", &instance, &proof, &proof]);
+        assert!(found.printed.starts_with("refused 10 "), "{}", found.printed);
+    }
+}
+
+#[test]
+fn a_model_that_costs_nothing_needs_no_proof() {
+    let free = file("free", &hex("01 01 00 01 00 00 00"));
+    let model = file("free-model", &hex("01 01 01"));
+    let nothing = file("free-proof", &[]);
+    let found = run(&["best", &free, &model, &nothing]);
+    assert_eq!(found.printed, "best\nobjective 0\nsteps 0\n");
+    assert_eq!((found.said.as_str(), found.status), ("", 0));
+}

@@ -59,10 +59,13 @@ write-bounded-requires c κs =
 same-length : tie.Need-same-length
 same-length c = search needs
 
+formula-of-requires : tie.Need-formula-of-requires
+formula-of-requires c κs = search needs
+
 returns : tie.Need-returns
 returns c =
-    let m = rw (c .before .before .before .before .before .before .before .before .before .before .before .before .m .given .1) at (c .before .before .before .before .before .before .before .before .before .before .before .before .before .before .before .before .before .before .measure-bound .ensures) in
-    record { ready = formula-in _ _ _ m (sym (c .before .before .before .before .before .before .before .before .before .before .fits2 .ensures) ∙ c .before .before .before .before .before .before .before .before .before .if1 .taken) (c .before .before .before .write-bounded .ensures) refl (omega (arith, c .before .before .before .before .before .before .before .before .before .before .before .before .before .before .before .before .before .before .before .before .before .before .before .before .before .before .before .before .before)) }
+    let m = rw (c .before .before .before .before .before .before .before .before .before .before .before .before .before .m .given .1) at (c .before .before .before .before .before .before .before .before .before .before .before .before .before .before .before .before .before .before .before .measure-bound .ensures) in
+    prepared-same (c .formula-of .ensures) (record { ready = formula-in _ _ _ m (sym (c .before .before .before .before .before .before .before .before .before .before .before .fits2 .ensures) ∙ c .before .before .before .before .before .before .before .before .before .before .if1 .taken) (c .before .before .before .before .write-bounded .ensures) refl (omega (arith, c .before .before .before .before .before .before .before .before .before .before .before .before .before .before .before .before .before .before .before .before .before .before .before .before .before .before .before .before .before .before)) })
 
 too-short-requires : tie.Need-too-short-requires
 too-short-requires c κs = search needs
@@ -98,6 +101,7 @@ fill-bounded-spec =
     slice-aggregate-write-bounded-3
     slice-aggregate-write-bounded-4
     write-bounded-requires
+    formula-of-requires
     same-length
     returns
     too-short-requires

@@ -61,10 +61,13 @@ write-hard-requires c κs = hard-writable (rw (c .before .before .before .before
 same-length : tie.Need-same-length
 same-length c = search needs
 
+formula-of-requires : tie.Need-formula-of-requires
+formula-of-requires c κs = search needs
+
 returns : tie.Need-returns
 returns c =
-    let m = rw (c .before .before .before .before .before .before .before .before .before .before .before .before .before .m .given .1) at (c .before .before .before .before .before .before .before .before .before .before .before .before .before .before .before .before .before .before .before .measure .ensures) in
-    record { ready = hard-in _ _ m (c .before .before .before .before .before .before .before .before .before .before .before .stored-size .ensures) (sym (c .before .before .before .before .before .before .before .before .before .before .fits2 .ensures) ∙ c .before .before .before .before .before .before .before .before .before .if1 .taken) (c .before .before .before .write-hard .ensures) refl (omega (arith, c .before .before .before .before .before .before .before .before .before .before .before .before .before .before .before .before .before .before .before .before .before .before .before .before .before .before .before .before .before .before)) }
+    let m = rw (c .before .before .before .before .before .before .before .before .before .before .before .before .before .before .m .given .1) at (c .before .before .before .before .before .before .before .before .before .before .before .before .before .before .before .before .before .before .before .before .measure .ensures) in
+    prepared-same (c .formula-of .ensures) (record { ready = hard-in _ _ m (c .before .before .before .before .before .before .before .before .before .before .before .before .stored-size .ensures) (sym (c .before .before .before .before .before .before .before .before .before .before .before .fits2 .ensures) ∙ c .before .before .before .before .before .before .before .before .before .before .if1 .taken) (c .before .before .before .before .write-hard .ensures) refl (omega (arith, c .before .before .before .before .before .before .before .before .before .before .before .before .before .before .before .before .before .before .before .before .before .before .before .before .before .before .before .before .before .before .before)) })
 
 too-short-requires : tie.Need-too-short-requires
 too-short-requires c κs = search needs
@@ -101,6 +104,7 @@ fill-hard-spec =
     slice-aggregate-write-hard-3
     slice-aggregate-write-hard-4
     write-hard-requires
+    formula-of-requires
     same-length
     returns
     too-short-requires
