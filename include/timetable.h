@@ -1,10 +1,11 @@
 /*
  * The timetable engine, as C functions over the caller's memory.
  *
- * Link target/staticlib/libengine.a, which 'rt staticlib engine' writes
- * (x86-64 Linux). Each function is proved to do what its comment says for
- * input of any content and length: it never traps, never runs on, keeps
- * nothing between calls and allocates nothing.
+ * Link libtimetable (x86-64 Linux; 'make install' puts it where pkg-config
+ * finds it as 'timetable'). Each function is proved to do what its comment says
+ * for input of any content and length: it never traps, never runs on, keeps
+ * nothing between calls and allocates nothing. timetable.hpp has the same
+ * operations for C++.
  *
  * What every function answers. The result is 0 if the call is accepted, and
  * else the number of the first refusal below, in the order in which the
@@ -35,7 +36,14 @@
  * the pointer is good for that many elements. A pointer to an output is good
  * for one number. No pointer is null (that of an empty slice may be any other
  * pointer), each is aligned for its type, and an output overlaps neither an
- * input nor another output. The functions need 1 MiB of stack.
+ * input nor another output.
+ *
+ * Threads. Any number of threads may call at once, as long as no two lend the
+ * same output or store; inputs may be shared.
+ *
+ * Stacks. The functions need 1 MiB of stack. A first thread has more on every
+ * usual system, but further threads may have less unless they ask for it (128
+ * KiB with musl): see pthread_attr_setstacksize.
  */
 #ifndef TIMETABLE_H
 #define TIMETABLE_H
@@ -46,6 +54,47 @@
 #ifdef __cplusplus
 extern "C" {
 #endif
+
+/* The version of the library and of this header. */
+#define TIMETABLE_VERSION "0.1.0"
+
+/* The refusals by name. */
+enum timetable_refusal {
+    TIMETABLE_ACCEPTED = 0,
+    TIMETABLE_BAD_NUMBER = 1,
+    TIMETABLE_OUTSIDE_LIMIT = 2,
+    TIMETABLE_BAD_REFERENCE = 3,
+    TIMETABLE_LIST_TOO_LONG = 4,
+    TIMETABLE_BAD_BOUNDS = 5,
+    TIMETABLE_BYTES_LEFT = 6,
+    TIMETABLE_BOUND_TOO_HIGH = 7,
+    TIMETABLE_TOO_MANY_VARIABLES = 8,
+    TIMETABLE_TOO_SHORT = 9,
+    TIMETABLE_WRONG_LENGTH = 10,
+    TIMETABLE_ABOVE_ONE = 11,
+    TIMETABLE_NOT_A_TIMETABLE = 12,
+    TIMETABLE_CLAUSE_FALSE = 13,
+    TIMETABLE_BAD_STEP = 14,
+    TIMETABLE_NOT_LIVE = 15,
+    TIMETABLE_BAD_HINT = 16,
+    TIMETABLE_CLAUSE_TOO_LONG = 17,
+    TIMETABLE_BAD_END = 18
+};
+
+/* The limits of an instance. */
+#define TIMETABLE_MOST_TIMES 125
+#define TIMETABLE_MOST_EVENTS 1024
+#define TIMETABLE_MOST_RESOURCES 99
+#define TIMETABLE_MOST_GROUPS 1024
+#define TIMETABLE_MOST_CONSTRAINTS 4096
+#define TIMETABLE_LARGEST_WEIGHT 1000
+/* Of a constraint's lo and hi. */
+#define TIMETABLE_LARGEST_BOUND_OF_COUNT 255
+#define TIMETABLE_LONGEST_LIST 255
+
+/* The limits of a check's bound and of a formula. */
+#define TIMETABLE_LARGEST_BOUND 4095
+#define TIMETABLE_MOST_VARIABLES 8000000
 
 /*
  * Reads an instance file.
@@ -138,9 +187,9 @@ struct timetable_row {
  * Checks a proof that no timetable keeps the hard constraints at a cost of
  * bound or less.
  * The stores: a word for each literal, a row for each clause and a mark for
- * each variable. timetable_sizes says how many of each the formula needs;
- * each clause that the proof adds needs a row, and a word for each of its
- * literals. What the stores hold before the call does not matter; after it,
+ * each variable. timetable_sizes says how many of each the formula needs, and
+ * timetable_room what the proof adds: each of its clauses that is not empty
+ * needs a row, and a word for each of its literals. What the stores hold before the call does not matter; after it,
  * whatever it answers, every word, mark and field of a row is zero.
  * Refusals: 1 to 6 for the file, then 7, then 8, then 9 if a store is too short
  * for the formula, then 14 to 18 for the proof, step by step.
@@ -152,6 +201,56 @@ uint32_t timetable_check(const uint8_t *file, size_t file_length,
                          size_t words_length, struct timetable_row *rows,
                          size_t rows_length, uint8_t *marks,
                          size_t marks_length, uint64_t *value);
+
+/* The offset after the number at the offset at, whatever its form. */
+static inline size_t timetable_number_end(const uint8_t *proof,
+                                          size_t proof_length, size_t at)
+{
+    while (at < proof_length && proof[at] >= 0x80)
+        at++;
+    return at < proof_length ? at + 1 : at;
+}
+
+/*
+ * The offset after the list at the offset at; *members is how many numbers
+ * stand before the 0 that ends it.
+ */
+static inline size_t timetable_list_end(const uint8_t *proof,
+                                        size_t proof_length, size_t at,
+                                        size_t *members)
+{
+    *members = 0;
+    while (at < proof_length && proof[at] != 0) {
+        at = timetable_number_end(proof, proof_length, at);
+        ++*members;
+    }
+    return at < proof_length ? at + 1 : at;
+}
+
+/*
+ * What a proof adds to the stores: *words is how many literals its clauses
+ * have, and *rows how many of them are not empty, up to the first step that is
+ * misformed. A check with room for the formula and for these gives neither 9
+ * nor 17. One pass over the proof, in the caller's own code: a miscount here
+ * could earn 17, and no other answer.
+ */
+static inline void timetable_room(const uint8_t *proof, size_t proof_length,
+                                  size_t *words, size_t *rows)
+{
+    size_t at = 0;
+    *words = 0;
+    *rows = 0;
+    while (at < proof_length && (proof[at] == 'a' || proof[at] == 'd')) {
+        size_t literals = 0, hints;
+        if (proof[at++] == 'a') {
+            at = timetable_number_end(proof, proof_length, at);
+            at = timetable_list_end(proof, proof_length, at, &literals);
+        }
+        at = timetable_list_end(proof, proof_length, at, &hints);
+        *words += literals;
+        *rows += literals > 0;
+    }
+}
 
 #ifdef __cplusplus
 }

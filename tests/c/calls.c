@@ -2,6 +2,7 @@
 #include "timetable.h"
 
 #include <stdio.h>
+#include <stdlib.h>
 #include <string.h>
 
 /* One time, one event, an empty group, kind 3 at weight 4. */
@@ -218,6 +219,30 @@ static void checked(void)
     stores_are_zero();
 }
 
+/* What proofs add to the stores. */
+static void room_counted(void)
+{
+    /* (3) and (-1, 4 over two bytes); a deletion; the empty clause. */
+    static const uint8_t steps[] = {'a', 17, 6, 0, 5, 0, 'a', 0x92, 1, 3, 0x88, 1, 0, 4,
+                                    0, 'd', 5, 6, 0, 'a', 19, 0, 17, 4, 0};
+    size_t added_words = 99, added_rows = 99, length;
+    timetable_room(steps, sizeof steps, &added_words, &added_rows);
+    expect("words added", added_words, 3);
+    expect("rows added", added_rows, 2);
+    timetable_room(proof, sizeof proof, &added_words, &added_rows);
+    expect("words of an empty clause", added_words, 0);
+    expect("rows of an empty clause", added_rows, 0);
+    /* Nothing is read past the end, wherever a proof is cut. */
+    for (length = 0; length <= sizeof steps; length++) {
+        uint8_t *cut = (uint8_t *)malloc(length + 1);
+        memcpy(cut + 1, steps, length);
+        timetable_room(cut + 1, length, &added_words, &added_rows);
+        expect("words of a cut proof are few", added_words <= 3, 1);
+        expect("rows of a cut proof are few", added_rows <= 2, 1);
+        free(cut);
+    }
+}
+
 int main(void)
 {
     read_accepted();
@@ -231,6 +256,7 @@ int main(void)
     written();
     decoded();
     checked();
+    room_counted();
     if (failures == 0)
         puts("ok");
     return failures != 0;

@@ -19,7 +19,7 @@ use Rattle.scope.specs.declared.Infeasibility.{Infeasibility}
 use Rattle.scope.specs.declared.Objective.{Objective}
 use Rattle.laws.specs.Booleans.{impossible}
 use Rattle.theory.specs.Demands.{demand2, demand3}
-use Rattle.engine.specs.Call.{called}
+use Rattle.calls.specs.Call.{called}
 use Rattle.engine.specs.Operations.{decodeCall, decodedOf, Stores, lentBy, zeroed, checkCall}
 use Rattle.engine.specs.Numbers.{zero-accepted, decode-numbers, check-numbers}
 use Rattle.engine.specs.Numbers as numbers

@@ -7,7 +7,7 @@ use Rattle.scope.specs.declared.Objective.{Objective}
 use Rattle.scope.specs.declared.Refusal.{Refusal}
 use Rattle.model.specs.Answers.{EvaluatedAs}
 use Rattle.model.specs.declared.operations.Evaluation.{Evaluation}
-use Rattle.engine.specs.Call.{call, called}
+use Rattle.calls.specs.Call.{call, called}
 use Rattle.engine.specs.Operations.{decodeCall, decodedOf}
 
 module _ (file model : List ℕ) (before : ℕ) {e : Evaluation} (a : EvaluatedAs file model e) where

@@ -1,4 +1,3 @@
-pub mod Call
 pub mod Operations
 pub mod Within
 pub mod RunWithin

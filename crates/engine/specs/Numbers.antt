@@ -12,7 +12,7 @@ use Rattle.scope.specs.Score.{firstAbove}
 use Rattle.scope.specs.Formula.{variables, hardOf, boundedVariables, boundedHard, mostBound, mostVariables}
 use Rattle.scope.specs.Text.{text}
 use Rattle.scope.specs.Operations.{readOf, scoreOf, sameSheetOf, sizesOf, textSizeOf, textOf, decodeOf, lowestFalse, Lent, formulaFits, limitsOf, checkOf}
-use Rattle.engine.specs.Call.{called}
+use Rattle.calls.specs.Call.{called}
 use Rattle.engine.specs.Within.{oneOf, Within, accepts, refuses, Reader, on-file, given-if, given-for, Timetables, on-timetable}
 use Rattle.engine.specs.RunWithin.{Proofs, a-plain-run}
 

@@ -1,5 +1,4 @@
 -- What each call leaves behind, from its inputs and what stood in its outputs before.
-use mathlib.Core.Bool.{cond}
 use mathlib.Core.List.{List, _++_}
 use Prim.Native.Nat.{ℕ}
 use lib.ListN.{length, drop, replicate}
@@ -10,48 +9,28 @@ use Rattle.scope.specs.declared.Infeasibility.{Infeasibility}
 use Rattle.scope.specs.declared.Objective.{Objective}
 use Rattle.store.specs.declared.directory.Row.{Row}
 use Rattle.store.specs.Rows.{noRow}
-use Rattle.engine.specs.Call.{Call, called}
-
--- times, events, resources, groups and constraints
-abbrev pub Counts : Type 0
-Counts = ℕ × ℕ × ℕ × ℕ × ℕ
-
-abbrev pub countsOf : InstanceSize → Counts
-countsOf z = (z .times, z .events, z .resources, z .groups, z .constraints)
-
--- variables, clauses and words
-abbrev pub Sizes : Type 0
-Sizes = ℕ × ℕ × ℕ
-
-abbrev pub sizesOfFormula : FormulaSize → Sizes
-sizesOfFormula z = (z .variables, z .clauses, z .words)
-
--- infeasibility and objective
-abbrev pub Amounts : Type 0
-Amounts = ℕ × ℕ
-
-abbrev pub amountsOf : Infeasibility × Objective → Amounts
-amountsOf a = (a .0 .0, a .1 .0)
+use Rattle.calls.specs.Call.{Call, called}
+use Rattle.calls.specs.Outputs.{leavesAmounts, leavesCounts, leavesLength, leavesSameness, leavesSizes}
 
 -- reading: the counts are written, *value is kept
-abbrev pub readCall : List ℕ → ℕ → Counts → Call Counts
-readCall file value counts = called (readOf file) (λ z. (value, countsOf z)) counts
+abbrev pub readCall : List ℕ → ℕ → InstanceSize → Call InstanceSize
+readCall file value counts = leavesCounts (readOf file) value counts
 
 -- sizes: they are written, *value is kept
-abbrev pub sizesCall : List ℕ → ℕ → ℕ → Sizes → Call Sizes
-sizesCall file bound value sizes = called (sizesOf file bound) (λ z. (value, sizesOfFormula z)) sizes
+abbrev pub sizesCall : List ℕ → ℕ → ℕ → FormulaSize → Call FormulaSize
+sizesCall file bound value sizes = leavesSizes (sizesOf file bound) value sizes
 
 -- scoring: the amounts are written, *value is kept
-abbrev pub scoreCall : List ℕ → List ℕ → ℕ → Amounts → Call Amounts
-scoreCall file table value amounts = called (scoreOf file table) (λ a. (value, amountsOf a)) amounts
+abbrev pub scoreCall : List ℕ → List ℕ → ℕ → Infeasibility × Objective → Call (Infeasibility × Objective)
+scoreCall file table value before = leavesAmounts (scoreOf file table) value before
 
 -- the same sheet: *value is 1 if they are, and 0 if not
 abbrev pub sameSheetCall : List ℕ → List ℕ → List ℕ → Call Unit
-sameSheetCall file first second = called (sameSheetOf file first second) (λ same. (cond same 1 0, tt)) tt
+sameSheetCall file first second = leavesSameness (sameSheetOf file first second)
 
 -- the text's size: it is written, *value is kept
 abbrev pub textSizeCall : List ℕ → ℕ → ℕ → Call ℕ
-textSizeCall file value bytes = called (textSizeOf file) (λ n. (value, n)) bytes
+textSizeCall file value bytes = leavesLength (textSizeOf file) value bytes
 
 -- the text: *value is its length, and it stands at the front of the output, whose other bytes are kept
 abbrev pub textCall : List ℕ → List ℕ → Call (List ℕ)

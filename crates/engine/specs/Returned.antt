@@ -11,8 +11,17 @@ use Rattle.scope.specs.declared.TextAnswer.{TextAnswer}
 use Rattle.scope.specs.declared.CheckAnswer.{CheckAnswer}
 use Rattle.store.specs.declared.directory.Row.{Row}
 use Rattle.text.specs.Written.{written}
-use Rattle.engine.specs.Call.{Call, call, called, leaving, alone}
+use Rattle.calls.specs.Call.{Call, call, called, leaving, alone}
 use Rattle.engine.specs.Operations.{textCall, Stores, lentBy, zeros, zeroRows, zeroed, checkCall}
+
+-- the number and the value of an answer, and other outputs beside them
+with-outputs : {B : Type 0} (a : Answer ℕ) (outputs : B) {number value : ℕ} → call number value tt ≡ alone a
+    → call number value outputs ≡ leaving a outputs
+with-outputs a outputs e = ap (λ (c : Call Unit). call (c .number) (c .value) outputs) e ∙ go a
+  where
+    go : (a : Answer ℕ) → call (alone a .number) (alone a .value) outputs ≡ leaving a outputs
+    go (answered n) = refl
+    go (refusal k v) = refl
 
 -- the text: its length or a refusal, and the output
 written-leaves : (a : Answer (List ℕ)) (out : List ℕ)
@@ -24,34 +33,14 @@ module _ (file out : List ℕ) (x : TextAnswer) {after : List ℕ} (e : (textMea
   text-leaves : leaving (textMeans x) after ≡ textCall file out
   text-leaves = ap (λ r. leaving (r .0) (r .1)) e ∙ written-leaves (textOf file (length out)) out
 
-  pub text-written : {n : ℕ} → x ≡ TextAnswer.Bytes n → call 0 n after ≡ textCall file out
-  text-written t = rw t at text-leaves
-
-  pub text-refused : {f : Refusal} → x ≡ TextAnswer.Refused f
-      → call (f .number) (f .value) after ≡ textCall file out
-  text-refused t = rw t at text-leaves
+  pub text-told : {number value : ℕ} → call number value tt ≡ alone (textMeans x)
+      → call number value after ≡ textCall file out
+  text-told t = with-outputs (textMeans x) after t ∙ text-leaves
 
 -- the check: its steps or a refusal, and zeros in the stores
 zeroed-leaves : (a : Answer ℕ) (s : Stores) → leaving a (zeroed s) ≡ called a (λ steps. (steps, zeroed s)) (zeroed s)
 zeroed-leaves (answered n) s = refl
 zeroed-leaves (refusal k v) s = refl
-
--- the number and the value of an answer
-module _ {x : CheckAnswer} where
-  pub told-shown : {n : ℕ} → x ≡ CheckAnswer.NoTimetable n → call 0 n tt ≡ alone (checkMeans x)
-  told-shown t = rw t refl
-
-  pub told-refused : {f : Refusal} → x ≡ CheckAnswer.Refused f → call (f .number) (f .value) tt ≡ alone (checkMeans x)
-  told-refused t = rw t refl
-
--- and other outputs beside them
-with-outputs : {B : Type 0} (a : Answer ℕ) (outputs : B) {number value : ℕ} → call number value tt ≡ alone a
-    → call number value outputs ≡ leaving a outputs
-with-outputs a outputs e = ap (λ (c : Call Unit). call (c .number) (c .value) outputs) e ∙ go a
-  where
-    go : (a : Answer ℕ) → call (alone a .number) (alone a .value) outputs ≡ leaving a outputs
-    go (answered n) = refl
-    go (refusal k v) = refl
 
 module _ (file : List ℕ) (B : ℕ) (proof ws : List ℕ) (rs : List Row) (ms : List ℕ) (x : CheckAnswer) {words : List ℕ} {rows : List Row} {marks : List ℕ}
     (e : checkMeans x ≡ checkOf file B proof (lentBy (ws, rs, ms))) (w : words ≡ zeros ws) (r : rows ≡ zeroRows rs) (m : marks ≡ zeros ms) where

@@ -4,17 +4,18 @@
 // equation: what the call leaves (the number returned, *value and every other output) is what specs/Operations.antt says of
 // the operation's answer by the definitions. An input is lent as `&`, so it keeps every byte. None asks anything of its caller
 // but good pointers. specs/Numbers.antt shows that 0 is returned for an accepted call alone.
+use calls::leave_amounts;
+use calls::leave_counts;
+use calls::leave_length;
+use calls::leave_sameness;
+use calls::leave_sizes;
+use calls::leave_steps;
+use calls::leave_written;
+use calls::refuse;
 use checker::check;
 use instance::read_instance;
 use model::Evaluation;
 use model::evaluate;
-use scope::CheckAnswer;
-use scope::ReadAnswer;
-use scope::Refusal;
-use scope::ScoreAnswer;
-use scope::SheetAnswer;
-use scope::SizesAnswer;
-use scope::TextAnswer;
 use sheet::same_sheet;
 use sheet::score;
 use sizes::sizes;
@@ -22,17 +23,9 @@ use store::directory::Row;
 use text::text;
 use text::text_size;
 ghost use mathlib.Core.Path.{_≡_};
-ghost use Rattle.scope.specs.Answers.{checkMeans};
-ghost use Rattle.engine.specs.Call.{alone, call};
+ghost use Rattle.calls.specs.Call.{call};
+ghost use Rattle.calls.specs.Outputs.{amounts, formulaSize, instanceSize};
 ghost use Rattle.engine.specs.Operations.{checkCall, decodeCall, readCall, sameSheetCall, scoreCall, sizesCall, textCall, textSizeCall};
-
-// A refusal: its value goes to *value, its number is returned.
-fn refuse(f: Refusal, value: &mut u64) -> u32
-    ensures { λ r. ⌜ (r ≡ f .number) × (now (value .exit) ≡ f .value) ⌝ }
-{
-    *value = f.value;
-    f.number as u32
-}
 
 // Reads an instance file: how much it holds, or 1 to 6.
 #[no_mangle]
@@ -46,22 +39,12 @@ pub extern "C" fn timetable_read(
     value: &mut u64,
 ) -> u32
     ensures { λ r. ⌜ call r (now (value .exit))
-        (now (times .exit), now (events .exit), now (resources .exit), now (groups .exit), now (constraints .exit))
+        (instanceSize (now (times .exit)) (now (events .exit)) (now (resources .exit)) (now (groups .exit)) (now (constraints .exit)))
         ≡ readCall (now (file .entry)) (now (value .entry))
-        (now (times .entry), now (events .entry), now (resources .entry), now (groups .entry), now (constraints .entry)) ⌝ }
+        (instanceSize (now (times .entry)) (now (events .entry)) (now (resources .entry)) (now (groups .entry)) (now (constraints .entry))) ⌝ }
 {
     let answer = read_instance(file);
-    match answer {
-        ReadAnswer::Refused(f) => refuse(f, value),
-        ReadAnswer::Accepted(z) => {
-            *times = z.times as u64;
-            *events = z.events as u64;
-            *resources = z.resources as u64;
-            *groups = z.groups as u64;
-            *constraints = z.constraints as u64;
-            0
-        }
-    }
+    leave_counts(answer, times, events, resources, groups, constraints, value)
 }
 
 // What stores the hard clauses and the tail for a bound need, or 1 to 8.
@@ -74,20 +57,12 @@ pub extern "C" fn timetable_sizes(
     words: &mut u64,
     value: &mut u64,
 ) -> u32
-    ensures { λ r. ⌜ call r (now (value .exit)) (now (variables .exit), now (clauses .exit), now (words .exit))
+    ensures { λ r. ⌜ call r (now (value .exit)) (formulaSize (now (variables .exit)) (now (clauses .exit)) (now (words .exit)))
         ≡ sizesCall (now (file .entry)) bound (now (value .entry))
-        (now (variables .entry), now (clauses .entry), now (words .entry)) ⌝ }
+        (formulaSize (now (variables .entry)) (now (clauses .entry)) (now (words .entry))) ⌝ }
 {
     let answer = sizes(file, bound);
-    match answer {
-        SizesAnswer::Refused(f) => refuse(f, value),
-        SizesAnswer::Sizes(z) => {
-            *variables = z.variables;
-            *clauses = z.clauses;
-            *words = z.words;
-            0
-        }
-    }
+    leave_sizes(answer, variables, clauses, words, value)
 }
 
 // The infeasibility and the objective of a timetable, or 1 to 6, 10 to 12.
@@ -99,19 +74,12 @@ pub extern "C" fn timetable_score(
     objective: &mut u64,
     value: &mut u64,
 ) -> u32
-    ensures { λ r. ⌜ call r (now (value .exit)) (now (infeasibility .exit), now (objective .exit))
+    ensures { λ r. ⌜ call r (now (value .exit)) (amounts (now (infeasibility .exit)) (now (objective .exit)))
         ≡ scoreCall (now (file .entry)) (now (table .entry)) (now (value .entry))
-        (now (infeasibility .entry), now (objective .entry)) ⌝ }
+        (amounts (now (infeasibility .entry)) (now (objective .entry))) ⌝ }
 {
     let answer = score(file, table);
-    match answer {
-        ScoreAnswer::Refused(f) => refuse(f, value),
-        ScoreAnswer::Scored(i, o) => {
-            *infeasibility = i.0;
-            *objective = o.0;
-            0
-        }
-    }
+    leave_amounts(answer, infeasibility, objective, value)
 }
 
 // Whether two timetables are the same sheet, 1 or 0 in *value, or 1 to 6, 10 to 12.
@@ -126,17 +94,7 @@ pub extern "C" fn timetable_same_sheet(
         ≡ sameSheetCall (now (file .entry)) (now (first .entry)) (now (second .entry)) ⌝ }
 {
     let answer = same_sheet(file, first, second);
-    match answer {
-        SheetAnswer::Refused(f) => refuse(f, value),
-        SheetAnswer::Same => {
-            *value = 1;
-            0
-        }
-        SheetAnswer::Different => {
-            *value = 0;
-            0
-        }
-    }
+    leave_sameness(answer, value)
 }
 
 // The length of the clauses as text, or 1 to 6, 8.
@@ -146,13 +104,7 @@ pub extern "C" fn timetable_text_size(file: &[u8], bytes: &mut u64, value: &mut 
         ≡ textSizeCall (now (file .entry)) (now (value .entry)) (now (bytes .entry)) ⌝ }
 {
     let answer = text_size(file);
-    match answer {
-        TextAnswer::Refused(f) => refuse(f, value),
-        TextAnswer::Bytes(n) => {
-            *bytes = n;
-            0
-        }
-    }
+    leave_length(answer, bytes, value)
 }
 
 // The clauses as text at the front of out, their length in *value; or 1 to 6, 8, 9.
@@ -161,13 +113,7 @@ pub extern "C" fn timetable_text(file: &[u8], out: &mut [u8], value: &mut u64) -
     ensures { λ r. ⌜ call r (now (value .exit)) (now (out .exit)) ≡ textCall (now (file .entry)) (now (out .entry)) ⌝ }
 {
     let answer = text(file, out);
-    match answer {
-        TextAnswer::Refused(f) => refuse(f, value),
-        TextAnswer::Bytes(length) => {
-            *value = length;
-            0
-        }
-    }
+    leave_written(answer, value)
 }
 
 // How many bytes of a model, from its first, are the timetable, in *value, and its cost; or 1 to 6, 8, 10, 11, 13.
@@ -192,19 +138,6 @@ pub extern "C" fn timetable_decode(
     }
 }
 
-// What a check answers: the number of steps or a refusal's value goes to *value, and its number is returned.
-fn told(answer: CheckAnswer, value: &mut u64) -> u32
-    ensures { λ r. ⌜ call r (now (value .exit)) tt ≡ alone (checkMeans answer) ⌝ }
-{
-    match answer {
-        CheckAnswer::Refused(f) => refuse(f, value),
-        CheckAnswer::NoTimetable(steps) => {
-            *value = steps;
-            0
-        }
-    }
-}
-
 // "No timetable", with the number of steps in *value; or 1 to 9, 14 to 18. The stores are zero afterwards.
 #[no_mangle]
 pub extern "C" fn timetable_check(
@@ -221,5 +154,5 @@ pub extern "C" fn timetable_check(
         (now (words .entry), now (rows .entry), now (marks .entry)) ⌝ }
 {
     let answer = check(file, bound, proof, words, rows, marks);
-    told(answer, value)
+    leave_steps(answer, value)
 }

@@ -1,4 +1,4 @@
--- `timetable_check` meets its contract: a walk of its MIR by hand, a call of `check`, to which the stores are lent, and a call of `told`, to which value is lent.
+-- `timetable_check` meets its contract: a walk of its MIR by hand, a call of `check`, to which the stores are lent, and a call of `leave_steps`, to which value is lent.
 use mathlib.Core.Path.{_≡_, refl}
 use mathlib.Core.List.{List, [], _∷_}
 use mathlib.Core.Option.{some}
@@ -53,13 +53,13 @@ use Rattle.checker.proofs.check as check
 use Rattle.checker.proofs.check.Symbol as check-def
 use Rattle.checker.proofs.check.Symbol.{name as #check}
 use Rattle.checker.proofs.check.Met as check-thm
-use Rattle.engine.specs.Call.{alone, call}
+use Rattle.calls.specs.Call.{alone, call}
 use Rattle.engine.specs.Operations.{lentBy, zeros, zeroRows, checkCall}
 use Rattle.engine.specs.Returned.{check-told}
-use Rattle.engine.proofs.told as told
-use Rattle.engine.proofs.told.Symbol as told-def
-use Rattle.engine.proofs.told.Symbol.{name as #told}
-use Rattle.engine.proofs.told.Met as told-thm
+use Rattle.calls.proofs.leave_steps as told
+use Rattle.calls.proofs.leave_steps.Symbol as told-def
+use Rattle.calls.proofs.leave_steps.Symbol.{name as #told}
+use Rattle.calls.proofs.leave_steps.Met as told-thm
 use Rattle.engine.proofs.timetable_check.Key.{name as #timetable-check}
 use Rattle.engine.proofs.timetable_check as f
 use Rattle.engine.proofs.timetable_check.Statement as stated
@@ -247,5 +247,5 @@ timetable-check-spec 𝓤 H 𝓜 𝓖 𝓡 =
     (meets 𝓤 H (𝓖 .A) (givenOf 𝓤 H 𝓜 𝓖) (𝓜 .mem) (𝓡 .run) (tablesOf 𝓤 H 𝓜 (tables 𝓤 H 𝓜 𝓡 code.env))
     (record {
       check = cited 𝓤 H (check-to 𝓤 H (𝓖 .A) (𝓜 .mem) (𝓡 .run)) 𝓜 𝓡 code.env #check check-def.routine code.calls-checker·check (check-thm.met 𝓤 H 𝓜 𝓖 𝓡);
-      told = cited 𝓤 H (told-to 𝓤 H (𝓖 .A) (𝓜 .mem) (𝓡 .run)) 𝓜 𝓡 code.env #told told-def.routine code.calls-engine·told (told-thm.met 𝓤 H 𝓜 𝓖 𝓡);
+      told = cited 𝓤 H (told-to 𝓤 H (𝓖 .A) (𝓜 .mem) (𝓡 .run)) 𝓜 𝓡 code.env #told told-def.routine code.calls-calls·leave-steps (told-thm.met 𝓤 H 𝓜 𝓖 𝓡);
     }))

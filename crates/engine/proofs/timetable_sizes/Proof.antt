@@ -1,4 +1,4 @@
--- `engine::timetable_sizes` meets its contract: a case for each answer.
+-- `timetable_sizes` meets its contract: the operation's answer, and what it leaves.
 use borrow.Author.Needs.{needs}
 use Rattle.engine.proofs.timetable_sizes.Statement.{statement}
 use Rattle.engine.proofs.timetable_sizes.Tie as tie
@@ -6,34 +6,11 @@ use Rattle.engine.proofs.timetable_sizes.Tie as tie
 sizes-requires : tie.Need-sizes-requires
 sizes-requires c κs = search needs
 
-enum-known-answer : tie.Need-enum-known-answer
-enum-known-answer c = search needs
-
-refuse-requires : tie.Need-refuse-requires
-refuse-requires c κs = search needs
-
-enum-known-answer-2 : tie.Need-enum-known-answer-2
-enum-known-answer-2 c = search needs
+leave-sizes-requires : tie.Need-leave-sizes-requires
+leave-sizes-requires c κs = search needs
 
 returns : tie.Need-returns
-returns c =
-    rw (
-      ← (c .before .before .before .before .before .sizes .ensures),
-      c .before .before .before .answer .given .1,
-      c .refuse .ensures .0,
-      c .refuse .ensures .1,
-    )
-
-returns-2 : tie.Need-returns-2
-returns-2 c = rw (← (c .before .before .before .sizes .ensures), c .before .answer2 .given .1)
+returns c = rw (← (c .before .before .before .before .before .sizes .ensures)) (c .leave-sizes .ensures)
 
 pub timetable-sizes-spec : {M : Type 1} → statement M
-timetable-sizes-spec =
-    tie.close
-    (tie.spec
-    sizes-requires
-    enum-known-answer
-    refuse-requires
-    enum-known-answer-2
-    returns
-    returns-2)
+timetable-sizes-spec = tie.close (tie.spec sizes-requires leave-sizes-requires returns)

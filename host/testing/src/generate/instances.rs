@@ -1,0 +1,185 @@
+//! Random instances of a given size.
+
+use super::file::encode;
+use super::random::Random;
+use super::timetables::timetable;
+use crate::reference::{
+    score, Constraint, Event, Infeasibility, Instance, Kind, Range, LARGEST_HI, LONGEST_LIST,
+};
+use std::ops::RangeInclusive;
+
+/// The size of generated instances.
+#[derive(Clone, Debug)]
+pub struct Shape {
+    pub times: RangeInclusive<usize>,
+    pub events: RangeInclusive<usize>,
+    pub resources: RangeInclusive<usize>,
+    pub groups: RangeInclusive<usize>,
+    pub constraints: RangeInclusive<usize>,
+    /// How many of 100 constraints are soft.
+    pub soft: usize,
+    pub largest_weight: usize,
+    /// Hard constraints are drawn so that one random timetable keeps them all.
+    pub feasible: bool,
+}
+
+impl Shape {
+    /// A few hundred variables at most.
+    pub fn tiny() -> Shape {
+        Shape {
+            times: 1..=3,
+            events: 1..=2,
+            resources: 0..=2,
+            groups: 0..=3,
+            constraints: 0..=4,
+            soft: 60,
+            largest_weight: 4,
+            feasible: false,
+        }
+    }
+
+    /// Some thousand variables.
+    pub fn small() -> Shape {
+        Shape {
+            times: 2..=9,
+            events: 1..=8,
+            resources: 0..=5,
+            groups: 0..=6,
+            constraints: 0..=20,
+            soft: 50,
+            largest_weight: 1_000,
+            feasible: false,
+        }
+    }
+
+    /// The size of a school: some hundred thousand variables.
+    pub fn school() -> Shape {
+        Shape {
+            times: 25..=40,
+            events: 30..=60,
+            resources: 10..=20,
+            groups: 10..=20,
+            constraints: 150..=250,
+            soft: 60,
+            largest_weight: 20,
+            feasible: true,
+        }
+    }
+}
+
+/// A random instance that the reader accepts.
+pub fn instance(random: &mut Random, shape: &Shape) -> Instance {
+    let times = random.within(&shape.times);
+    let resources = random.within(&shape.resources);
+    let mut instance = Instance {
+        times,
+        resources,
+        events: Vec::new(),
+        groups: Vec::new(),
+        constraints: Vec::new(),
+    };
+    for _ in 0..random.within(&shape.events) {
+        let duration = 1 + random.below(times);
+        instance.events.push(Event {
+            duration: duration.min(1 + random.below(times)),
+            resources: random.subset(resources),
+        });
+    }
+    for _ in 0..random.within(&shape.groups) {
+        let group = random.subset(times);
+        instance.groups.push(group);
+    }
+    let table = timetable(random, &instance);
+    let mut constraints = Vec::new();
+    for _ in 0..random.within(&shape.constraints) {
+        constraints.extend(constraint(random, shape, &mut instance, &table));
+    }
+    instance.constraints = constraints;
+    instance
+}
+
+/// A random constraint on `instance`, which has none; none if no try fits.
+fn constraint(
+    random: &mut Random,
+    shape: &Shape,
+    instance: &mut Instance,
+    table: &[u8],
+) -> Option<Constraint> {
+    for _ in 0..20 {
+        let Some(kind) = kind(random, instance) else {
+            continue;
+        };
+        let weight = match random.chance(shape.soft) {
+            true => 1 + random.below(shape.largest_weight) as u32,
+            false => 0,
+        };
+        let constraint = Constraint { weight, kind };
+        if weight > 0 || !shape.feasible {
+            return Some(constraint);
+        }
+        instance.constraints.push(constraint);
+        let kept = score(&encode(instance), table).map(|score| score.infeasibility);
+        let constraint = instance.constraints.pop();
+        if kept == Ok(Infeasibility(0)) {
+            return constraint;
+        }
+    }
+    None
+}
+
+/// A random kind with its fields; none if what it refers to does not exist or
+/// its list is too long.
+fn kind(random: &mut Random, instance: &Instance) -> Option<Kind> {
+    let code = 1 + random.below(8);
+    let no_resource = instance.resources == 0 && ![3, 4, 5].contains(&code);
+    let no_group = instance.groups.is_empty() && [2, 3, 5, 6].contains(&code);
+    if no_resource || no_group {
+        return None;
+    }
+    let resource = random.below(instance.resources.max(1));
+    let event = random.below(instance.events.len());
+    let group = random.below(instance.groups.len().max(1));
+    let groups = random.subset(instance.groups.len());
+    let events = random.subset(instance.events.len());
+    let with_range = |range: Range| match code {
+        1 => Kind::Clash { resource },
+        2 => Kind::Unavailable { resource, group },
+        3 => Kind::PreferredTimes { event, group },
+        4 => Kind::Split { event, range },
+        5 => Kind::Spread {
+            events: events.clone(),
+            group,
+            range,
+        },
+        6 => Kind::BusyLimit {
+            resource,
+            group,
+            range,
+        },
+        7 => Kind::Cluster {
+            resource,
+            groups: groups.clone(),
+            range,
+        },
+        _ => Kind::Idle {
+            resource,
+            groups: groups.clone(),
+            range,
+        },
+    };
+    let length = instance.list_length(&with_range(Range { lo: 0, hi: 0 }));
+    if length > LONGEST_LIST {
+        return None;
+    }
+    let lo = random.below(length + 1);
+    let lo = lo.min(random.below(length + 1));
+    let hi = match random.below(10) {
+        0 => LARGEST_HI as usize,
+        1 => lo,
+        _ => (lo + random.below(length + 2)).min(LARGEST_HI as usize),
+    };
+    Some(with_range(Range {
+        lo: lo as u32,
+        hi: hi as u32,
+    }))
+}

@@ -1,0 +1,22 @@
+//! Seeded generators of test inputs: instance files, timetables, models and
+//! proofs, valid and damaged. Equal seeds give equal inputs.
+
+mod damage;
+mod file;
+mod instances;
+mod models;
+mod planned;
+mod proofs;
+mod random;
+mod school;
+mod timetables;
+
+pub use damage::{damaged_bytes, damaged_instance, damaged_numbers, damaged_table, number_starts};
+pub use file::encode;
+pub use instances::{instance, Shape};
+pub use models::{model, model_with_tail};
+pub use planned::{planned_school, Plan};
+pub use proofs::{lent, proof};
+pub use random::Random;
+pub use school::school;
+pub use timetables::timetable;

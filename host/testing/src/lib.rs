@@ -1,0 +1,8 @@
+//! What only tests need: a reference implementation of the engine's operations
+//! that shares no code with the engine, generators of inputs, and a small prover.
+
+pub mod forgeries;
+pub mod generate;
+pub mod prover;
+pub mod reference;
+pub mod steps;

@@ -1,0 +1,569 @@
+//! The formula: hard clauses, soft units and the tail for a bound.
+//!
+//! `walk` and `walk_with_tail` hand every clause to a `Sink`, in order of ids.
+//! `Sizes` counts the same clauses by arithmetic, so that an oversized formula
+//! is refused at once.
+
+use super::instance::{Instance, Kind, Range};
+use super::refusal::refuse;
+use std::ops::Not;
+use timetable::engine::{FormulaSize, Refusal};
+
+pub const LARGEST_BOUND: u64 = 4_095;
+pub const LARGEST_FORMULA: u64 = 8_000_000;
+
+/// A variable or its negation, held as its code in proofs: 2v or 2v + 1.
+#[derive(Clone, Copy, Debug, PartialEq, Eq, PartialOrd, Ord, Hash)]
+pub struct Literal(u32);
+
+impl Literal {
+    pub fn positive(variable: u32) -> Literal {
+        Literal(2 * variable)
+    }
+
+    /// The literal with this code. Codes 0 and 1 are no literals.
+    pub fn from_code(code: u32) -> Option<Literal> {
+        (code >= 2).then_some(Literal(code))
+    }
+
+    pub fn code(self) -> u32 {
+        self.0
+    }
+
+    /// The variable of this literal, from 1.
+    pub fn variable(self) -> u32 {
+        self.0 / 2
+    }
+
+    pub fn is_negated(self) -> bool {
+        self.0 % 2 == 1
+    }
+}
+
+impl Not for Literal {
+    type Output = Literal;
+
+    fn not(self) -> Literal {
+        Literal(self.0 ^ 1)
+    }
+}
+
+/// A consumer of the formula. Literals stand by ascending variable.
+pub trait Sink {
+    fn hard(&mut self, clause: &[Literal]);
+    fn soft(&mut self, weight: u32, unit: Literal);
+}
+
+/// Hands over hard clauses and soft units without the tail. The sizes must
+/// have been checked.
+pub fn walk<S: Sink>(instance: &Instance, sink: &mut S) {
+    Writer::new(sink).formula(instance);
+}
+
+/// Hands over hard clauses and soft units, then the tail for `bound`. The
+/// sizes must have been checked.
+pub fn walk_with_tail<S: Sink>(instance: &Instance, bound: u64, sink: &mut S) {
+    let mut units = Units {
+        sink,
+        units: Vec::new(),
+    };
+    let mut writer = Writer::new(&mut units);
+    writer.formula(instance);
+    let last = writer.last;
+    let Units { sink, units } = units;
+    let mut writer = Writer { sink, last };
+    writer.tail(&units, bound);
+}
+
+/// A sink that passes everything on and keeps the soft units for the tail.
+struct Units<'a, S> {
+    sink: &'a mut S,
+    units: Vec<(Literal, u32)>,
+}
+
+impl<S: Sink> Sink for Units<'_, S> {
+    fn hard(&mut self, clause: &[Literal]) {
+        self.sink.hard(clause);
+    }
+
+    fn soft(&mut self, weight: u32, unit: Literal) {
+        self.units.push((unit, weight));
+        self.sink.soft(weight, unit);
+    }
+}
+
+/// How the units of a counted list treat counts below lo.
+#[derive(Clone, Copy, PartialEq, Eq)]
+enum Low {
+    Counted,
+    /// Kind 6: count 0 deviates by 0.
+    UnlessZero,
+}
+
+impl Low {
+    fn of(kind: &Kind) -> Low {
+        match kind {
+            Kind::BusyLimit { .. } => Low::UnlessZero,
+            _ => Low::Counted,
+        }
+    }
+}
+
+struct Writer<'a, S> {
+    sink: &'a mut S,
+    /// The last variable in use.
+    last: u32,
+}
+
+impl<'a, S: Sink> Writer<'a, S> {
+    fn new(sink: &'a mut S) -> Self {
+        Writer { sink, last: 0 }
+    }
+
+    /// The first of `count` new variables.
+    fn fresh(&mut self, count: u32) -> u32 {
+        let first = self.last + 1;
+        self.last += count;
+        first
+    }
+
+    fn formula(&mut self, instance: &Instance) {
+        let variables = Variables {
+            times: instance.times,
+            events: instance.events.len(),
+        };
+        self.fresh((2 * instance.events.len() * instance.times) as u32);
+        self.starts(instance, &variables);
+        self.uses(instance, &variables);
+        self.durations(instance, &variables);
+        for constraint in &instance.constraints {
+            self.constraint(instance, &variables, constraint.weight, &constraint.kind);
+        }
+    }
+
+    /// A start is taken; a taken time after a time not taken is a start.
+    fn starts(&mut self, instance: &Instance, variables: &Variables) {
+        for event in 0..instance.events.len() {
+            for time in 0..instance.times {
+                let y = variables.y(event, time);
+                let s = variables.s(event, time);
+                self.sink.hard(&[y, !s]);
+                if time == 0 {
+                    self.sink.hard(&[!y, s]);
+                } else {
+                    self.sink.hard(&[variables.y(event, time - 1), !y, s]);
+                }
+            }
+        }
+    }
+
+    /// X(r, t) is the OR of Y of the events of r.
+    fn uses(&mut self, instance: &Instance, variables: &Variables) {
+        for resource in 0..instance.resources {
+            let events = instance.events_of(resource);
+            for time in 0..instance.times {
+                let list: Vec<Literal> = events.iter().map(|&e| variables.y(e, time)).collect();
+                let x = self.or_gate(&list);
+                debug_assert!(x == variables.x(resource, time));
+            }
+        }
+    }
+
+    fn durations(&mut self, instance: &Instance, variables: &Variables) {
+        for (event, fields) in instance.events.iter().enumerate() {
+            let list: Vec<Literal> = (0..instance.times)
+                .map(|time| variables.y(event, time))
+                .collect();
+            let duration = fields.duration as u32;
+            let range = Range {
+                lo: duration,
+                hi: duration,
+            };
+            self.counted(&list, range, 0, Low::Counted);
+        }
+    }
+
+    fn constraint(&mut self, instance: &Instance, variables: &Variables, weight: u32, kind: &Kind) {
+        let members = |group: &usize| &instance.groups[*group];
+        let x_in = |resource: &usize, group: &usize| -> Vec<Literal> {
+            let times = members(group).iter();
+            times.map(|&time| variables.x(*resource, time)).collect()
+        };
+        let list: Vec<Literal> = match kind {
+            Kind::Clash { resource } => {
+                let events = instance.events_of(*resource);
+                for time in 0..instance.times {
+                    let list: Vec<Literal> = events.iter().map(|&e| variables.y(e, time)).collect();
+                    self.counted(&list, kind.range(), weight, Low::Counted);
+                }
+                return;
+            }
+            Kind::Unavailable { resource, group }
+            | Kind::BusyLimit {
+                resource, group, ..
+            } => x_in(resource, group),
+            Kind::PreferredTimes { event, group } => (0..instance.times)
+                .filter(|time| members(group).binary_search(time).is_err())
+                .map(|time| variables.y(*event, time))
+                .collect(),
+            Kind::Split { event, .. } => (0..instance.times)
+                .map(|time| variables.s(*event, time))
+                .collect(),
+            Kind::Spread { events, group, .. } => {
+                let starts = |&event| members(group).iter().map(move |&t| variables.s(event, t));
+                events.iter().flat_map(starts).collect()
+            }
+            Kind::Cluster {
+                resource, groups, ..
+            } => groups
+                .iter()
+                .map(|group| self.or_gate(&x_in(resource, group)))
+                .collect(),
+            Kind::Idle {
+                resource, groups, ..
+            } => {
+                let mut idle = Vec::new();
+                for group in groups {
+                    let x = x_in(resource, group);
+                    for member in 1..x.len().saturating_sub(1) {
+                        idle.push(self.idle_gate(&x, member));
+                    }
+                }
+                idle
+            }
+        };
+        self.counted(&list, kind.range(), weight, Low::of(kind));
+    }
+
+    /// A new variable that is the OR of `list`.
+    fn or_gate(&mut self, list: &[Literal]) -> Literal {
+        let o = Literal::positive(self.fresh(1));
+        for &l in list {
+            self.sink.hard(&[!l, o]);
+        }
+        let mut clause = Vec::with_capacity(list.len() + 1);
+        clause.extend_from_slice(list);
+        clause.push(!o);
+        self.sink.hard(&clause);
+        o
+    }
+
+    /// A new variable that is true if `member` is idle among the members `x`.
+    fn idle_gate(&mut self, x: &[Literal], member: usize) -> Literal {
+        let g = self.or_gate(&x[..member]);
+        let h = self.or_gate(&x[member + 1..]);
+        let i = Literal::positive(self.fresh(1));
+        let x = x[member];
+        self.sink.hard(&[!x, !i]);
+        self.sink.hard(&[g, !i]);
+        self.sink.hard(&[h, !i]);
+        self.sink.hard(&[x, !g, !h, i]);
+        i
+    }
+
+    /// A counter over `inputs`, literals with weights. Gives the variable
+    /// before c(n, 1). The inputs' variables are below the counter's.
+    fn counter(&mut self, inputs: impl Iterator<Item = (Literal, u32)>, columns: u32) -> u32 {
+        let mut above = None;
+        for (x, weight) in inputs {
+            let row = self.fresh(columns) - 1;
+            for j in 1..=columns {
+                let c = Literal::positive(row + j);
+                // In row 1, a is false, and b is false unless j ≤ weight;
+                // b is true where j ≤ weight.
+                match above {
+                    None if j <= weight => {
+                        self.sink.hard(&[!x, c]);
+                        self.sink.hard(&[x, !c]);
+                    }
+                    None => {
+                        self.sink.hard(&[x, !c]);
+                        self.sink.hard(&[!c]);
+                    }
+                    Some(above) if j <= weight => {
+                        let a = Literal::positive(above + j);
+                        self.sink.hard(&[!a, c]);
+                        self.sink.hard(&[!x, c]);
+                        self.sink.hard(&[x, a, !c]);
+                    }
+                    Some(above) => {
+                        let a = Literal::positive(above + j);
+                        let b = Literal::positive(above + j - weight);
+                        self.sink.hard(&[!a, c]);
+                        self.sink.hard(&[!x, !b, c]);
+                        self.sink.hard(&[x, a, !c]);
+                        self.sink.hard(&[b, a, !c]);
+                    }
+                }
+            }
+            above = Some(row);
+        }
+        above.unwrap_or(0)
+    }
+
+    /// A counted list: its counter, then its units.
+    fn counted(&mut self, list: &[Literal], range: Range, weight: u32, low: Low) {
+        let n = list.len() as u32;
+        let (lo, hi) = (range.lo, range.hi.min(n));
+        let hard = weight == 0;
+        let columns = if hard { n.min(hi + 1) } else { n };
+        let last_row = self.counter(list.iter().map(|&x| (x, 1)), columns);
+        let c = |j| Literal::positive(last_row + j);
+
+        match low {
+            Low::Counted if hard => {
+                if lo >= 1 {
+                    self.sink.hard(&[c(lo)]);
+                }
+            }
+            Low::Counted => {
+                for j in 1..=lo {
+                    self.sink.soft(weight, c(j));
+                }
+            }
+            Low::UnlessZero => {
+                for j in 2..=lo {
+                    let v = Literal::positive(self.fresh(1));
+                    self.sink.hard(&[c(1), !v]);
+                    self.sink.hard(&[!c(j), !v]);
+                    self.sink.hard(&[!c(1), c(j), v]);
+                    if hard {
+                        self.sink.hard(&[!v]);
+                    } else {
+                        self.sink.soft(weight, !v);
+                    }
+                }
+            }
+        }
+        if hard {
+            if hi < n {
+                self.sink.hard(&[!c(hi + 1)]);
+            }
+        } else {
+            for j in hi + 1..=n {
+                self.sink.soft(weight, !c(j));
+            }
+        }
+    }
+
+    /// The falsified weight is at most `bound`.
+    fn tail(&mut self, units: &[(Literal, u32)], bound: u64) {
+        if units.is_empty() {
+            return;
+        }
+        let columns = bound as u32 + 1;
+        let inputs = units.iter().map(|&(unit, weight)| (!unit, weight));
+        let last_row = self.counter(inputs, columns);
+        self.sink.hard(&[!Literal::positive(last_row + columns)]);
+    }
+}
+
+/// The numbers of Y, S and X.
+struct Variables {
+    times: usize,
+    events: usize,
+}
+
+impl Variables {
+    fn y(&self, event: usize, time: usize) -> Literal {
+        Literal::positive((event * self.times + time + 1) as u32)
+    }
+
+    fn s(&self, event: usize, time: usize) -> Literal {
+        Literal::positive(((self.events + event) * self.times + time + 1) as u32)
+    }
+
+    fn x(&self, resource: usize, time: usize) -> Literal {
+        Literal::positive(((2 * self.events + resource) * self.times + time + 1) as u32)
+    }
+}
+
+/// Variables, hard clauses and their literals (words), with the tail's if a
+/// bound was given; the number of soft units; 1 + the sum of their weights.
+#[derive(Clone, Copy, Debug, PartialEq, Eq)]
+pub struct Sizes {
+    pub variables: u64,
+    pub clauses: u64,
+    pub words: u64,
+    pub soft: u64,
+    pub top: u64,
+}
+
+/// The sizes of the formula, or 1 to 8. 7 and the tail only with a bound.
+pub fn sizes(file: &[u8], bound: Option<u64>) -> Result<Sizes, Refusal> {
+    Sizes::of(&Instance::read(file)?, bound)
+}
+
+impl Sizes {
+    pub fn formula(&self) -> FormulaSize {
+        FormulaSize {
+            variables: self.variables,
+            clauses: self.clauses,
+            words: self.words,
+        }
+    }
+
+    /// The sizes of the formula of `instance`, or 7 or 8.
+    pub fn of(instance: &Instance, bound: Option<u64>) -> Result<Sizes, Refusal> {
+        if let Some(bound) = bound.filter(|&bound| bound > LARGEST_BOUND) {
+            return refuse(7, bound);
+        }
+        let mut measure = Measure::default();
+        measure.formula(instance);
+        if let Some(bound) = bound {
+            measure.tail(bound);
+        }
+        if measure.variables > LARGEST_FORMULA {
+            return refuse(8, 0);
+        }
+        Ok(Sizes {
+            variables: measure.variables,
+            clauses: measure.clauses,
+            words: measure.words,
+            soft: measure.units.iter().map(|&(units, _)| units).sum(),
+            top: 1 + measure
+                .units
+                .iter()
+                .map(|&(units, weight)| units * weight)
+                .sum::<u64>(),
+        })
+    }
+}
+
+/// Counts what `Writer` hands over. The largest count is about 10^13.
+#[derive(Default)]
+struct Measure {
+    variables: u64,
+    clauses: u64,
+    words: u64,
+    /// Numbers of soft units with their weight, in the order of the units.
+    units: Vec<(u64, u64)>,
+}
+
+impl Measure {
+    fn clauses(&mut self, count: u64, literals: u64) {
+        self.clauses += count;
+        self.words += count * literals;
+    }
+
+    fn or_gate(&mut self, inputs: u64) {
+        self.variables += 1;
+        self.clauses(inputs, 2);
+        self.clauses(1, inputs + 1);
+    }
+
+    /// Rows of a counter that have the same weight.
+    fn counter_rows(&mut self, rows: u64, weight: u64, columns: u64, first: bool) {
+        let within = weight.min(columns);
+        let beyond = columns - within;
+        let (first, later) = if first && rows > 0 {
+            (1, rows - 1)
+        } else {
+            (0, rows)
+        };
+        self.variables += rows * columns;
+        self.clauses(first * within * 2, 2);
+        self.clauses(first * beyond, 2);
+        self.clauses(first * beyond, 1);
+        self.clauses(later * within * 2, 2);
+        self.clauses(later * within, 3);
+        self.clauses(later * beyond, 2);
+        self.clauses(later * beyond * 3, 3);
+    }
+
+    fn counted(&mut self, length: usize, range: Range, weight: u32, low: Low) {
+        let n = length as u64;
+        let lo = u64::from(range.lo);
+        let hi = u64::from(range.hi).min(n);
+        let hard = weight == 0;
+        let columns = if hard { n.min(hi + 1) } else { n };
+        self.counter_rows(n, 1, columns, true);
+        let low_units = match low {
+            Low::Counted if hard => lo.min(1),
+            Low::Counted => lo,
+            Low::UnlessZero => {
+                let gates = lo.saturating_sub(1);
+                self.variables += gates;
+                self.clauses(2 * gates, 2);
+                self.clauses(gates, 3);
+                gates
+            }
+        };
+        if hard {
+            self.clauses(low_units + (n - hi).min(1), 1);
+        } else {
+            self.units.push((low_units + n - hi, u64::from(weight)));
+        }
+    }
+
+    fn formula(&mut self, instance: &Instance) {
+        let times = instance.times as u64;
+        let events = instance.events.len() as u64;
+        self.variables += 2 * events * times;
+        self.clauses(events * times, 2); // (Y, not S)
+        self.clauses(events, 2); // (not Y, S) at time 1
+        self.clauses(events * (times - 1), 3);
+        for resource in 0..instance.resources {
+            let users = instance.events_of(resource).len() as u64;
+            for _ in 0..times {
+                self.or_gate(users);
+            }
+        }
+        for event in &instance.events {
+            let duration = event.duration as u32;
+            let range = Range {
+                lo: duration,
+                hi: duration,
+            };
+            self.counted(instance.times, range, 0, Low::Counted);
+        }
+        for constraint in &instance.constraints {
+            let kind = &constraint.kind;
+            match kind {
+                Kind::Cluster { groups, .. } => {
+                    for &group in groups {
+                        self.or_gate(instance.groups[group].len() as u64);
+                    }
+                }
+                Kind::Idle { groups, .. } => {
+                    for &group in groups {
+                        self.idle_gates(instance.groups[group].len() as u64);
+                    }
+                }
+                _ => {}
+            }
+            let lists = match kind {
+                Kind::Clash { .. } => times,
+                _ => 1,
+            };
+            let length = instance.list_length(kind);
+            for _ in 0..lists {
+                self.counted(length, kind.range(), constraint.weight, Low::of(kind));
+            }
+        }
+    }
+
+    /// The gates G, H and I of a group's members but first and last.
+    fn idle_gates(&mut self, members: u64) {
+        for earlier in 1..members.saturating_sub(1) {
+            self.or_gate(earlier);
+            self.or_gate(members - 1 - earlier);
+            self.variables += 1;
+            self.clauses(3, 2);
+            self.clauses(1, 4);
+        }
+    }
+
+    fn tail(&mut self, bound: u64) {
+        let mut first = true;
+        let units = std::mem::take(&mut self.units);
+        for &(rows, weight) in units.iter().filter(|(rows, _)| *rows > 0) {
+            self.counter_rows(rows, weight, bound + 1, first);
+            first = false;
+        }
+        if !first {
+            self.clauses(1, 1);
+        }
+        self.units = units;
+    }
+}

@@ -1,0 +1,104 @@
+//! The checked examples of the specification.
+
+mod support;
+
+use support::both::{check, decode, read, score, sizes, text_program};
+use support::{first_times, hex, numbers, refused, FILE_A, PROOF_A};
+use testing::generate::model;
+use testing::reference::{
+    deviation, read_number, Infeasibility, Instance, Objective, Range, Score,
+};
+
+fn scored<E>(infeasibility: u64, objective: u64) -> Result<Score, E> {
+    Ok(Score {
+        infeasibility: Infeasibility(infeasibility),
+        objective: Objective(objective),
+    })
+}
+
+#[test]
+fn text_of_file_a() {
+    let expected = b"p wcnf 4 8 5\n5 1 -2 0\n5 -1 2 0\n5 -1 3 0\n5 1 -3 0\n5 3 0\n5 -1 4 0\n5 1 -4 0\n4 -4 0\n";
+    assert_eq!(text_program(&hex(FILE_A)), expected);
+}
+
+#[test]
+fn timetables_of_file_a() {
+    assert_eq!(score(&hex(FILE_A), &hex("01 01")), scored(0, 4));
+    assert_eq!(score(&hex(FILE_A), &hex("00 00")), refused(12, 1));
+}
+
+#[test]
+fn proofs_of_file_a() {
+    let run = |bound, proof: &str| check(&hex(FILE_A), bound, &hex(proof), 99, 99, 99);
+    assert_eq!(run(3, PROOF_A), Ok(1));
+    assert_eq!(run(4, PROOF_A), refused(14, 1));
+    assert_eq!(run(4, "61 13 00 05 04 06 0E 10 00"), refused(16, 1));
+    assert_eq!(run(3, ""), refused(18, 0));
+}
+
+#[test]
+fn deviations() {
+    let range = Range { lo: 1, hi: 2 };
+    assert_eq!([0, 2, 3].map(|count| deviation(count, range)), [1, 0, 1]);
+}
+
+/// Kind 6, 3 to 5, on a day of five times; the event has one time, outside or inside.
+#[test]
+fn busy_limit_deviations() {
+    let file = numbers(&[6, 1, 1, 1, 1, 1, 1, 5, 1, 2, 3, 4, 5, 1, 6, 1, 1, 1, 3, 5]);
+    assert_eq!(
+        score(&file, &hex("00 00 00 00 00 01 00 00 00 00 00 01")),
+        scored(0, 0)
+    );
+    assert_eq!(score(&file, &first_times(6, 1, 1)), scored(0, 2));
+}
+
+#[test]
+fn idle_times() {
+    let file = numbers(&[
+        6, 1, 1, 2, 1, 1, 1, 6, 1, 2, 3, 4, 5, 6, 1, 8, 1, 1, 1, 1, 0, 0,
+    ]);
+    assert_eq!(
+        score(&file, &hex("00 01 00 00 01 00 00 01 00 00 01 00")),
+        scored(0, 2)
+    );
+}
+
+/// A soft split counts the starts 1, 0, 1.
+#[test]
+fn last_row_of_a_counter() {
+    let file = numbers(&[3, 1, 0, 2, 0, 0, 1, 4, 1, 1, 0, 0]);
+    let table = hex("01 00 01 01 00 01");
+    let model = model(&Instance::read(&file).unwrap(), &table);
+    assert_eq!(decode(&file, &model), Ok((&table[..], Objective(2))));
+    assert_eq!(model[model.len() - 3..], [1, 1, 0]);
+}
+
+#[test]
+fn numbers_in_groups_of_seven_bits() {
+    assert_eq!(read_number(&[0x80, 0x01], 0), Some((128, 2)));
+    assert_eq!(read(&hex("80 00")), refused(1, 0));
+}
+
+#[test]
+fn limits() {
+    let with_times = |times| read(&numbers(&[times, 1, 0, 1, 0, 0, 0]));
+    assert_eq!(with_times(125).unwrap().times, 125);
+    assert_eq!(with_times(126), refused(2, 0));
+
+    // A cluster over all groups counts a list of that length.
+    let with_groups = |groups: u32| {
+        let mut values = vec![1, 1, 1, 1, 0, groups];
+        values.extend(vec![0; groups as usize]);
+        values.extend([1, 7, 0, 1, groups]);
+        values.extend(1..=groups);
+        values.extend([0, 0]);
+        read(&numbers(&values))
+    };
+    assert_eq!(with_groups(255).unwrap().groups, 255);
+    assert_eq!(with_groups(256).unwrap_err().number, 4);
+
+    assert!(sizes(&hex(FILE_A), Some(4_095)).is_ok());
+    assert_eq!(sizes(&hex(FILE_A), Some(4_096)), refused(7, 4_096));
+}

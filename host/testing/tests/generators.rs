@@ -1,0 +1,243 @@
+//! The generators give what their names say, and damaged inputs reach every
+//! refusal of their place.
+
+mod support;
+
+use std::collections::BTreeMap;
+use support::both::{check, decode, read, same_sheet, score, sizes, text, text_program, text_size};
+use testing::generate::{
+    damaged_instance, damaged_numbers, damaged_table, encode, instance, lent, model, number_starts,
+    proof, timetable, Random, Shape,
+};
+use testing::reference::{Infeasibility, Instance, Refusal};
+
+/// How often each refusal was given; 0 stands for acceptance.
+#[derive(Default, Debug)]
+struct Seen(BTreeMap<u32, usize>);
+
+impl Seen {
+    fn count<T>(&mut self, answer: &Result<T, Refusal>) {
+        let number = answer.as_ref().err().map_or(0, |refusal| refusal.number);
+        *self.0.entry(number).or_default() += 1;
+    }
+
+    fn numbers(&self) -> Vec<u32> {
+        self.0.keys().copied().collect()
+    }
+
+    fn times(&self, number: u32) -> usize {
+        self.0.get(&number).copied().unwrap_or(0)
+    }
+}
+
+fn shape(seed: u64) -> Shape {
+    let shape = match seed % 3 {
+        0 => Shape::tiny(),
+        _ => Shape::small(),
+    };
+    Shape {
+        feasible: seed.is_multiple_of(2),
+        ..shape
+    }
+}
+
+#[test]
+fn equal_seeds_give_equal_inputs() {
+    for seed in 0..20 {
+        let draw = || {
+            let mut random = Random::new(seed);
+            let instance = instance(&mut random, &shape(seed));
+            let table = timetable(&mut random, &instance);
+            (
+                encode(&instance),
+                damaged_table(&mut random, &table),
+                table,
+                proof(&mut random, 10, 20),
+            )
+        };
+        assert_eq!(draw(), draw(), "seed {seed}");
+    }
+}
+
+#[test]
+fn instances_are_accepted_and_read_back() {
+    for seed in 0..500 {
+        let mut random = Random::new(seed);
+        let instance = instance(&mut random, &shape(seed));
+        let file = encode(&instance);
+        assert_eq!(Instance::read(&file), Ok(instance), "seed {seed}");
+        assert!(number_starts(&file).len() <= file.len());
+    }
+}
+
+#[test]
+fn timetables_are_accepted_and_models_decode_to_their_score() {
+    let mut kept = 0;
+    for seed in 0..500 {
+        let mut random = Random::new(seed);
+        let instance = instance(&mut random, &shape(seed));
+        let file = encode(&instance);
+        for _ in 0..5 {
+            let table = timetable(&mut random, &instance);
+            let scored = score(&file, &table).unwrap();
+            assert_eq!(same_sheet(&file, &table, &table), Ok(true));
+            let model = model(&instance, &table);
+            assert_eq!(
+                model.len() as u64,
+                sizes(&file, None).unwrap().variables,
+                "seed {seed}"
+            );
+            let decoded = decode(&file, &model);
+            if scored.infeasibility == Infeasibility(0) {
+                kept += 1;
+                assert_eq!(decoded, Ok((&table[..], scored.objective)), "seed {seed}");
+            } else {
+                assert_eq!(decoded.unwrap_err().number, 13, "seed {seed}");
+            }
+        }
+    }
+    println!("seeds 0..500: {kept} of 2,500 timetables keep the hard constraints");
+    assert!(kept > 300);
+}
+
+#[test]
+fn damaged_files_reach_refusals_1_to_6() {
+    let mut seen = Seen::default();
+    let long_lists = Shape {
+        times: 100..=125,
+        events: 2..=5,
+        constraints: 5..=9,
+        ..Shape::small()
+    };
+    for seed in 0..1_000 {
+        let mut random = Random::new(seed);
+        let shape = match seed % 10 {
+            0 => long_lists.clone(),
+            _ => shape(seed),
+        };
+        let instance = instance(&mut random, &shape);
+        for _ in 0..10 {
+            let file = match random.below(3) {
+                0 => encode(&damaged_instance(&mut random, &instance)),
+                1 => damaged_numbers(&mut random, &encode(&instance)),
+                _ => {
+                    let once = damaged_numbers(&mut random, &encode(&instance));
+                    damaged_numbers(&mut random, &once)
+                }
+            };
+            let answer = read(&file);
+            seen.count(&answer);
+            if let Err(refusal) = answer {
+                assert!(refusal.value <= file.len() as u64);
+                assert_eq!(score(&file, &[]), Err(refusal));
+                assert_eq!(sizes(&file, Some(9_999)), Err(refusal));
+                assert_eq!(decode(&file, &[]), Err(refusal));
+                assert_eq!(check(&file, 9_999, &[], 0, 0, 0), Err(refusal));
+                assert_eq!(text(&file, &mut []), Err(refusal));
+                let printed = format!("{} {}\n", refusal.number, refusal.value);
+                assert_eq!(text_program(&file), printed.as_bytes());
+            }
+        }
+    }
+    println!("seeds 0..1_000: {seen:?}");
+    for number in 0..=6 {
+        assert!(seen.times(number) >= 20, "refusal {number}");
+    }
+}
+
+#[test]
+fn damaged_timetables_reach_refusals_10_to_12() {
+    let mut seen = Seen::default();
+    for seed in 0..500 {
+        let mut random = Random::new(seed);
+        let instance = instance(&mut random, &shape(seed));
+        let file = encode(&instance);
+        let table = timetable(&mut random, &instance);
+        for _ in 0..10 {
+            let damaged = damaged_table(&mut random, &table);
+            let answer = score(&file, &damaged);
+            seen.count(&answer);
+            if let Err(refusal) = answer {
+                assert_eq!(same_sheet(&file, &damaged, &[]), Err(refusal));
+                assert_eq!(same_sheet(&file, &table, &damaged), Err(refusal));
+            }
+        }
+    }
+    println!("seeds 0..500: {seen:?}");
+    assert_eq!(seen.numbers(), [0, 10, 11, 12]);
+}
+
+#[test]
+fn damaged_models_reach_refusals_10_11_and_13() {
+    let mut seen = Seen::default();
+    for seed in (0..500).step_by(2) {
+        let mut random = Random::new(seed);
+        let instance = instance(&mut random, &shape(seed));
+        let file = encode(&instance);
+        let table = timetable(&mut random, &instance);
+        let model = model(&instance, &table);
+        for _ in 0..10 {
+            let damaged = damaged_table(&mut random, &model);
+            seen.count(&decode(&file, &damaged));
+        }
+    }
+    println!("seeds 0..500: {seen:?}");
+    assert_eq!(seen.numbers(), [0, 10, 11, 13]);
+}
+
+#[test]
+fn random_proofs_reach_refusals_14_to_18() {
+    let mut seen = Seen::default();
+    for seed in 0..500 {
+        let mut random = Random::new(seed);
+        let instance = instance(&mut random, &Shape::tiny());
+        let file = encode(&instance);
+        let bound = random.below(5) as u64;
+        let sizes = sizes(&file, Some(bound)).unwrap();
+        for _ in 0..20 {
+            let mut proof = proof(&mut random, sizes.variables, sizes.clauses);
+            if random.chance(50) {
+                proof = damaged_numbers(&mut random, &proof);
+            }
+            let words = lent(&mut random, sizes.words);
+            let rows = lent(&mut random, sizes.clauses);
+            let bytes = lent(&mut random, sizes.variables);
+            let answer = check(&file, bound, &proof, words, rows, bytes);
+            let fits = words >= sizes.words && rows >= sizes.clauses && bytes >= sizes.variables;
+            assert_eq!(answer.is_err_and(|refusal| refusal.number == 9), !fits);
+            seen.count(&answer);
+        }
+    }
+    println!("seeds 0..500: {seen:?}");
+    for number in [9, 14, 15, 16, 17, 18] {
+        assert!(seen.times(number) >= 5, "refusal {number}");
+    }
+}
+
+#[test]
+fn text_fits_its_size_exactly() {
+    for seed in 0..200 {
+        let mut random = Random::new(seed);
+        let file = encode(&instance(&mut random, &shape(seed)));
+        let length = text_size(&file).unwrap() as usize;
+        let mut out = vec![0xa5; length + 2];
+        assert_eq!(text(&file, &mut out), Ok(length));
+        assert_eq!(out[length - 3..], *b" 0\n\xa5\xa5");
+        let mut exact = vec![0xa5; length];
+        assert_eq!(text(&file, &mut exact), Ok(length));
+        assert_eq!(exact, out[..length]);
+        let mut short = vec![0xa5; length - 1];
+        let refusal = Refusal {
+            number: 9,
+            value: 0,
+        };
+        assert_eq!(text(&file, &mut short), Err(refusal));
+        assert!(short.iter().all(|&byte| byte == 0xa5));
+        let printed = text_program(&file);
+        if length <= 65_536 {
+            assert_eq!(printed, out[..length]);
+        } else {
+            assert_eq!(printed, b"9 0\n");
+        }
+    }
+}

@@ -1,0 +1,635 @@
+//! Places where the specification can be read two ways. Each test is named by
+//! what it decides; the codes in brackets are the list's own.
+//!
+//! What the lent stores hold before and after a call [W1, W2] is compared with
+//! every check: `support::both` lends stores that are not zero.
+
+mod support;
+
+use support::both::{check, decode, read, same_sheet, score, sizes, text, text_program, text_size};
+use support::{clauses, first_times, hex, numbers, oversized, refused, FILE_A, PROOF_A};
+use testing::prover::{clause_list, solve, Verdict};
+use testing::reference::{Infeasibility, Instance, Objective, Refusal, Score, Summary};
+use testing::steps::encode_steps;
+
+fn read_of(file: &str) -> Result<Summary, Refusal> {
+    read(&hex(file))
+}
+
+/// File A at bound 3 in ample stores.
+fn check_a(proof: &str) -> Result<u64, Refusal> {
+    check(&hex(FILE_A), 3, &hex(proof), 1_000, 1_000, 1_000)
+}
+
+fn scored(infeasibility: u64, objective: u64) -> Result<Score, Refusal> {
+    Ok(Score {
+        infeasibility: Infeasibility(infeasibility),
+        objective: Objective(objective),
+    })
+}
+
+mod general {
+    use super::*;
+
+    /// [G1] Without soft units a refutation says that the hard constraints
+    /// cannot be kept, at every bound.
+    #[test]
+    fn without_soft_units_the_bound_does_not_matter() {
+        let file = hex("01 01 01 01 01 01 01 01 01 01 02 00 01 01");
+        let instance = Instance::read(&file).unwrap();
+        let clauses = clause_list(&instance, Some(0));
+        let sizes = sizes(&file, Some(0)).unwrap();
+        let Verdict::Refutation(steps) = solve(sizes.variables as usize, &clauses) else {
+            panic!("the only event cannot avoid the only time");
+        };
+        let proof = encode_steps(&steps);
+        for bound in [0, 1, 4_095] {
+            assert_eq!(
+                check(&file, bound, &proof, 1_000, 1_000, 1_000),
+                Ok(steps.len() as u64)
+            );
+        }
+    }
+}
+
+mod reader {
+    use super::*;
+
+    /// [R1] 4 and 5 of a constraint come before any number of the next.
+    #[test]
+    fn constraint_end_comes_before_the_next_constraint() {
+        assert_eq!(
+            read_of("01 01 00 01 00 00 02 04 00 01 01 00"),
+            refused(5, 7)
+        );
+    }
+
+    /// One time, one event, one resource, 256 empty groups, kind 7 over all of
+    /// them, then `rest`. Also gives the offset of the kind.
+    fn long_cluster(rest: &[u32]) -> (Vec<u8>, u64) {
+        let mut values = vec![1, 1, 1, 1, 0, 256];
+        values.extend([0; 256]);
+        values.push(1);
+        let kind = numbers(&values).len() as u64;
+        values.extend([7, 0, 1, 256]);
+        values.extend(1..=256);
+        values.extend(rest);
+        (numbers(&values), kind)
+    }
+
+    /// [R2] Of 4 and 5 in one constraint, 4 is given.
+    #[test]
+    fn a_long_list_comes_before_a_bad_range() {
+        let (file, kind) = long_cluster(&[1, 0]);
+        assert_eq!(read(&file), refused(4, kind));
+    }
+
+    /// [R3] 4 is given at the constraint's end, after lo and hi.
+    #[test]
+    fn a_long_list_is_seen_after_lo_and_hi() {
+        let (file, _) = long_cluster(&[]);
+        assert_eq!(read(&file), refused(1, file.len() as u64));
+        let at_lo = file.len() as u64;
+        let (file, _) = long_cluster(&[256, 256]);
+        assert_eq!(read(&file), refused(2, at_lo));
+    }
+
+    /// [R4] A list's count above the number of things is outside its limit.
+    #[test]
+    fn a_count_above_the_number_of_things_is_2_at_the_count() {
+        assert_eq!(read_of("01 01 00 01 01 01"), refused(2, 4));
+        // members of a group: T; events of a spread: E
+        assert_eq!(read_of("01 01 00 01 00 01 02 01 02 00"), refused(2, 6));
+        assert_eq!(
+            read_of("01 01 00 01 00 01 00 01 05 00 02 01 02 01 00 00"),
+            refused(2, 10)
+        );
+        // groups of a cluster or idle constraint: the groups of this file
+        for kind in [7, 8] {
+            let file = numbers(&[1, 1, 1, 1, 0, 1, 0, 1, kind, 0, 1, 2, 1, 2, 0, 0]);
+            assert_eq!(read(&file), refused(2, 11));
+        }
+    }
+
+    /// [R5] Reference 0 and a reference too high are references to nothing.
+    #[test]
+    fn a_reference_outside_its_things_is_3() {
+        assert_eq!(read_of("01 01 01 01 01 00"), refused(3, 5));
+        assert_eq!(read_of("01 01 01 01 01 02"), refused(3, 5));
+        assert_eq!(read_of("01 01 01 01 00 00 01 01 00 00"), refused(3, 9));
+        assert_eq!(read_of("01 01 01 01 00 00 01 01 00 02"), refused(3, 9));
+    }
+
+    /// [R6] The offset is that of the member that does not ascend.
+    #[test]
+    fn a_list_not_ascending_is_3_at_the_member() {
+        assert_eq!(read_of("02 01 00 01 00 01 02 02 01 00"), refused(3, 8));
+        assert_eq!(read_of("02 01 00 01 00 01 02 01 01 00"), refused(3, 8));
+    }
+
+    /// [R7] A clash has one list for each time, not one for all times.
+    #[test]
+    fn the_lists_of_a_clash_are_as_long_as_the_resource_has_events() {
+        let file = |events: u32| {
+            let mut values = vec![2, events, 1];
+            for _ in 0..events {
+                values.extend([1, 1, 1]);
+            }
+            values.extend([0, 1, 1, 0, 1]);
+            numbers(&values)
+        };
+        for events in [128, 255] {
+            assert_eq!(read(&file(events)).unwrap().events, events as usize);
+        }
+        let kind = file(256).len() as u64 - 3;
+        assert_eq!(read(&file(256)), refused(4, kind));
+    }
+
+    /// [R8] lo above the list's length is 5 for a busy limit too.
+    #[test]
+    fn a_busy_limit_has_no_exception_from_5() {
+        assert_eq!(
+            read_of("01 01 01 01 01 01 01 00 01 06 00 01 01 01 01"),
+            refused(5, 9)
+        );
+    }
+
+    /// [R9] hi = 256 is outside its limit, whatever lo is.
+    #[test]
+    fn limits_come_before_5() {
+        assert_eq!(
+            read_of("01 01 00 01 00 00 01 04 00 01 01 80 02"),
+            refused(2, 11)
+        );
+        assert_eq!(
+            read_of("01 01 00 01 00 00 01 04 00 01 02 80 02"),
+            refused(2, 11)
+        );
+    }
+
+    /// [R10] Cut short, overlong and too large give 1 at the first byte.
+    #[test]
+    fn bad_numbers_are_1_at_their_first_byte() {
+        assert_eq!(read_of(""), refused(1, 0));
+        assert_eq!(read_of("80"), refused(1, 0));
+        assert_eq!(read_of("01 80"), refused(1, 1));
+        assert_eq!(read_of("80 80 80 80 10"), refused(1, 0));
+        assert_eq!(read_of("FF FF FF FF 0F"), refused(2, 0));
+        // kind 9 before the weight is asked for
+        assert_eq!(read_of("01 01 00 01 00 00 01 09"), refused(2, 7));
+    }
+
+    /// [R11] Empty groups and lists, equal groups and equal constraints are accepted.
+    #[test]
+    fn empty_and_equal_things_are_accepted() {
+        assert!(read_of("01 01 01 01 00 01 00 01 07 00 01 00 00 00").is_ok());
+        let equal = hex("01 01 00 01 00 02 00 00 02 03 04 01 01 03 04 01 01");
+        assert!(read(&equal).is_ok());
+        assert_eq!(score(&equal, &[1, 1]), scored(0, 8));
+    }
+
+    /// lo ≤ hi as written, but lo above the list's length, is 5 too.
+    #[test]
+    fn lo_above_the_lowered_hi_is_5() {
+        assert_eq!(
+            read_of("01 01 00 01 00 00 01 04 00 01 02 03"),
+            refused(5, 7)
+        );
+    }
+}
+
+mod timetables {
+    use super::*;
+
+    /// [S1] 12 gives the lowest event that breaks any rule.
+    #[test]
+    fn the_lowest_broken_event_is_given() {
+        let file = hex("01 02 00 01 00 01 00 00 00");
+        assert_eq!(score(&file, &hex("01 00 00 00")), refused(12, 1));
+        assert_eq!(score(&file, &hex("01 00 01 00")), refused(12, 2));
+    }
+
+    /// [S2] Same sheet skips the sizing place, as scoring does.
+    #[test]
+    fn same_sheet_and_score_skip_sizing() {
+        let file = oversized();
+        let table = first_times(125, 505, 124);
+        assert_eq!(sizes(&file, None), refused(8, 0));
+        assert_eq!(same_sheet(&file, &table, &table), Ok(true));
+        assert_eq!(score(&file, &table), scored(0, 0));
+    }
+
+    /// [S3] An empty group has no X; groups of up to two members add no idle time.
+    #[test]
+    fn empty_and_short_groups_count_nothing() {
+        // two times; the event takes both; groups {}, {1}, {1, 2}
+        let start = "02 01 01 02 01 01 03 00 01 01 02 01 02 01";
+        let cluster = format!("{start} 07 01 01 03 01 02 03 00 00");
+        assert_eq!(score(&hex(&cluster), &[1, 1, 1, 0]), scored(0, 2));
+        let idle = format!("{start} 08 01 01 03 01 02 03 00 00");
+        assert_eq!(score(&hex(&idle), &[1, 1, 1, 0]), scored(0, 0));
+        let idle = format!("{start} 08 01 01 03 01 02 03 01 01");
+        assert_eq!(read(&hex(&idle)), refused(5, 14));
+    }
+
+    /// [S4] A busy limit of 0 to 0 with count 0 deviates by 0.
+    #[test]
+    fn an_unused_day_never_deviates() {
+        let file = hex("02 01 01 01 01 01 01 01 01 01 06 01 01 01 00 00");
+        assert_eq!(score(&file, &hex("00 01 00 01")), scored(0, 0));
+        assert_eq!(score(&file, &hex("01 00 01 00")), scored(0, 1));
+    }
+}
+
+mod clause_order {
+    use super::*;
+
+    fn clause(file: &str, bound: Option<u64>, id: usize) -> Vec<i64> {
+        clauses(&hex(file), bound)[id - 1].clone()
+    }
+
+    /// [C1] Both clauses of an event and time stand together.
+    #[test]
+    fn start_clauses_go_time_by_time() {
+        let file = "02 01 00 01 00 00 00";
+        assert_eq!(clause(file, None, 2), [-1, 3]);
+        assert_eq!(clause(file, None, 3), [2, -4]);
+        assert_eq!(clause(file, None, 4), [1, -2, 4]);
+    }
+
+    /// [C2] A counter's clauses go cell by cell, row by row.
+    #[test]
+    fn counters_go_cell_by_cell() {
+        let file = "02 01 00 02 00 00 00";
+        assert_eq!(clause(file, None, 6), [1, -5]);
+        assert_eq!(clause(file, None, 7), [1, -6]);
+        assert_eq!(clause(file, None, 8), [-6]);
+        assert_eq!(clause(FILE_A, Some(3), 14), [-4, 8]);
+    }
+
+    /// [C3] Each time's list of a clash is complete before the next.
+    #[test]
+    fn clash_units_follow_their_own_counter() {
+        let file = "02 02 01 01 01 01 01 01 01 00 01 01 00 01";
+        assert_eq!(clause(file, None, 52), [-22]);
+        assert_eq!(clause(file, None, 64), [-26]);
+        assert_eq!(clauses(&hex(file), None).len(), 64);
+    }
+
+    /// [C4] A busy limit writes each v's clauses and unit before the next v.
+    #[test]
+    fn busy_limit_units_follow_their_own_clauses() {
+        let file = "03 01 01 01 01 01 01 03 01 02 03 01 06 00 01 01 03 03";
+        assert_eq!(clause(file, None, 64), [-25]);
+        assert_eq!(clause(file, None, 65), [22, -26]);
+    }
+
+    /// [C5] A busy limit with lo = 1 has no low part.
+    #[test]
+    fn a_busy_limit_of_one_has_no_low_unit() {
+        let all = clauses(
+            &hex("01 01 01 01 01 01 01 01 01 01 06 00 01 01 01 01"),
+            None,
+        );
+        assert_eq!(all.len(), 9);
+        assert_eq!(all[8], [3, -5]);
+    }
+
+    /// [C6] Idle gates G, H and I go member by member.
+    #[test]
+    fn idle_gates_go_member_by_member() {
+        let file = "04 01 01 01 01 01 01 04 01 02 03 04 01 08 01 01 01 01 00 00";
+        let all = clauses(&hex(file), None);
+        let first = all.iter().position(|clause| *clause == [-9, 21]).unwrap();
+        let expected: [&[i64]; 21] = [
+            &[-9, 21],
+            &[9, -21],
+            &[-11, 22],
+            &[-12, 22],
+            &[11, 12, -22],
+            &[-10, -23],
+            &[21, -23],
+            &[22, -23],
+            &[10, -21, -22, 23],
+            &[-9, 24],
+            &[-10, 24],
+            &[9, 10, -24],
+            &[-12, 25],
+            &[12, -25],
+            &[-11, -26],
+            &[24, -26],
+            &[25, -26],
+            &[11, -24, -25, 26],
+            &[-23, 27],
+            &[23, -27],
+            &[23, -28],
+        ];
+        assert_eq!(all[first..first + 21], expected);
+    }
+
+    /// [C7] The OR of an empty list is the unit (not o).
+    #[test]
+    fn an_empty_or_is_a_negative_unit() {
+        assert_eq!(clause("01 01 01 01 00 01 00 01 02 00 01 01", None, 3), [-3]);
+    }
+
+    /// [C8] Counters without units are written; empty lists write nothing.
+    #[test]
+    fn nothing_is_left_out_to_save_room() {
+        let file = "01 01 00 01 00 00 01 04 00 01 00 01";
+        assert_eq!(clause(file, None, 6), [-2, 4]);
+        assert_eq!(clause(file, None, 7), [2, -4]);
+        let empty = hex("01 01 01 01 00 01 00 01 02 00 01 01");
+        assert_eq!(sizes(&empty, None).unwrap().variables, 4);
+    }
+
+    /// [C9] The tail counts the negated units.
+    #[test]
+    fn the_tail_counts_falsified_units() {
+        let file = hex("01 01 00 01 00 00 01 04 01 01 01 01");
+        let without = clauses(&file, None).len();
+        let tail = clauses(&file, Some(0)).split_off(without);
+        assert_eq!(tail, [vec![4, 5], vec![-4, -5], vec![-5]]);
+    }
+
+    /// [C10] Without soft units the tail is empty; 7 is still given.
+    #[test]
+    fn an_empty_tail_has_no_unit() {
+        let file = hex("01 01 00 01 00 00 00");
+        for bound in [0, 1, 4_095] {
+            assert_eq!(sizes(&file, Some(bound)), sizes(&file, None));
+            assert_eq!(clauses(&file, Some(bound)), clauses(&file, None));
+        }
+        assert_eq!(sizes(&file, Some(4_096)), refused(7, 4_096));
+    }
+
+    /// [C11] The tail has B + 1 columns and keeps equal clauses.
+    #[test]
+    fn the_tail_is_not_shortened() {
+        let all = clauses(&hex(FILE_A), Some(4));
+        assert_eq!(all.len(), 18);
+        assert_eq!(all[15..], [vec![4, -9], vec![-9], vec![-9]]);
+    }
+}
+
+mod sizing {
+    use super::*;
+
+    /// [Z1] 7, then 8, then 9, all after the instance.
+    #[test]
+    fn sizing_refusals_come_in_order() {
+        let file = oversized();
+        assert_eq!(check(&file, 4_096, &[], 0, 0, 0), refused(7, 4_096));
+        assert_eq!(check(&file, 0, &[], 0, 0, 0), refused(8, 0));
+        assert_eq!(check(&hex(FILE_A), 0, &[], 0, 0, 0), refused(9, 0));
+        assert_eq!(check(&hex("00"), 4_096, &[], 0, 0, 0), refused(2, 0));
+    }
+
+    /// [Z2] Only proof checks count the tail for 8; 8,000,000 variables pass.
+    #[test]
+    fn the_tail_counts_for_proof_checks_alone() {
+        // 503 events of duration 124 and one of 115 make 63,999 × 125
+        // variables; a hard preferred time adds 123, a soft one 1 and its unit.
+        let mut values = vec![125, 504, 0];
+        for _ in 0..503 {
+            values.extend([124, 0]);
+        }
+        values.extend([115, 0, 2, 2]);
+        values.extend(1..=2);
+        values.push(124);
+        values.extend(1..=124);
+        values.extend([2, 3, 0, 1, 1, 3, 1, 1, 2]);
+        let file = numbers(&values);
+        assert_eq!(sizes(&file, None).unwrap().variables, 7_999_999);
+        assert_eq!(sizes(&file, None).unwrap().soft, 1);
+        assert_eq!(sizes(&file, Some(0)).unwrap().variables, 8_000_000);
+        assert_eq!(sizes(&file, Some(1)), refused(8, 0));
+        assert_eq!(decode(&file, &[]), refused(10, 7_999_999));
+        assert_eq!(text(&file, &mut []), refused(9, 0));
+        assert_eq!(check(&file, 0, &[], 0, 0, 0), refused(9, 0));
+        assert_eq!(check(&file, 1, &[], 0, 0, 0), refused(8, 0));
+    }
+
+    /// [Z3] Words, rows and variable bytes must each suffice for the formula.
+    #[test]
+    fn each_store_must_fit_the_formula() {
+        let file = hex(FILE_A);
+        let run = |words, rows, bytes| check(&file, 3, &hex(PROOF_A), words, rows, bytes);
+        assert_eq!(run(30, 16, 8), Ok(1));
+        assert_eq!(run(29, 16, 8), refused(9, 0));
+        assert_eq!(run(30, 15, 8), refused(9, 0));
+        assert_eq!(run(30, 16, 7), refused(9, 0));
+    }
+
+    /// [Z4] 9 exactly if the output is shorter than the text.
+    #[test]
+    fn the_text_needs_its_own_length() {
+        let file = hex(FILE_A);
+        let length = text_size(&file).unwrap() as usize;
+        let mut out = vec![7; length + 1];
+        assert_eq!(text(&file, &mut out), Ok(length));
+        assert_eq!(out[length], 7);
+        assert_eq!(text(&file, &mut vec![7; length]), Ok(length));
+        let mut out = vec![7; length - 1];
+        assert_eq!(text(&file, &mut out), refused(9, 0));
+        assert!(out.iter().all(|&byte| byte == 7));
+    }
+}
+
+mod models {
+    use super::*;
+
+    /// [M1] 8 comes before 10.
+    #[test]
+    fn an_oversized_formula_comes_before_the_model() {
+        assert_eq!(decode(&oversized(), &[]), refused(8, 0));
+    }
+
+    /// [M2] A model is never refused by 12; 10 wants the variables without the tail.
+    #[test]
+    fn a_model_without_timetable_breaks_a_clause() {
+        let file = hex(FILE_A);
+        assert_eq!(decode(&file, &hex("00 00 00 00")), refused(13, 5));
+        assert_eq!(decode(&file, &hex("01 00 00 00")), refused(13, 2));
+        assert_eq!(decode(&file, &hex("01 01 01")), refused(10, 4));
+    }
+}
+
+mod proofs {
+    use super::*;
+
+    /// [P1] The literals of a step stand in any order.
+    #[test]
+    fn literals_of_a_step_are_in_any_order() {
+        assert_eq!(check_a("61 11 06 02 00 05 00"), refused(18, 1));
+    }
+
+    /// [P2] Ids may have gaps; deletion frees none; 0 is no id.
+    #[test]
+    fn ids_ascend_with_gaps() {
+        assert_eq!(check_a("61 63 02 06 00 05 00"), refused(18, 1));
+        assert_eq!(
+            check_a("61 11 06 00 05 00 64 11 00 61 11 06 00 05 00"),
+            refused(14, 3)
+        );
+        assert_eq!(check_a("61 00 06 00 05 00"), refused(14, 1));
+        assert_eq!(check_a("61 FF FF FF FF 0F 06 00 05 00"), refused(18, 1));
+    }
+
+    /// [P3] A hint or deletion that never was a clause is not live.
+    #[test]
+    fn an_unknown_id_is_not_live() {
+        assert_eq!(check_a("61 11 00 63 00"), refused(15, 1));
+        assert_eq!(check_a("64 63 00"), refused(15, 1));
+        assert_eq!(check_a("61 11 06 00 11 00"), refused(15, 1));
+    }
+
+    /// [P4] Hints are judged one by one, for each 15, then 16.
+    #[test]
+    fn an_earlier_hint_comes_before_a_later_one() {
+        assert_eq!(check_a("61 11 00 07 63 00"), refused(16, 1));
+        assert_eq!(check_a("61 11 06 00 05 63 00"), refused(16, 1));
+    }
+
+    /// [P5] No hints, or a last hint with an open literal, is 16.
+    #[test]
+    fn the_hints_must_end_in_a_false_clause() {
+        assert_eq!(check_a("61 11 00 00"), refused(16, 1));
+        assert_eq!(check_a("61 11 00 05 00"), refused(16, 1));
+    }
+
+    /// [P6] A deletion of nothing is a step.
+    #[test]
+    fn a_deletion_without_ids_counts_one() {
+        assert_eq!(check_a("64 00"), refused(18, 1));
+        assert_eq!(check_a(&format!("64 00 {PROOF_A}")), Ok(2));
+    }
+
+    /// [P7] Bytes after the empty clause are not read.
+    #[test]
+    fn bytes_after_the_empty_clause_are_18() {
+        for more in ["00", "61", "64 00", "FF"] {
+            assert_eq!(check_a(&format!("{PROOF_A} {more}")), refused(18, 1));
+        }
+    }
+
+    /// [P8] The tail's variables may stand in steps.
+    #[test]
+    fn the_last_variable_is_the_tails() {
+        assert_eq!(check_a("61 11 06 10 00 05 00"), refused(18, 1));
+        assert_eq!(check_a("61 11 06 12 00 05 00"), refused(14, 1));
+    }
+
+    /// [P9] A clause needs a word for each literal and a row; deleted ones stay used.
+    #[test]
+    fn a_clause_must_fit_unless_empty() {
+        let file = hex(FILE_A);
+        let unit = "61 11 06 00 05 00";
+        let run = |proof: &str, words, rows| check(&file, 3, &hex(proof), words, rows, 8);
+        assert_eq!(run(unit, 31, 17), refused(18, 1));
+        assert_eq!(run(unit, 30, 17), refused(17, 1));
+        assert_eq!(run(unit, 31, 16), refused(17, 1));
+        assert_eq!(run(&format!("64 01 00 {unit}"), 30, 16), refused(17, 2));
+        assert_eq!(run(PROOF_A, 30, 16), Ok(1));
+    }
+
+    /// [P10] A bad number in a proof is 14; a step's first byte is a byte.
+    #[test]
+    fn bad_numbers_in_proofs_are_14() {
+        assert_eq!(check_a("61 11 86 00 00 05 00"), refused(14, 1));
+        assert_eq!(check_a("61 11 06 00 05 80 00"), refused(14, 1));
+        assert_eq!(check_a("E1 00 11 06 00 05 00"), refused(14, 1));
+        assert_eq!(check_a("61 80 80 80 80 10 06 00 05 00"), refused(14, 1));
+    }
+
+    /// [P11] A step is read whole first; an earlier step's refusal comes first.
+    #[test]
+    fn steps_are_judged_one_by_one() {
+        assert_eq!(check_a("64 63 00 62"), refused(15, 1));
+        assert_eq!(check_a("61 11 00 63 80 00"), refused(14, 1));
+    }
+
+    /// [P12] One literal twice, both signs, and literal 1 are 14.
+    #[test]
+    fn no_variable_stands_twice() {
+        assert_eq!(check_a("61 11 06 06 00 05 00"), refused(14, 1));
+        assert_eq!(check_a("61 11 06 07 00 05 00"), refused(14, 1));
+        assert_eq!(check_a("61 11 01 00 05 00"), refused(14, 1));
+    }
+
+    /// [P13] The formula's own clauses may be deleted, each once.
+    #[test]
+    fn formula_clauses_can_be_deleted() {
+        assert_eq!(check_a(&format!("64 05 00 {PROOF_A}")), refused(15, 2));
+        assert_eq!(check_a("64 05 05 00"), refused(15, 1));
+    }
+
+    /// [P14] A proof that stops inside a step is misformed there.
+    #[test]
+    fn a_cut_step_is_14() {
+        assert_eq!(check_a("61 11 06 00 05"), refused(14, 1));
+        assert_eq!(check_a("61"), refused(14, 1));
+        assert_eq!(check_a("64"), refused(14, 1));
+    }
+
+    /// [P15] After a missing 0 the bytes that follow are read as numbers.
+    #[test]
+    fn a_missing_0_joins_two_lists() {
+        assert_eq!(check_a("61 11 06 05 00 61 12 00 05 00"), refused(15, 1));
+    }
+}
+
+mod text_for_solvers {
+    use super::*;
+
+    /// [T1] A file longer than 65,536 bytes is not read.
+    #[test]
+    fn a_longer_file_is_9() {
+        assert_eq!(text_program(&[0; 65_537]), b"9 0\n");
+        assert_eq!(text_program(&[0; 65_536]), b"2 0\n");
+    }
+
+    /// [T2] Without soft units top is 1.
+    #[test]
+    fn without_soft_units_top_is_1() {
+        assert_eq!(
+            text_program(&hex("01 01 00 01 00 00 00")),
+            b"p wcnf 3 5 1\n1 1 -2 0\n1 -1 2 0\n1 -1 3 0\n1 1 -3 0\n1 3 0\n"
+        );
+    }
+}
+
+mod wide_amounts {
+    use super::*;
+
+    /// 255 events of all 125 times share a resource with 4,096 clashes.
+    fn crowded(weight: u32) -> Vec<u8> {
+        let mut values = vec![125, 255, 1];
+        for _ in 0..255 {
+            values.extend([125, 1, 1]);
+        }
+        values.extend([0, 4_096]);
+        for _ in 0..4_096 {
+            values.extend([1, weight, 1]);
+        }
+        numbers(&values)
+    }
+
+    #[test]
+    fn the_objective_passes_32_bits() {
+        let table = first_times(125, 255, 125);
+        assert_eq!(score(&crowded(1_000), &table), scored(0, 130_048_000_000));
+        assert_eq!(score(&crowded(0), &table), scored(130_048_000, 0));
+    }
+
+    #[test]
+    fn large_formulas_are_refused_without_being_built() {
+        let file = crowded(1_000);
+        for bound in [None, Some(0), Some(4_095)] {
+            assert_eq!(sizes(&file, bound), refused(8, 0));
+        }
+        assert_eq!(decode(&file, &[]), refused(8, 0));
+        assert_eq!(text_size(&file), refused(8, 0));
+        assert_eq!(check(&file, 4_095, &[], 0, 0, 0), refused(8, 0));
+    }
+}

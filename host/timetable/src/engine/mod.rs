@@ -1,0 +1,25 @@
+//! The engine's operations.
+//!
+//! Each function takes the bytes of the instance file first, lends the engine
+//! what it asks for, and answers its result or the first refusal. `call` has
+//! the C functions themselves, for callers that lend their own buffers. Without
+//! the feature `engine` there are the answers' types, the refusals' names and
+//! the limits alone.
+
+mod answers;
+#[cfg(feature = "engine")]
+pub mod call;
+mod limits;
+#[cfg(feature = "engine")]
+mod operations;
+mod refusals;
+#[cfg(feature = "engine")]
+mod store;
+
+pub use answers::{FormulaSize, Infeasibility, Objective, Refusal, Score, Summary};
+pub use limits::{LARGEST_BOUND, MOST_VARIABLES};
+#[cfg(feature = "engine")]
+pub use operations::{check, decode, read, same_sheet, score, sizes, text, text_size};
+pub use refusals::{refusal, refusal_facts, RefusalFacts, REFUSALS};
+#[cfg(feature = "engine")]
+pub use store::Store;

@@ -1,0 +1,112 @@
+//! Why an instance file is not accepted, in words.
+
+use super::field::{Field, Part};
+use super::limits::LONGEST_LIST;
+use std::fmt::{self, Display, Formatter};
+
+/// Why a file is not accepted, and at which of its numbers.
+#[derive(Clone, Debug, PartialEq, Eq)]
+pub struct Fault {
+    pub reason: Reason,
+    /// For a constraint's end its kind.
+    pub field: Field,
+}
+
+#[derive(Clone, Copy, Debug, PartialEq, Eq)]
+pub enum Reason {
+    /// A number is cut short, overlong or too large.
+    Malformed,
+    Outside,
+    /// A reference to nothing.
+    Nothing,
+    /// A list does not ascend.
+    NotAscending,
+    /// A counted list of this length.
+    LongList(usize),
+    /// lo is above hi.
+    Crossed {
+        lo: usize,
+        hi: usize,
+    },
+    /// lo is above the length of the counted list.
+    Unreachable {
+        lo: usize,
+        length: usize,
+    },
+    /// This many bytes are left over.
+    LeftOver(usize),
+}
+
+impl Fault {
+    /// The number of the engine's refusal.
+    pub fn number(&self) -> u32 {
+        match self.reason {
+            Reason::Malformed => 1,
+            Reason::Outside => 2,
+            Reason::Nothing | Reason::NotAscending => 3,
+            Reason::LongList(_) => 4,
+            Reason::Crossed { .. } | Reason::Unreachable { .. } => 5,
+            Reason::LeftOver(_) => 6,
+        }
+    }
+}
+
+impl Display for Fault {
+    fn fmt(&self, out: &mut Formatter) -> fmt::Result {
+        let path = &self.field.path;
+        match (self.reason, path.part) {
+            // What a constraint's end finds is said of the whole constraint.
+            (
+                Reason::LongList(_) | Reason::Crossed { .. } | Reason::Unreachable { .. },
+                Part::Constraint(number, Some(kind)),
+            ) => write!(
+                out,
+                "constraint {number}, kind {}: {}",
+                kind.name,
+                self.why()
+            ),
+            _ => write!(out, "{path}: {}", self.why()),
+        }
+    }
+}
+
+impl Fault {
+    /// The reason, with the number that was read where it matters.
+    fn why(&self) -> String {
+        let Field { value, limits, .. } = &self.field;
+        let (least, most) = (limits.start(), limits.end());
+        let value = value.unwrap_or_default();
+        match self.reason {
+            Reason::Outside => format!("{value} is not from {least} to {most}"),
+            Reason::Nothing if limits.is_empty() => {
+                format!("{value} names nothing, there is none to name")
+            }
+            Reason::Nothing => format!("{value} names nothing, {least} to {most} are there"),
+            Reason::NotAscending => format!("{value} is not above the entry before it"),
+            reason => reason.to_string(),
+        }
+    }
+}
+
+impl Display for Reason {
+    fn fmt(&self, out: &mut Formatter) -> fmt::Result {
+        match self {
+            Reason::Malformed => write!(out, "the number is cut short, overlong or too large"),
+            Reason::Outside => write!(out, "the value is outside its limits"),
+            Reason::Nothing => write!(out, "the reference names nothing"),
+            Reason::NotAscending => write!(out, "the list does not ascend"),
+            Reason::LongList(length) => write!(
+                out,
+                "its counted list has {length} entries, {LONGEST_LIST} are the most"
+            ),
+            Reason::Crossed { lo, hi } => write!(out, "lo is {lo}, above hi, which is {hi}"),
+            Reason::Unreachable { lo, length } => {
+                write!(
+                    out,
+                    "lo is {lo}, above the {length} entries of its counted list"
+                )
+            }
+            Reason::LeftOver(bytes) => write!(out, "{bytes} bytes are left over"),
+        }
+    }
+}

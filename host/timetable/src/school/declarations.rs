@@ -1,0 +1,116 @@
+//! The names that a text declares: each once, and no more than there may be.
+
+use super::cursor::Cursor;
+use super::fault::{Place, TextFault};
+use super::names::{Day, Names, Resource, ResourceSort};
+use super::times::TimeIndex;
+use super::words::Word;
+use crate::instance::{Thing, MOST_EVENTS, MOST_GROUPS, MOST_RESOURCES, MOST_TIMES};
+use std::collections::HashMap;
+
+#[derive(Default)]
+pub struct Declarations {
+    pub names: Names,
+    pub times: TimeIndex,
+    pub resources: HashMap<String, usize>,
+    pub lessons: HashMap<String, usize>,
+    pub groups: HashMap<String, usize>,
+}
+
+impl Declarations {
+    /// Reads a statement that declares the school's name, times or resources.
+    /// Whether `keyword` is such a statement.
+    pub fn read(&mut self, keyword: &Word, cursor: &mut Cursor) -> Result<bool, TextFault> {
+        match keyword.text.as_str() {
+            "school" => self.names.title = Some(cursor.name("the school's name")?.text.clone()),
+            "day" | "days" => self.days(cursor)?,
+            "time" | "times" => {
+                let times = cursor.names("the name of a time")?;
+                self.day(None, &times, keyword.place)?;
+            }
+            word => match sort_named(word) {
+                Some(sort) => self.resources(sort, cursor)?,
+                None => return Ok(false),
+            },
+        }
+        Ok(true)
+    }
+
+    /// `days DAY... periods PERIOD...`
+    fn days(&mut self, cursor: &mut Cursor) -> Result<(), TextFault> {
+        let days = cursor.names("the name of a day")?;
+        cursor.expect("periods")?;
+        let periods = cursor.names("the name of a period")?;
+        for day in days {
+            self.day(Some(day), &periods, day.place)?;
+        }
+        Ok(())
+    }
+
+    fn day(&mut self, day: Option<&Word>, periods: &[&Word], at: Place) -> Result<(), TextFault> {
+        let name = day.map(|day| day.text.clone());
+        let periods: Vec<String> = periods.iter().map(|period| period.text.clone()).collect();
+        if let Err(twice) = self.times.add(name.as_deref(), &periods) {
+            let message = format!("the name '{twice}' is used for a time or day already");
+            return Err(TextFault::at(at, message));
+        }
+        self.names.days.push(Day { name, periods });
+        limited(self.names.counts().times, MOST_TIMES, "times", at)
+    }
+
+    fn resources(&mut self, sort: ResourceSort, cursor: &mut Cursor) -> Result<(), TextFault> {
+        for word in cursor.names(&format!("the name of a {}", sort.one()))? {
+            self.add(Thing::Resource, word)?;
+            let name = word.text.clone();
+            self.names.resources.push(Resource { sort, name });
+        }
+        Ok(())
+    }
+
+    pub fn lesson(&mut self, word: &Word) -> Result<(), TextFault> {
+        self.add(Thing::Event, word)?;
+        self.names.lessons.push(word.text.clone());
+        Ok(())
+    }
+
+    pub fn group(&mut self, word: &Word) -> Result<(), TextFault> {
+        self.add(Thing::Group, word)?;
+        self.names.groups.push(word.text.clone());
+        Ok(())
+    }
+
+    /// Gives the next number to a name that is not used yet.
+    fn add(&mut self, thing: Thing, word: &Word) -> Result<(), TextFault> {
+        let number = self.names.counts().of(thing);
+        let (index, most, one, many) = match thing {
+            Thing::Resource => (&mut self.resources, MOST_RESOURCES, "resource", "resources"),
+            Thing::Group => (&mut self.groups, MOST_GROUPS, "group", "groups"),
+            _ => (&mut self.lessons, MOST_EVENTS, "lesson", "lessons"),
+        };
+        limited(number + 1, most, many, word.place)?;
+        match index.insert(word.text.clone(), number) {
+            None => Ok(()),
+            Some(_) => {
+                let message = format!("there is a {one} '{}' already", word.text);
+                Err(TextFault::at(word.place, message))
+            }
+        }
+    }
+}
+
+/// There may not be more of `things` than `most`.
+pub fn limited(count: usize, most: u32, things: &str, place: Place) -> Result<(), TextFault> {
+    match count > most as usize {
+        true => Err(TextFault::at(
+            place,
+            format!("there are more than {most} {things}"),
+        )),
+        false => Ok(()),
+    }
+}
+
+/// The sort of resources that a statement's first word declares.
+pub fn sort_named(word: &str) -> Option<ResourceSort> {
+    let mut sorts = ResourceSort::ALL.into_iter();
+    sorts.find(|sort| word == sort.many() || word == sort.one())
+}

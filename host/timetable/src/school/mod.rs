@@ -1,0 +1,39 @@
+//! A school in words: an instance with the names of its things, its text form
+//! (docs/FORMAT.md), and the side file that keeps the names.
+
+mod constraints;
+mod cursor;
+mod declarations;
+mod fault;
+mod names;
+mod names_file;
+mod parse;
+mod print;
+mod scope;
+#[cfg(test)]
+mod tests;
+mod times;
+mod words;
+
+pub use fault::TextFault;
+pub use names::{Day, Names, Resource, ResourceSort};
+pub use names_file::{read_names, write_names};
+pub use parse::parse;
+pub use print::{constraint_line, print};
+
+use crate::instance::Instance;
+
+#[derive(Clone, Debug, Default, PartialEq, Eq)]
+pub struct School {
+    pub instance: Instance,
+    /// As many names as the instance has things.
+    pub names: Names,
+}
+
+impl School {
+    /// `instance` with invented names.
+    pub fn unnamed(instance: Instance) -> School {
+        let names = Names::invented(instance.counts());
+        School { instance, names }
+    }
+}

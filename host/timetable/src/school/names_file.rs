@@ -1,0 +1,106 @@
+//! The side file of an instance: the names of its things, and a mark of the
+//! bytes that they were written for.
+
+use super::cursor::Cursor;
+use super::declarations::Declarations;
+use super::fault::TextFault;
+use super::names::Names;
+use super::print::Page;
+use super::words::{statements, written, Statement};
+use crate::instance::Counts;
+
+/// The side file for the names of the instance file `instance`.
+pub fn write_names(names: &Names, instance: &[u8]) -> String {
+    let mut page = Page::default();
+    page.comment("Names for an instance file; 'file' has its length and a mark of its bytes.");
+    let mark = format!("{:016x}", mark(instance));
+    page.statement(&["file".to_string(), instance.len().to_string(), mark]);
+    page.names(names);
+    page.gap();
+    for (keyword, list) in [(LESSONS, &names.lessons), (GROUPS, &names.groups)] {
+        if !list.is_empty() {
+            let mut words = vec![keyword.to_string()];
+            words.extend(list.iter().map(|name| written(name)));
+            page.statement(&words);
+        }
+    }
+    page.text
+}
+
+const LESSONS: &str = "lesson-names";
+const GROUPS: &str = "group-names";
+
+/// The names that the side file `text` gives to the things of the instance
+/// file `instance`, which has `counts` of them.
+pub fn read_names(text: &str, instance: &[u8], counts: Counts) -> Result<Names, TextFault> {
+    let mut declared = Declarations::default();
+    let statements = statements(text)?;
+    for statement in &statements {
+        read_statement(&mut declared, statement, instance)?;
+    }
+    let named = declared.names.counts();
+    let pairs = [
+        ("times", named.times, counts.times),
+        ("lessons", named.events, counts.events),
+        ("resources", named.resources, counts.resources),
+        ("groups", named.groups, counts.groups),
+    ];
+    for (things, named, there) in pairs {
+        if named != there {
+            let end = statements
+                .last()
+                .map_or(super::parse::START, |last| last.end);
+            let message = format!("{named} {things} are named, the instance has {there}");
+            return Err(TextFault::at(end, message));
+        }
+    }
+    Ok(declared.names)
+}
+
+fn read_statement(
+    declared: &mut Declarations,
+    statement: &Statement,
+    instance: &[u8],
+) -> Result<(), TextFault> {
+    let keyword = &statement.words[0];
+    let mut cursor = Cursor::after_first(statement);
+    match keyword.text.as_str() {
+        "file" => {
+            let length = cursor.name("a length")?.text.clone();
+            let written = cursor.name("a mark of the bytes")?.text.clone();
+            let here = (
+                instance.len().to_string(),
+                format!("{:016x}", mark(instance)),
+            );
+            if (length, written) != here {
+                let message = "these names were written for an instance file with other bytes";
+                return Err(TextFault::at(keyword.place, message));
+            }
+        }
+        LESSONS => {
+            for name in cursor.names("the name of a lesson")? {
+                declared.lesson(name)?;
+            }
+        }
+        GROUPS => {
+            for name in cursor.names("the name of a group")? {
+                declared.group(name)?;
+            }
+        }
+        _ => {
+            if !declared.read(keyword, &mut cursor)? {
+                let message = format!("expected names, found '{}'", keyword.text);
+                return Err(TextFault::at(keyword.place, message));
+            }
+        }
+    }
+    cursor.end()
+}
+
+/// FNV-1a over 64 bits. It shows a file that was exchanged by mistake; it is
+/// no protection against intent.
+fn mark(bytes: &[u8]) -> u64 {
+    bytes.iter().fold(0xcbf2_9ce4_8422_2325, |mark, &byte| {
+        (mark ^ u64::from(byte)).wrapping_mul(0x0000_0100_0000_01b3)
+    })
+}

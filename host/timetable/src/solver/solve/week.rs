@@ -1,0 +1,156 @@
+//! The state of a week: what is known, what the engine says to a model or a
+//! proof, and the files.
+
+use super::folder::Folder;
+use super::outcome::{Best, Outcome, Refuted};
+use super::{Options, Progress, Watcher};
+use crate::engine;
+use crate::solver::formula::Formula;
+use crate::solver::proofs::{self, Observer};
+use crate::solver::Fault;
+use std::time::{Duration, Instant};
+
+pub struct Week<'a> {
+    pub file: &'a [u8],
+    /// The hard clauses and the soft units.
+    pub hard: Formula,
+    pub folder: Folder,
+    pub outcome: Outcome,
+    started: Instant,
+    time: Duration,
+    watcher: &'a mut dyn Watcher,
+}
+
+impl<'a> Week<'a> {
+    /// The week of `file`, or 1 to 6, 8.
+    pub fn new(
+        file: &'a [u8],
+        options: &Options,
+        watcher: &'a mut dyn Watcher,
+    ) -> Result<Week<'a>, Fault> {
+        let hard = Formula::of(file)?;
+        let total_weight = hard.total_weight();
+        Ok(Week {
+            file,
+            hard,
+            folder: Folder::at(&options.folder)?,
+            outcome: Outcome {
+                total_weight,
+                ..Outcome::default()
+            },
+            started: Instant::now(),
+            time: options.time,
+            watcher,
+        })
+    }
+
+    pub fn elapsed(&self) -> Duration {
+        self.started.elapsed()
+    }
+
+    /// The time that is left for solvers.
+    pub fn left(&self) -> Duration {
+        self.time.saturating_sub(self.elapsed())
+    }
+
+    pub fn best_cost(&self) -> Option<u64> {
+        self.outcome.best.as_ref().map(|best| best.cost)
+    }
+
+    pub fn refuted_bound(&self) -> Option<u64> {
+        self.outcome.refuted.as_ref().map(|refuted| refuted.bound)
+    }
+
+    /// Tells the watcher what is done now. An error if a stop is asked for.
+    pub fn tell(&mut self, doing: &str) -> Result<(), Fault> {
+        let progress = Progress {
+            elapsed: self.elapsed(),
+            best: self.best_cost(),
+            refuted: self.refuted_bound(),
+            doing,
+        };
+        self.watcher.tell(&progress);
+        match self.watcher.stop() {
+            true => Err(Fault::Stopped),
+            false => Ok(()),
+        }
+    }
+
+    pub fn note(&mut self, note: String) {
+        if !self.outcome.notes.contains(&note) {
+            self.outcome.notes.push(note);
+        }
+    }
+
+    /// Has the engine decode a model, and keeps it if it is the best so far.
+    pub fn offer(&mut self, model: &[u8]) -> Result<(), Fault> {
+        let (timetable, cost) = match engine::decode(self.file, model) {
+            Ok((timetable, cost)) => (timetable, cost.0),
+            Err(refusal) => {
+                let refused = Fault::from(refusal);
+                self.note(format!("the engine refuses a solver's model: {refused}"));
+                return Ok(());
+            }
+        };
+        if self.best_cost().is_some_and(|best| best <= cost) {
+            return Ok(());
+        }
+        self.outcome.best = Some(Best {
+            cost,
+            model: self.folder.write("best.model", model)?,
+            timetable: self.folder.write("best.timetable", timetable)?,
+        });
+        Ok(())
+    }
+
+    /// Turns a solver's proof over `formula` into steps and has the engine
+    /// check them at `bound`. False, with a note, if that fails.
+    pub fn refute(&mut self, name: &str, formula: &Formula, bound: u64) -> Result<bool, Fault> {
+        let proof = match self.folder.read(&format!("{name}.drat")) {
+            Ok(proof) => proof,
+            Err(fault) => {
+                self.note(format!("no proof came: {fault}"));
+                return Ok(false);
+            }
+        };
+        // The ids go on after those of the tail, whether the proof uses it or not.
+        let highest = engine::sizes(self.file, bound)?.clauses as u32;
+        let steps = match proofs::steps(formula, &proof, highest, &mut Turning(self)) {
+            Ok(steps) => steps,
+            Err(Fault::Other(words)) => {
+                self.note(format!("the proof {name}.drat cannot be used: {words}"));
+                return Ok(false);
+            }
+            Err(fault) => return Err(fault),
+        };
+        let path = self.folder.write(&format!("{name}.proof"), &steps.bytes)?;
+        match engine::check(self.file, bound, &steps.bytes) {
+            Ok(steps) => {
+                self.outcome.refuted = Some(Refuted {
+                    bound,
+                    proof: path,
+                    steps,
+                });
+                Ok(true)
+            }
+            Err(refusal) => {
+                let refused = Fault::from(refusal);
+                self.note(format!(
+                    "the engine refuses the proof {name}.proof: {refused}"
+                ));
+                Ok(false)
+            }
+        }
+    }
+}
+
+/// Passes on how far the turning of a proof is.
+struct Turning<'a, 'b>(&'a mut Week<'b>);
+
+impl Observer for Turning<'_, '_> {
+    fn progress(&mut self, doing: &str, done: usize, of: usize) -> Result<(), Fault> {
+        // Whole percents, so that not every word is a new one.
+        let percent = done * 100 / of.max(1);
+        self.0.tell(&format!("the proof's {doing}: {percent} %"))
+    }
+}

@@ -1,0 +1,68 @@
+//! A timetable as people look at it: a grid for each resource, as text, as an
+//! HTML page or as CSV, and what each constraint charges.
+
+mod charges;
+mod csv;
+mod diff;
+mod grid;
+mod html;
+mod sheet;
+mod text;
+
+pub use charges::{charges, Charge, Place, Subject, Totals};
+pub use csv::{charges_csv, lessons_csv};
+pub use diff::{diff, Diff, Moved};
+pub use grid::{grids, Cell, Grid, Mark, Placed, Row};
+pub use html::{diff_page, page};
+pub use sheet::Sheet;
+pub use text::{charges_text, diff_text, grids_text};
+
+use crate::school::{constraint_line, School};
+use std::ops::Range;
+
+/// A school with one of its timetables.
+pub struct View<'a> {
+    pub school: &'a School,
+    pub sheet: Sheet<'a>,
+    /// What each constraint charges, in the order of the file.
+    pub charges: Vec<Charge>,
+}
+
+impl<'a> View<'a> {
+    /// None unless `table` has the length of a timetable of the school.
+    pub fn new(school: &'a School, table: &'a [u8]) -> Option<Self> {
+        let sheet = Sheet::over(&school.instance, table)?;
+        let charges = charges(&school.instance, &sheet);
+        Some(View {
+            school,
+            sheet,
+            charges,
+        })
+    }
+
+    pub fn totals(&self) -> Totals {
+        Totals::of(&self.charges)
+    }
+
+    /// The charges that are not 0, with the constraint's number from 0.
+    pub fn broken(&self) -> impl Iterator<Item = (usize, &Charge)> {
+        let all = self.charges.iter().enumerate();
+        all.filter(|(_, charge)| charge.deviation > 0)
+    }
+
+    /// The constraint `number`, from 0, in the text form.
+    pub fn constraint_line(&self, number: usize) -> String {
+        let School { instance, names } = self.school;
+        constraint_line(names, &instance.constraints[number])
+    }
+
+    /// Blocks by the names of their times.
+    pub fn blocks_line(&self, blocks: &[Range<usize>]) -> String {
+        let times = self.school.names.times();
+        let block = |block: &Range<usize>| match block.len() {
+            1 => times[block.start].clone(),
+            _ => format!("{} to {}", times[block.start], times[block.end - 1]),
+        };
+        blocks.iter().map(block).collect::<Vec<_>>().join(", ")
+    }
+}

@@ -1,0 +1,148 @@
+//! The subcommands over the engine's operations, run as a program.
+#![cfg(feature = "engine")]
+
+mod support;
+
+use std::fs;
+use std::process::Command;
+use support::{file, folder, hex, host, oversized, program, run, school, schools, Run, FILE_A};
+
+/// The text of file A.
+const TEXT_A: &str = "\
+p wcnf 4 8 5
+5 1 -2 0
+5 -1 2 0
+5 -1 3 0
+5 1 -3 0
+5 3 0
+5 -1 4 0
+5 1 -4 0
+4 -4 0
+";
+
+#[test]
+fn read_prints_the_counts_of_an_accepted_file() {
+    let found = run(&["read", &school("toy.instance")]);
+    assert_eq!(
+        found.printed,
+        "accepted\ntimes 9\nevents 6\nresources 5\ngroups 7\nconstraints 43\n"
+    );
+    assert_eq!((found.said.as_str(), found.status), ("", 0));
+}
+
+#[test]
+fn sizes_prints_what_to_lend() {
+    let found = run(&["sizes", &school("toy.instance"), "3"]);
+    assert_eq!(found.printed, "variables 1478\nclauses 4835\nwords 12187\n");
+    assert_eq!((found.said.as_str(), found.status), ("", 0));
+    let found = run(&["sizes", &school("toy.instance"), "4096"]);
+    assert_eq!(
+        found,
+        Run {
+            printed: "refused 7 4096\n".to_string(),
+            said: "timetable sizes: bound 4096: refusal 7 4096: the bound is above 4,095; \
+                   it is 4096\n"
+                .to_string(),
+            status: 1,
+        }
+    );
+    let large = file("oversized", &oversized());
+    let found = run(&["sizes", &large, "0"]);
+    assert_eq!(found.printed, "refused 8 0\n");
+    let said = "timetable sizes: oversized: refusal 8 0: the formula has more than 8,000,000 \
+                variables\n";
+    assert_eq!((found.said.as_str(), found.status), (said, 1));
+}
+
+#[test]
+fn score_prints_both_amounts() {
+    let toy = [school("toy.instance"), school("toy.timetable")];
+    let found = run(&["score", &toy[0], &toy[1]]);
+    assert_eq!(found.printed, "infeasibility 0\nobjective 4\n");
+    assert_eq!((found.said.as_str(), found.status), ("", 0));
+}
+
+#[test]
+fn same_compares_the_taken_bytes() {
+    let instance = file("two-times", &hex("02 01 00 01 00 00 00"));
+    let early = file("early", &[1, 0, 1, 0]);
+    let late = file("late", &[0, 1, 0, 1]);
+    for (words, printed, status) in [
+        ([&early, &early], "same\n", 0),
+        ([&early, &late], "different\n", 1),
+    ] {
+        let found = run(&["same", &instance, words[0], words[1]]);
+        assert_eq!(found.printed, printed);
+        assert_eq!((found.said.as_str(), found.status), ("", status));
+    }
+    let bad = file("bad", &[0, 1, 0, 7]);
+    for (words, name) in [([&bad, &early], "bad"), ([&early, &bad], "bad")] {
+        let found = run(&["same", &instance, words[0], words[1]]);
+        assert_eq!(
+            (found.printed.as_str(), found.status),
+            ("refused 11 3\n", 1)
+        );
+        let said = format!("timetable same: {name}: refusal 11 3: ");
+        assert!(found.said.starts_with(&said), "{}", found.said);
+    }
+}
+
+#[test]
+fn text_prints_the_clauses() {
+    let a = file("a-to-write", &hex(FILE_A));
+    let found = run(&["text", &a]);
+    assert_eq!(found.printed, TEXT_A);
+    assert_eq!((found.said.as_str(), found.status), ("", 0));
+    // A text of more than 65,536 bytes.
+    let found = run(&["text", &school("small.instance")]);
+    assert_eq!(found.printed.len(), 1_538_300);
+    assert!(found.printed.starts_with("p wcnf 20327 73557 "));
+    let found = run(&["text", &file("oversized-text", &oversized())]);
+    assert_eq!((found.printed.as_str(), found.status), ("refused 8 0\n", 1));
+}
+
+#[test]
+fn decode_prints_the_cost_and_writes_the_timetable() {
+    let toy = [school("toy.instance"), school("toy.model")];
+    let found = run(&["decode", &toy[0], &toy[1]]);
+    assert_eq!(found.printed, "objective 4\nbytes 108\n");
+    assert_eq!((found.said.as_str(), found.status), ("", 0));
+    let written = folder().join("decoded");
+    let with_file = run(&["decode", &toy[0], "--out", "decoded", &toy[1]]);
+    assert_eq!(with_file, found);
+    let table = fs::read(schools().join("toy.timetable")).expect("a timetable");
+    assert_eq!(fs::read(&written).expect("the decoded timetable"), table);
+}
+
+#[test]
+fn check_says_no_timetable_for_a_refutation() {
+    for (name, bound, printed) in [
+        ("toy", "3", "no timetable\nbound 3\nsteps 136\n"),
+        ("small", "10", "no timetable\nbound 10\nsteps 539\n"),
+    ] {
+        let [instance, proof] = ["instance", "proof"].map(|kind| school(&format!("{name}.{kind}")));
+        let found = run(&["check", &instance, bound, &proof]);
+        assert_eq!(found.printed, printed);
+        assert_eq!((found.said.as_str(), found.status), ("", 0));
+    }
+}
+
+/// The script that README.md names.
+#[test]
+fn the_five_days_end_with_a_price_that_no_timetable_undercuts() {
+    let script = host().join("five-days");
+    let output = Command::new(script)
+        .env("TIMETABLE", program())
+        .output()
+        .expect("the script runs");
+    let printed = String::from_utf8(output.stdout).expect("text");
+    assert!(output.status.success(), "{printed}");
+    for line in [
+        "    objective 11\n",
+        "    no timetable\n    bound 10\n    steps 539\n",
+        "    refused 14 539\n",
+        "costs 11, and every other that keeps the hard constraints costs 11 or more.\n",
+    ] {
+        assert!(printed.contains(line), "{printed}");
+    }
+}

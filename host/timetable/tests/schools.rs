@@ -1,0 +1,335 @@
+//! The example schools, from their text to the page: the command run as a program.
+#![cfg(feature = "engine")]
+
+mod support;
+
+use std::collections::BTreeSet;
+use std::fs;
+use std::path::{Path, PathBuf};
+use support::{command, folder, host, repository, Run};
+use timetable::instance::KINDS;
+
+/// Each example with the cost of its timetable.
+const EXAMPLES: [(&str, u64); 3] = [("village", 4), ("town", 3), ("evening", 4)];
+
+fn run(folder: &Path, words: &[&str]) -> Run {
+    let output = command(words).current_dir(folder).output();
+    let output = output.expect("the command runs");
+    Run {
+        printed: String::from_utf8(output.stdout).expect("text"),
+        said: String::from_utf8(output.stderr).expect("text"),
+        status: output.status.code().expect("an exit status"),
+    }
+}
+
+/// What a call printed that must be accepted.
+fn accepted(folder: &Path, words: &[&str]) -> String {
+    let run = run(folder, words);
+    assert_eq!(run.status, 0, "{words:?}: {}", run.said);
+    run.printed
+}
+
+fn examples() -> PathBuf {
+    repository().join("examples")
+}
+
+/// A folder of the test's own with an example compiled and its timetable.
+fn compiled(test: &str, name: &str) -> PathBuf {
+    let folder = folder().join(test).join(name);
+    // What an earlier run left would be read by this one.
+    let _ = fs::remove_dir_all(&folder);
+    fs::create_dir_all(&folder).expect("a folder");
+    for (from, to) in [("school", "a.school"), ("timetable", "a.timetable")] {
+        let from = examples().join(format!("{name}.{from}"));
+        fs::copy(&from, folder.join(to)).unwrap_or_else(|_| panic!("{}", from.display()));
+    }
+    accepted(&folder, &["compile", "a.school", "-o", "a.instance"]);
+    folder
+}
+
+/// A text is line by line the one in `pages/`.
+fn is_as_expected(text: &str, name: &str) {
+    let path = host().join("timetable/tests/pages").join(name);
+    let expected = fs::read_to_string(&path).unwrap_or_else(|_| panic!("{}", path.display()));
+    for (number, (line, expected)) in text.lines().zip(expected.lines()).enumerate() {
+        assert_eq!(line, expected, "{name}, line {}", number + 1);
+    }
+    assert_eq!(text.lines().count(), expected.lines().count(), "{name}");
+}
+
+#[test]
+fn what_explain_prints_compiles_to_the_same_bytes_and_names() {
+    for (name, _) in EXAMPLES {
+        let folder = compiled("explain", name);
+        accepted(&folder, &["explain", "a.instance", "-o", "b.school"]);
+        accepted(&folder, &["compile", "b.school", "-o", "b.instance"]);
+        let bytes = |file: &str| fs::read(folder.join(file)).expect("a file");
+        assert_eq!(bytes("a.instance"), bytes("b.instance"), "{name}");
+        assert_eq!(
+            bytes("a.instance.names"),
+            bytes("b.instance.names"),
+            "{name}"
+        );
+        accepted(
+            &folder,
+            &["explain", "a.instance", "--no-names", "-o", "c.school"],
+        );
+        accepted(&folder, &["compile", "c.school", "-o", "c.instance"]);
+        assert_eq!(bytes("a.instance"), bytes("c.instance"), "{name}");
+        assert_ne!(
+            bytes("a.instance.names"),
+            bytes("c.instance.names"),
+            "{name}"
+        );
+    }
+}
+
+#[test]
+fn the_schools_of_the_tests_compile_again() {
+    let schools = host().join("schools");
+    let folder = compiled("again", "village");
+    for name in ["toy.instance", "small.instance"] {
+        let file = schools.join(name);
+        let text = accepted(&folder, &["explain", &file.to_string_lossy()]);
+        fs::write(folder.join("text"), text).expect("a file");
+        let output = command(&["compile", "text"]).current_dir(&folder).output();
+        let bytes = output.expect("the command runs").stdout;
+        assert_eq!(bytes, fs::read(&file).expect("a file"), "{name}");
+    }
+}
+
+#[test]
+fn the_village_is_shown_as_expected() {
+    let folder = compiled("shown", "village");
+    let show = |words: &[&str]| {
+        accepted(
+            &folder,
+            &[&["show", "a.instance", "a.timetable"], words].concat(),
+        )
+    };
+    is_as_expected(&show(&[]), "village.txt");
+    is_as_expected(&visible(&show(&["--html"])), "village.html.txt");
+    is_as_expected(&show(&["--csv", "--class", "Lower"]), "village.csv");
+}
+
+#[test]
+fn the_charges_sum_up_to_the_cost() {
+    for (name, cost) in EXAMPLES {
+        let folder = compiled("charges", name);
+        let show = ["show", "a.instance", "a.timetable", "--charges"];
+        let table = accepted(&folder, &show);
+        assert!(
+            table.ends_with(&format!("infeasibility 0\nobjective {cost}\n")),
+            "{table}"
+        );
+        let csv = accepted(&folder, &[&show[..], &["--csv"]].concat());
+        let charges = csv.lines().skip(1).map(|line| {
+            let field = line.split(',').nth(3).expect("a charge");
+            field.parse::<u64>().expect("a number")
+        });
+        assert_eq!(charges.sum::<u64>(), cost, "{name}");
+    }
+}
+
+#[test]
+fn the_page_is_whole_and_accessible() {
+    for (name, _) in EXAMPLES {
+        let folder = compiled("page", name);
+        let page = accepted(&folder, &["show", "a.instance", "a.timetable", "--html"]);
+        assert!(page.starts_with("<!DOCTYPE html>\n<html lang=\"en\">\n"));
+        assert!(page.contains("<title>") && page.contains("@media print"));
+        for outside in [
+            "<script", "<link", "<img", "http:", "https:", "url(", "@import",
+        ] {
+            assert!(!page.contains(outside), "{name}: {outside}");
+        }
+        let tags = tags(&page);
+        assert!(tags.iter().all(|tag| !tag.starts_with("th")
+            || tag.contains("scope=")
+            || tag.starts_with("thead")));
+        let values = |attribute: &str| -> Vec<String> {
+            let values = tags.iter().filter_map(|tag| tag.split_once(attribute));
+            values
+                .map(|(_, rest)| rest.split('"').next().unwrap_or("").to_string())
+                .collect()
+        };
+        let ids = values(" id=\"");
+        let all: BTreeSet<&String> = ids.iter().collect();
+        assert_eq!(ids.len(), all.len(), "{name}: an id stands twice");
+        for target in values(" href=\"#")
+            .iter()
+            .chain(&values(" aria-labelledby=\""))
+        {
+            assert!(all.contains(target), "{name}: {target} is not there");
+        }
+    }
+}
+
+#[test]
+fn names_with_a_meaning_in_html_are_escaped() {
+    let folder = compiled("escaped", "village");
+    let text = fs::read_to_string(folder.join("a.school")).expect("a text");
+    let text = text
+        .replace("Music", "\"<b>&amp;\\\"Music\"")
+        .replace("Village School", "A < B");
+    fs::write(folder.join("a.school"), text).expect("a file");
+    accepted(&folder, &["compile", "a.school", "-o", "a.instance"]);
+    let page = accepted(&folder, &["show", "a.instance", "a.timetable", "--html"]);
+    assert!(page.contains("<title>A &lt; B</title>"));
+    assert!(page.contains("&lt;b&gt;&amp;amp;&quot;Music"));
+    assert!(!page.contains("<b>&amp;\"Music"));
+}
+
+#[test]
+fn one_grid_can_be_asked_for() {
+    let folder = compiled("one", "town");
+    let show = |words: &[&str]| {
+        run(
+            &folder,
+            &[&["show", "a.instance", "a.timetable"], words].concat(),
+        )
+    };
+    for (option, name, title) in [
+        ("--class", "1A", "Class 1A"),
+        ("--teacher", "Abel", "Teacher Abel"),
+        ("--room", "Gym", "Room Gym"),
+        ("--resource", "Lab", "Room Lab"),
+    ] {
+        let text = show(&[option, name]).printed;
+        assert!(text.starts_with(&format!("{title}\n\n")), "{text}");
+        assert_eq!(text.matches("\n\nCharges\n").count(), 1);
+    }
+    let wrong = show(&["--class", "Abel"]);
+    assert_eq!(
+        (wrong.status, wrong.said.as_str()),
+        (1, "timetable show: there is no class 'Abel'\n")
+    );
+    assert_eq!(show(&["--html", "--csv"]).status, 2);
+}
+
+#[test]
+fn a_text_that_is_no_school_is_told_with_its_place() {
+    let folder = compiled("fault", "village");
+    let text = fs::read_to_string(folder.join("a.school")).expect("a text");
+    fs::write(
+        folder.join("b.school"),
+        text.replace("in Mornings", "in Noon"),
+    )
+    .expect("a file");
+    let wrong = run(&folder, &["compile", "b.school", "-o", "b.instance"]);
+    assert_eq!(wrong.status, 1);
+    assert_eq!(
+        wrong.said,
+        "timetable compile: b.school: line 35, column 43: there is no group 'Noon'\n  \
+         preferred-times weight 3 Numbers-Lower in Noon\n  \
+         \u{20}                                         ^\n"
+    );
+    assert!(!folder.join("b.instance").exists() && !folder.join("b.instance.names").exists());
+    fs::write(folder.join("c.school"), b"times a\n\nlesson \xff").expect("a file");
+    let wrong = run(&folder, &["compile", "c.school"]);
+    assert!(
+        wrong.said.contains("line 3, column 8: this is not UTF-8"),
+        "{}",
+        wrong.said
+    );
+}
+
+#[test]
+fn names_of_another_file_are_rejected() {
+    let folder = compiled("other", "village");
+    let town = compiled("other", "town");
+    fs::copy(town.join("a.instance"), folder.join("a.instance")).expect("a file");
+    let run = run(&folder, &["explain", "a.instance"]);
+    assert_eq!(run.status, 1);
+    assert!(
+        run.said
+            .contains("were written for an instance file with other bytes"),
+        "{}",
+        run.said
+    );
+    accepted(&folder, &["explain", "a.instance", "--no-names"]);
+    let side = town.join("a.instance.names");
+    accepted(
+        &folder,
+        &["explain", "a.instance", "--names", &side.to_string_lossy()],
+    );
+}
+
+#[test]
+fn diff_says_what_moved() {
+    let folder = compiled("diff", "village");
+    let diff = |second: &str| run(&folder, &["diff", "a.instance", "a.timetable", second]);
+    let same = diff("a.timetable");
+    assert_eq!((same.printed.as_str(), same.status), ("nothing moved\n", 0));
+    let second = examples().join("village-moved.timetable");
+    let moved = diff(&second.to_string_lossy());
+    is_as_expected(&moved.printed, "moved.txt");
+    assert_eq!(moved.status, 1);
+    fs::write(folder.join("c.timetable"), [1; 3]).expect("a file");
+    let refused = diff("c.timetable");
+    assert_eq!(
+        (refused.printed.as_str(), refused.status),
+        ("refused 10 360\n", 1)
+    );
+    assert!(refused.said.contains("c.timetable"), "{}", refused.said);
+}
+
+#[test]
+fn the_format_is_as_it_is_described() {
+    let format = fs::read_to_string(repository().join("docs/FORMAT.md")).expect("a text");
+    let section = format
+        .split_once("## A worked school")
+        .expect("a section")
+        .1;
+    let worked = section.split("```").nth(1).expect("a school");
+    let folder = compiled("format", "village");
+    fs::write(folder.join("b.school"), worked).expect("a file");
+    let report = accepted(&folder, &["compile", "b.school", "-o", "b.instance"]);
+    assert!(
+        report.starts_with("accepted\ntimes 20\nevents 3\n"),
+        "{report}"
+    );
+    for facts in KINDS {
+        let row = format!("| {} | `{} hard ", facts.number, facts.name);
+        assert!(format.contains(&row), "{row}");
+    }
+}
+
+/// The tags of a page, without their angle brackets; they must be balanced.
+fn tags(page: &str) -> Vec<String> {
+    let body = page.split_once("</style>").expect("a style").1;
+    let mut open = vec!["html", "head"];
+    let mut tags = Vec::new();
+    for part in body.split('<').skip(1) {
+        let tag = part.split('>').next().expect("a tag's end");
+        let name = tag.split(' ').next().expect("a tag's name");
+        match name.strip_prefix('/') {
+            Some(name) => assert_eq!(open.pop(), Some(name)),
+            None => open.push(name),
+        }
+        tags.push(tag.to_string());
+    }
+    assert!(open.is_empty(), "{open:?} are not closed");
+    tags
+}
+
+/// What a reader sees of a page: the text between the tags, a row of a table on
+/// a line.
+fn visible(page: &str) -> String {
+    let body = page.split_once("<body>").expect("a body").1;
+    let mut text = String::new();
+    for (tag, after) in body.split('<').filter_map(|part| part.split_once('>')) {
+        let name = tag.split(' ').next().expect("a tag's name");
+        text += match name {
+            "/td" | "/th" => " | ",
+            "/tr" | "/p" | "/li" | "/h1" | "/h2" | "/caption" | "/summary" => "\n",
+            "span" | "/b" | "/a" | "/em" => " ",
+            _ => "",
+        };
+        text += after.trim_matches('\n');
+    }
+    let lines = text
+        .lines()
+        .map(|line| line.split_whitespace().collect::<Vec<_>>().join(" "));
+    lines.map(|line| line + "\n").collect()
+}

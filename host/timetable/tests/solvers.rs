@@ -1,0 +1,134 @@
+//! What solvers print and write, recorded (`recorded/`), through the command.
+#![cfg(feature = "engine")]
+
+mod support;
+
+use std::fs;
+use support::{file, folder, hex, host, run, run_with, school, FILE_A, PROOF_A};
+
+fn recorded(name: &str) -> String {
+    let path = host().join("recorded").join(name);
+    path.to_str().expect("a path").to_string()
+}
+
+#[test]
+fn dimacs_writes_the_clauses_with_the_tail() {
+    let a = file("a", &hex(FILE_A));
+    let hard = "1 -2 0\n-1 2 0\n-1 3 0\n1 -3 0\n3 0\n-1 4 0\n1 -4 0\n";
+    let found = run(&["dimacs", &a]);
+    assert_eq!(found.printed, format!("p cnf 4 7\n{hard}"));
+    let tail = "-4 5 0\n4 -5 0\n-4 6 0\n4 -6 0\n-4 7 0\n4 -7 0\n-4 8 0\n4 -8 0\n-8 0\n";
+    let found = run(&["dimacs", &a, "3"]);
+    assert_eq!(found.printed, format!("p cnf 8 16\n{hard}{tail}"));
+    assert_eq!((found.said.as_str(), found.status), ("", 0));
+    assert_eq!(run(&["dimacs", &a, "4096"]).printed, "refused 7 4096\n");
+}
+
+#[test]
+fn dimacs_has_the_sizes_that_the_engine_gives() {
+    for name in ["toy.instance", "small.instance"] {
+        for bound in ["0", "3", "40"] {
+            let text = run(&["dimacs", &school(name), bound]).printed;
+            let words: usize = text
+                .lines()
+                .skip(1)
+                .map(|line| line.split(' ').count() - 1)
+                .sum();
+            let header: Vec<&str> = text.lines().next().unwrap_or("").split(' ').collect();
+            let sizes = run(&["sizes", &school(name), bound]).printed;
+            let expected = format!(
+                "variables {}\nclauses {}\nwords {words}\n",
+                header[2], header[3]
+            );
+            assert_eq!(sizes, expected, "{name} {bound}");
+            assert_eq!(text.lines().count() - 1, header[3].parse().unwrap());
+        }
+    }
+}
+
+#[test]
+fn every_recorded_model_is_decoded() {
+    for name in [
+        "clasp.out",
+        "cadical-4.out",
+        "picosat-4.out",
+        "minisat-4.out",
+        "z3-4.out",
+        "z3.out",
+        "cryptominisat-4.out",
+    ] {
+        let model = format!("{name}.model");
+        let toy = school("toy.instance");
+        let found = run(&["model", &toy, &recorded(name), "--out", &model]);
+        assert_eq!((found.printed.as_str(), found.status), ("", 0), "{name}");
+        let found = run(&["decode", &toy, &model]);
+        assert_eq!(found.printed, "objective 4\nbytes 108\n", "{name}");
+    }
+}
+
+#[test]
+fn an_output_without_a_model_is_told() {
+    for name in [
+        "clasp-3.out",
+        "cadical-3.out",
+        "picosat-3.out",
+        "minisat-3.out",
+    ] {
+        let found = run(&["model", &school("toy.instance"), &recorded(name)]);
+        assert_eq!((found.printed.as_str(), found.status), ("", 1), "{name}");
+        let said = "timetable model: the solver says that the clauses have no model\n";
+        assert_eq!(found.said, said, "{name}");
+    }
+    let found = run_with(&["model", &school("toy.instance"), "-"], b"c nothing\n");
+    assert_eq!(found.status, 1);
+    assert!(found.said.contains("there is no model"), "{}", found.said);
+}
+
+#[test]
+fn every_recorded_proof_is_turned_and_accepted() {
+    for name in ["cadical-3.drat", "cadical-3.text.drat", "picosat-3.rup"] {
+        let toy = school("toy.instance");
+        let steps = format!("{name}.proof");
+        let found = run(&["steps", &toy, "3", &recorded(name), "-o", &steps]);
+        assert_eq!((found.printed.as_str(), found.status), ("", 0), "{name}");
+        let found = run(&["check", &toy, "3", &steps]);
+        assert!(
+            found.printed.starts_with("no timetable\nbound 3\n"),
+            "{name}"
+        );
+        let bytes = fs::read(folder().join(&steps)).expect("the steps");
+        assert!(bytes.contains(&b'd'), "{name} has no deletion");
+    }
+}
+
+#[test]
+fn a_proof_at_another_bound_is_rejected() {
+    for name in ["cadical-3.drat", "picosat-3.rup"] {
+        let found = run(&["steps", &school("toy.instance"), "4", &recorded(name)]);
+        assert_eq!((found.printed.as_str(), found.status), ("", 1), "{name}");
+        assert!(
+            found.said.contains("another file or bound"),
+            "{}",
+            found.said
+        );
+    }
+}
+
+#[test]
+fn a_proof_that_is_no_solvers_is_rejected() {
+    let a = file("a.instance", &hex(FILE_A));
+    let proof = file("a.proof", &hex(PROOF_A));
+    let words = file("words", b"this is no proof\n");
+    // The engine's own steps are spelt as binary LRAT is, so they are accepted.
+    let found = run(&["steps", &a, "3", &proof, "-o", "again.proof"]);
+    assert_eq!(found.status, 0, "{}", found.said);
+    assert!(run(&["check", &a, "3", "again.proof"])
+        .printed
+        .starts_with("no timetable"));
+    let found = run(&["steps", &a, "3", &words]);
+    assert_eq!(found.status, 1);
+    assert!(found.said.contains("'this'"), "{}", found.said);
+    let found = run(&["steps", &school("toy.instance"), "3", &file("empty", b"")]);
+    assert_eq!(found.status, 1);
+    assert!(found.said.contains("no conflict"), "{}", found.said);
+}

@@ -1,0 +1,210 @@
+//! `timetable solve` with stand-ins for solvers: shell scripts that print and
+//! write what solvers did (`recorded/`), or what no honest solver does.
+#![cfg(feature = "engine")]
+
+mod support;
+
+use std::fs;
+use std::io::Read;
+use std::os::unix::fs::PermissionsExt;
+use std::process::Stdio;
+use std::thread;
+use std::time::{Duration, Instant};
+use support::{command, folder, host, run, school, Run};
+
+/// Makes scripts of these names in a folder of their own, each with the
+/// variable R for the recordings, and gives their paths with commas between.
+fn stand_ins(folder_name: &str, scripts: &[(&str, &str)]) -> String {
+    let folder = folder().join(folder_name);
+    fs::create_dir_all(&folder).expect("a folder for the scripts");
+    let paths = scripts.iter().map(|(name, script)| {
+        let path = folder.join(name);
+        let recorded = host().join("recorded");
+        let text = format!("#!/bin/sh\nR='{}'\n{script}\n", recorded.display());
+        fs::write(&path, text).expect("a script");
+        fs::set_permissions(&path, fs::Permissions::from_mode(0o755)).expect("a script that runs");
+        path.to_str().expect("a path").to_string()
+    });
+    paths.collect::<Vec<_>>().join(",")
+}
+
+/// clasp with its two models of the toy school.
+const CLASP: (&str, &str) = ("clasp", "cat \"$R/clasp.out\"");
+/// cadical with its answers at the bounds 4, 3 and 2; it is called with -q, the
+/// clauses and the proof.
+const CADICAL: (&str, &str) = (
+    "cadical",
+    "case $2 in
+     *bound-2.cnf) cp \"$R/cadical-2.drat\" \"$3\"; cat \"$R/cadical-2.out\" ;;
+     *bound-3.cnf) cp \"$R/cadical-3.drat\" \"$3\"; cat \"$R/cadical-3.out\" ;;
+     *) cat \"$R/cadical-4.out\" ;;
+     esac",
+);
+
+fn solve(solvers: &str, out: &str, more: &[&str]) -> Run {
+    let toy = school("toy.instance");
+    let words = ["solve", &toy, "--solver", solvers, "--out", out];
+    run(&[&words[..], more].concat())
+}
+
+#[test]
+fn a_week_ends_with_the_engines_answers() {
+    let solvers = stand_ins("both", &[CLASP, CADICAL]);
+    let found = solve(&solvers, "both-out", &[]);
+    assert_eq!(
+        found.printed,
+        "costs 4; none at 3 or less, checked\n\
+         model both-out/best.model\n\
+         timetable both-out/best.timetable\n\
+         proof both-out/bound-3.proof\n"
+    );
+    assert_eq!(found.status, 0);
+    assert!(found.said.contains("best cost"), "{}", found.said);
+    let toy = school("toy.instance");
+    let decoded = run(&["decode", &toy, "both-out/best.model"]);
+    assert_eq!(decoded.printed, "objective 4\nbytes 108\n");
+    let scored = run(&["score", &toy, "both-out/best.timetable"]);
+    assert_eq!(scored.printed, "infeasibility 0\nobjective 4\n");
+    let checked = run(&["check", &toy, "3", "both-out/bound-3.proof"]);
+    assert!(checked.printed.starts_with("no timetable\n"));
+}
+
+#[test]
+fn a_week_without_an_optimiser_asks_for_less_and_less() {
+    let solvers = stand_ins("alone", &[CADICAL]);
+    // First the middle of what is open, 2, and then 3.
+    let found = solve(&solvers, "alone-out", &["--json"]);
+    assert!(
+        found.printed.contains("\"cost\":4,\"refuted\":3,"),
+        "{}",
+        found.printed
+    );
+    assert_eq!(found.status, 0, "{}", found.said);
+}
+
+#[test]
+fn without_proofs_the_gap_is_told() {
+    let solvers = stand_ins("clasp-only", &[CLASP]);
+    let found = solve(&solvers, "clasp-only-out", &[]);
+    assert!(
+        found
+            .printed
+            .starts_with("costs 4; nothing refuted; open from 0 to 3\n"),
+        "{}",
+        found.printed
+    );
+    assert_eq!(found.status, 3);
+    assert!(
+        found.said.contains("no solver that writes proofs"),
+        "{}",
+        found.said
+    );
+}
+
+#[test]
+fn a_solvers_word_is_not_taken() {
+    let liars = [
+        ("no-proof", "echo 's UNSATISFIABLE'"),
+        (
+            "no-conflict",
+            "printf 'a\\002\\000' >\"$3\"; echo 's UNSATISFIABLE'",
+        ),
+        ("words", "echo 'trust me' >\"$3\"; echo 's UNSATISFIABLE'"),
+        (
+            "other-bound",
+            "cp \"$R/picosat-3.rup\" \"$3\"; sed -i 1,900d \"$3\"; echo 's UNSATISFIABLE'",
+        ),
+        ("wrong-model", "echo 's SATISFIABLE'; echo 'v 1 2 3 0'"),
+        ("nothing", "exit 1"),
+    ];
+    for (name, script) in liars {
+        let solvers = stand_ins(name, &[CLASP, ("cadical", script)]);
+        let found = solve(&solvers, &format!("{name}-out"), &[]);
+        // What propagation alone refutes, it refutes whatever the solver writes.
+        assert!(
+            found.printed.starts_with("costs 4; "),
+            "{name}: {}",
+            found.printed
+        );
+        assert!(
+            found.printed.contains("; open from "),
+            "{name}: {}",
+            found.printed
+        );
+        assert_eq!(found.status, 3, "{name}");
+        assert!(
+            found.said.lines().count() > 1,
+            "{name} is passed over in silence"
+        );
+    }
+}
+
+#[test]
+fn the_time_is_kept() {
+    let slow = ("cadical", "exec sleep 600");
+    let solvers = stand_ins("slow", &[CLASP, slow]);
+    let started = Instant::now();
+    let found = solve(&solvers, "slow-out", &["--time", "2"]);
+    assert!(started.elapsed() < Duration::from_secs(60));
+    assert!(
+        found.printed.starts_with("costs 4; nothing refuted;"),
+        "{}",
+        found.printed
+    );
+    assert_eq!(found.status, 3);
+}
+
+#[test]
+fn interrupted_it_keeps_what_it_has_and_says_so() {
+    let slow = ("cadical", "exec sleep 600");
+    let solvers = stand_ins("interrupted", &[CLASP, slow]);
+    let out = "interrupted-out";
+    let _ = fs::remove_dir_all(folder().join(out));
+    let toy = school("toy.instance");
+    let words = ["solve", &toy, "--solver", &solvers, "--out", out];
+    let mut child = command(&words)
+        .stdin(Stdio::null())
+        .stdout(Stdio::piped())
+        .stderr(Stdio::null())
+        .spawn()
+        .expect("the command starts");
+    let model = folder().join(out).join("best.timetable");
+    let started = Instant::now();
+    while !model.is_file() && started.elapsed() < Duration::from_secs(60) {
+        thread::sleep(Duration::from_millis(20));
+    }
+    // What ends the first process for good ends it as a key press would.
+    child.kill().expect("the command runs");
+    child.wait().expect("the command ends");
+    let mut printed = String::new();
+    let mut stdout = child.stdout.take().expect("its standard output");
+    stdout.read_to_string(&mut printed).expect("text");
+    assert!(printed.starts_with("interrupted\ncosts "), "{printed}");
+    assert!(
+        printed.contains("timetable interrupted-out/best.timetable\n"),
+        "{printed}"
+    );
+}
+
+#[test]
+fn a_file_that_is_refused_starts_no_solver() {
+    let solvers = stand_ins("refused", &[CLASP, CADICAL]);
+    let cut = support::file("cut.instance", &[1, 1]);
+    let found = run(&["solve", &cut, "--solver", &solvers, "--out", "refused-out"]);
+    assert_eq!((found.printed.as_str(), found.status), ("refused 1 2\n", 1));
+    assert!(!folder().join("refused-out").exists());
+}
+
+#[test]
+fn wrong_solvers_are_told() {
+    let found = solve("gurobi", "wrong-out", &[]);
+    assert_eq!(found.status, 2);
+    assert!(found.said.contains("'gurobi' is none of"), "{}", found.said);
+    let found = solve("./no-such-folder/cadical", "missing-out", &[]);
+    assert_eq!(found.status, 2);
+    assert!(
+        found.said.contains("./no-such-folder/cadical: "),
+        "{}",
+        found.said
+    );
+}

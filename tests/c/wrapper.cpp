@@ -1,0 +1,87 @@
+/* Calls each operation of the C++ wrapper, accepted and refused, and with empty slices. */
+#include "timetable.hpp"
+
+#include <cstdio>
+
+using bytes = std::vector<std::uint8_t>;
+
+/* One time, one event, an empty group, kind 3 at weight 4. */
+static const bytes file = {1, 1, 0, 1, 0, 1, 0, 1, 3, 4, 1, 1};
+/* The event at the time. */
+static const bytes table = {1, 1};
+/* The model of the event at the time, and one that falsifies clause 6. */
+static const bytes model = {1, 1, 1, 1};
+static const bytes no_model = {1, 1, 1, 0};
+/* A refutation at bound 3, and one that first adds the clause (3). */
+static const bytes proof = {'a', 17, 0, 5, 4, 6, 14, 16, 0};
+static const bytes longer = {'a', 17, 6, 0, 5, 0, 'd', 5, 0, 'a', 18, 0, 17, 4, 6, 14, 16, 0};
+static const bytes nothing;
+
+static int failures = 0;
+
+static void expect(const char *what, bool holds)
+{
+    if (!holds) {
+        std::printf("%s\n", what);
+        failures++;
+    }
+}
+
+template <typename T>
+static void refused(const char *what, const timetable::result<T> &found,
+                    std::uint32_t refusal, std::uint64_t value)
+{
+    expect(what, !found && found.refusal == refusal && found.value == value);
+}
+
+static void operations()
+{
+    timetable::result<timetable::counts> counts = timetable::read(file);
+    expect("read", counts && counts.answer.times == 1 && counts.answer.events == 1 &&
+                       counts.answer.resources == 0 && counts.answer.groups == 1 &&
+                       counts.answer.constraints == 1);
+    timetable::result<timetable::size> size = timetable::sizes(file, 3);
+    expect("sizes", size && size.answer.variables == 8 && size.answer.clauses == 16 &&
+                        size.answer.words == 30);
+    refused("sizes, bound too high", timetable::sizes(file, 4096), TIMETABLE_BOUND_TOO_HIGH,
+            4096);
+    timetable::result<timetable::amounts> amounts = timetable::score(file, table);
+    expect("score",
+           amounts && amounts.answer.infeasibility == 0 && amounts.answer.objective == 4);
+    timetable::result<bool> same = timetable::same_sheet(file, table, table);
+    expect("same sheet", same && same.answer);
+    timetable::result<std::string> text = timetable::text(file);
+    expect("text", text && text.answer.size() == 80 && text.answer.compare(0, 7, "p wcnf ") == 0);
+    timetable::result<timetable::decoded> decoded = timetable::decode(file, model);
+    expect("decode", decoded && decoded.answer.timetable == 2 && decoded.answer.objective == 4);
+    refused("decode, no model", timetable::decode(file, no_model), TIMETABLE_CLAUSE_FALSE, 6);
+    timetable::result<std::uint64_t> steps = timetable::check(file, 3, proof);
+    expect("check", steps && steps.answer == 1);
+    steps = timetable::check(file, 3, longer);
+    expect("check in the room that the proof needs", steps && steps.answer == 3);
+}
+
+/* Empty vectors, whose pointers may be null. */
+static void empty_slices()
+{
+    refused("read, empty", timetable::read(nothing), TIMETABLE_BAD_NUMBER, 0);
+    refused("read, null", timetable::read(timetable::slice(nullptr, 0)), TIMETABLE_BAD_NUMBER,
+            0);
+    refused("score, empty", timetable::score(file, nothing), TIMETABLE_WRONG_LENGTH, 2);
+    refused("same sheet, empty", timetable::same_sheet(file, table, nothing),
+            TIMETABLE_WRONG_LENGTH, 2);
+    refused("text, empty", timetable::text(std::string()), TIMETABLE_BAD_NUMBER, 0);
+    refused("decode, empty", timetable::decode(file, nothing), TIMETABLE_WRONG_LENGTH, 4);
+    refused("check, empty", timetable::check(file, 3, nothing), TIMETABLE_BAD_END, 0);
+    expect("a slice's pointer", timetable::slice(nothing).data() != nullptr &&
+                                    timetable::slice(nothing).size() == 0);
+}
+
+int main()
+{
+    operations();
+    empty_slices();
+    if (failures == 0)
+        std::puts("ok");
+    return failures != 0;
+}
