@@ -160,7 +160,7 @@ module _ (s : List ℕ) (lim : Limits) (A : Answer ℕ) (c : Check) (R : ℕ →
 
     outside′ : (v : ℕ) → inHints (liveIn (c .tally) R ws) (w .left) v ≡ false → marksOf ms′ v ≡ 0
     unfolding inHints
-    outside′ v f = x .wiped v ∙ go (inClause cl v) refl
+    outside′ v f = x .opened v ∙ go (inClause cl v) refl
       where
         go : (t : Bool) → inClause cl v ≡ t → cond t 0 (marksOf ms v) ≡ 0
         go true t = refl

@@ -234,8 +234,8 @@ abbrev pub limits : ℕ → ℕ → ℕ → Limits
 limits last words rows = record { lastVariable = last; wordsLent = words; rowsLent = rows }
 
 -- where a formula stands in the stores, a check answers what the plain run does
-pub driven-means : (s : List ℕ) (last cap n used : ℕ) (R : ℕ → Row) (ws ms : List ℕ) (r : CheckAnswer) (f : List (List ℕ))
-    → Driven s last cap n used R ws ms r → Stands f last cap n used R ws ms
+pub driven-means : (s : List ℕ) (last cap n used : ℕ) (R : ℕ → Row) (ws ms : List ℕ) (r : CheckAnswer) (f : List (List ℕ)) {R′ : ℕ → Row} {ws′ ms′ : List ℕ}
+    → Driven s last cap n used R ws ms r R′ ws′ ms′ → Stands f last cap n used R ws ms
     → checkMeans r ≡ plainRun (limits last (length ws) cap) f s
 unfolding plainRun start
 driven-means s last cap n used R ws ms r f d x =
@@ -258,9 +258,9 @@ driven-means s last cap n used R ws ms r f d x =
     ) .1)
 
 -- the same for a formula that stood in the words with each clause's last word marked, of which the directory was built
-pub check-means : (s : List ℕ) (last n : ℕ) (ys₀ ys : List Row) (ws₀ ws ms : List ℕ) (r : CheckAnswer) (f : List (List ℕ)) (rest : List ℕ)
+pub check-means : (s : List ℕ) (last n : ℕ) (ys₀ ys : List Row) (ws₀ ws ms : List ℕ) (r : CheckAnswer) (f : List (List ℕ)) (rest : List ℕ) {R′ : ℕ → Row} {ws′ ms′ : List ℕ}
     → Plain f → Each (Good last) f → ws₀ ≡ flatMap mark f ++ rest → length f ≤ length ys₀ → last ≤ length ms → marksOf ms ≡ allOpen
-    → Built ws₀ ws ys₀ ys (words f) n → Driven s last (length ys₀) n (words f) (rowsOf ys) ws ms r
+    → Built ws₀ ws ys₀ ys (words f) n → Driven s last (length ys₀) n (words f) (rowsOf ys) ws ms r R′ ws′ ms′
     → checkMeans r ≡ plainRun (limits last (length ws) (length ys₀)) f s
 check-means s last n ys₀ ys ws₀ ws ms r f rest plain good e fits marked unmarked b d =
     driven-means s last (length ys₀) n (words f) (rowsOf ys) ws ms r f d

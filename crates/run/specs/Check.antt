@@ -1,10 +1,10 @@
 -- A check between two walks over ids: what is counted, and what each step-level turn makes of it.
 use mathlib.Core.Path.{_≡_}
-use mathlib.Core.Bool.{cond, _&&_}
+use mathlib.Core.Bool.{true, false, cond, _&&_}
 use mathlib.Core.List.{List}
-use Prim.Native.Nat.{ℕ, _+_, _≤_, _<_, min}
+use Prim.Native.Nat.{ℕ, suc, _+_, _≤_, _<_, min}
 use lib.Dec.{eqb, ltb, leb}
-use lib.ListN.{length}
+use lib.ListN.{length, set}
 use lib.Seq.{sets}
 use Rattle.scope.specs.Parsed.{Parsed, got, refused}
 use Rattle.scope.specs.Number.{number}
@@ -17,6 +17,8 @@ use Rattle.run.specs.declared.machine.Phase.the-variants.{Next, Walk, Fo
 use Rattle.run.specs.declared.machine.Machine.{Machine}
 use Rattle.run.specs.declared.check.Tally.{Tally}
 use Rattle.run.specs.declared.check.Check.{Check}
+use Rattle.run.specs.declared.check.Copying.{Copying}
+use Rattle.steps.specs.Step.{whileMore, stepAt}
 use Rattle.steps.specs.Reading.{tokensAt, numbersAt, ReadsStep}
 use Rattle.run.specs.Machine.{stopped, onward}
 
@@ -65,7 +67,41 @@ keptAs c =
       clause = c .clause;
     }
 
--- the literals at an offset are copied into the words from first on
+-- Literals are copied up to a 0, as far as there are words: at an offset, into the words from one on, and after a number
+abbrev pub copying : ℕ → ℕ → Copying
+copying at to = record { more = true; at = at; to = to }
+
+abbrev pub copied : ℕ → ℕ → Copying
+copied at to = record { more = false; at = at; to = to }
+
+abbrev pub copiedBy : List ℕ → Copying → Parsed ℕ → Copying
+copiedBy ws p (refused k v) = copied (p .at) (p .to)
+copiedBy ws p (got l next) =
+    cond (eqb l 0) (copied next (p .to)) (cond (leb (length ws) (p .to)) (copied next (p .to)) (copying next (p .to + 1)))
+
+abbrev pub copiedWords : List ℕ → Copying → Parsed ℕ → List ℕ
+copiedWords ws p (refused k v) = ws
+copiedWords ws p (got l next) = cond (eqb l 0) ws (set ws (p .to) l)
+
+-- with the words
+pub record Copied : Type 0 where
+  pub state : Copying
+  pub words : List ℕ
+
+abbrev pub copyTurn : List ℕ → Copied → Copied
+copyTurn s x =
+    record {
+      state = copiedBy (x .words) (x .state) (number s (x .state .at));
+      words = copiedWords (x .words) (x .state) (number s (x .state .at));
+    }
+
+abbrev pub copiedFrom : List ℕ → ℕ → Copied → Copied
+copiedFrom s k x = whileMore (λ x. x .state .more) (copyTurn s) k x
+
+unfoldable pub copiedAt : List ℕ → ℕ → List ℕ → ℕ → List ℕ
+copiedAt s at ws first = copiedFrom s (suc (length s)) (record { state = copying at first; words = ws }) .words
+
+-- what is copied where literals stand
 pub record Copies (s : List ℕ) (at : ℕ) (ws : List ℕ) (first : ℕ) (ws′ : List ℕ) : Type 0 where
   pub copies : (ls : List ℕ) (ts : Tokens) → numbersAt s at ≡ upTo0 ls ts → ws′ ≡ sets ws first ls
 
@@ -99,6 +135,17 @@ stepped c (Adds k) = record { phase = Walk; tally = counted (c .tally); clause =
 stepped c (Deletes from) =
     record { phase = Delete; tally = counted (c .tally); clause = record { id = 0; literals = from; size = 0; hints = from } }
 
+-- the step that stands at an offset, if there is one
+pub record StepTaken : Type 0 where
+  pub check : Check
+  pub marks : List ℕ
+
+unfoldable pub stepTaken : List ℕ → Check → ℕ → ℕ → List ℕ → StepTaken
+stepTaken s c at last ms =
+    cond (leb (length s) at) (record { check = withPhase c (Refused 18); marks = ms })
+    (record { check = stepped c (stepAt s at (c .tally .highest) last ms .read); marks = stepAt s at (c .tally .highest) last ms .marks })
+
+-- what it comes to
 pub data TakesStep (s : List ℕ) (c : Check) (at last : ℕ) (ms : List ℕ) (r : Check) (ms′ : List ℕ) : Type 0 where
   over : length s ≤ at → r ≡ withPhase c (Refused 18) → TakesStep s c at last ms r ms′
   takes : (x : Read) → at < length s → ReadsStep (readStep (tokensAt s at)) s at (c .tally .highest) last ms ms′ x

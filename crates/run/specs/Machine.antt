@@ -1,14 +1,17 @@
 -- The machine that judges a proof: what each turn makes of it.
 use mathlib.Core.Path.{_≡_, refl}
+use mathlib.Core.Bool.{Bool, true, false, cond}
 use mathlib.Core.List.{List}
 use Prim.Native.Nat.{ℕ, zero, suc, _+_, _/_, _%_, _≤_}
 use native.Mathlib.Omega.{arith}
-use Rattle.scope.specs.Parsed.{got, refused}
+use lib.Dec.{eqb}
+use borrow.Author.Tests.{eqb-true, eqb-false}
+use Rattle.scope.specs.Parsed.{Parsed, got, refused}
 use Rattle.scope.specs.Number.{number}
 use Rattle.scope.specs.Steps.{Standing, falsified, oneOpen, other, standing}
 use Rattle.store.specs.declared.directory.Row.{Row}
 use Rattle.store.specs.Marks.{marksOf, putMark}
-use Rattle.store.specs.Clauses.{Wiped, inClause}
+use Rattle.store.specs.Clauses.{Wiped, inClause, wiped, wiped-opens}
 use Rattle.store.specs.Live.{rowClause}
 use Rattle.run.specs.declared.machine.Phase.{Phase}
 use Rattle.run.specs.declared.machine.Phase.the-variants.{Next, Walk, Followed, Keep, Wipe, Delete, Proved, Refused}
@@ -90,7 +93,49 @@ turn-phase p e l h = rw (← e) (go p (omega arith) (omega arith))
     go Proved l h = absurd (omega arith)
     go (Refused k) l h = absurd (omega arith)
 
--- one turn with the row of the id that was wanted
+-- One turn with the row of the id that was wanted: by the phase, where an id was read before next
+abbrev pub turnedOn : Phase → Machine → Standing → ℕ → ℕ → Machine
+turnedOn Walk m x id next = walked x id next
+turnedOn Wipe m x id next = onward Wipe Next id next
+turnedOn Delete m x id next = onward Delete Next id next
+turnedOn Next m x id next = m
+turnedOn Followed m x id next = m
+turnedOn Keep m x id next = m
+turnedOn Proved m x id next = m
+turnedOn (Refused k) m x id next = m
+
+abbrev pub turnedMarks : Phase → Standing → List ℕ → List ℕ → List ℕ
+turnedMarks Walk x c ms = walkedMarks x ms
+turnedMarks Wipe x c ms = wiped ms c
+turnedMarks Delete x c ms = ms
+turnedMarks Next x c ms = ms
+turnedMarks Followed x c ms = ms
+turnedMarks Keep x c ms = ms
+turnedMarks Proved x c ms = ms
+turnedMarks (Refused k) x c ms = ms
+
+-- how a clause stands
+abbrev pub standsBy : List ℕ → List ℕ → Standing
+standsBy ms c = standing (marksOf ms) falsified c
+
+-- by the number at the machine's place
+abbrev pub readOn : Machine → List ℕ → List ℕ → Parsed ℕ → Machine
+readOn m c ms (refused k v) = stopped (Refused 14) (m .at)
+readOn m c ms (got id next) = turnedOn (m .phase) m (standsBy ms c) id next
+
+abbrev pub readMarks : Phase → List ℕ → List ℕ → Parsed ℕ → List ℕ
+readMarks p c ms (refused k v) = ms
+readMarks p c ms (got id next) = turnedMarks p (standsBy ms c) c ms
+
+-- 15 where the row is not live
+unfoldable pub advanced : List ℕ → Machine → Row → List ℕ → List ℕ → Machine
+advanced s m row ws ms =
+    cond (eqb (row .live) 0) (stopped (Refused 15) (m .at)) (readOn m (rowClause row ws) ms (number s (m .at)))
+
+unfoldable pub advancedMarks : List ℕ → Machine → Row → List ℕ → List ℕ → List ℕ
+advancedMarks s m row ws ms = cond (eqb (row .live) 0) ms (readMarks (m .phase) (rowClause row ws) ms (number s (m .at)))
+
+-- what a turn comes to
 pub data Advances (s : List ℕ) (m : Machine) (row : Row) (ws ms : List ℕ) (r : Machine) (ms′ : List ℕ) : Type 0 where
   gone : row .live ≡ 0 → r ≡ stopped (Refused 15) (m .at) → Advances s m row ws ms r ms′
   broken : (k v : ℕ) → number s (m .at) ≡ refused k v → r ≡ stopped (Refused 14) (m .at) → Advances s m row ws ms r ms′
@@ -103,3 +148,30 @@ pub data Advances (s : List ℕ) (m : Machine) (row : Row) (ws ms : List ℕ) (r
       → r ≡ onward Delete Next id next
       → ms′ ≡ ms → Advances s m row ws ms r ms′
   idle : 2 ≤ turnOf (m .phase) → Advances s m row ws ms r ms′
+
+pub advances : (s : List ℕ) (m : Machine) (row : Row) (ws ms : List ℕ)
+    → Advances s m row ws ms (advanced s m row ws ms) (advancedMarks s m row ws ms)
+unfolding advanced advancedMarks
+advances s m row ws ms = go (eqb (row .live) 0) refl
+  where
+    by-phase : (row .live ≡ 0 → ⊥) → (id next : ℕ) → number s (m .at) ≡ got id next → (p : Phase) → m .phase ≡ p
+        → Advances s m row ws ms (turnedOn p m (standsBy ms (rowClause row ws)) id next) (turnedMarks p (standsBy ms (rowClause row ws)) (rowClause row ws) ms)
+    by-phase l id next e Walk p = walks id next l e p refl refl
+    by-phase l id next e Wipe p = wipes id next l e p refl (wiped-opens (rowClause row ws) ms)
+    by-phase l id next e Delete p = deletes id next l e p refl refl
+    by-phase l id next e Next p = idle (rw p (omega arith))
+    by-phase l id next e Followed p = idle (rw p (omega arith))
+    by-phase l id next e Keep p = idle (rw p (omega arith))
+    by-phase l id next e Proved p = idle (rw p (omega arith))
+    by-phase l id next e (Refused k) p = idle (rw p (omega arith))
+
+    by-number : (row .live ≡ 0 → ⊥) → (x : Parsed ℕ) → number s (m .at) ≡ x
+        → Advances s m row ws ms (readOn m (rowClause row ws) ms x) (readMarks (m .phase) (rowClause row ws) ms x)
+    by-number l (refused k v) e = broken k v e refl
+    by-number l (got id next) e = by-phase l id next e (m .phase) refl
+
+    go : (t : Bool) → eqb (row .live) 0 ≡ t
+        → Advances s m row ws ms (cond t (stopped (Refused 15) (m .at)) (readOn m (rowClause row ws) ms (number s (m .at))))
+        (cond t ms (readMarks (m .phase) (rowClause row ws) ms (number s (m .at))))
+    go true t = gone (eqb-true (row .live) 0 t) refl
+    go false t = by-number (eqb-false (row .live) 0 t) (number s (m .at)) refl

@@ -58,12 +58,15 @@ world c m R ws ms = record { check = c; machine = m; rows = R; words = ws; marks
 abbrev pub ready : ℕ → ℕ → (ℕ → Row) → List ℕ → List ℕ → World
 ready n used R ws ms = world (begun n used) (stopped Next 0) R ws ms
 
--- a check that was driven to its end; no store is longer than a word of the machine can say
-pub record Driven (s : List ℕ) (last cap n used : ℕ) (R : ℕ → Row) (ws ms : List ℕ) (r : CheckAnswer) : Type 0 where
+-- a check that was driven to its end, with what it leaves in the stores; no store is longer than a word of the machine can say
+pub record Driven (s : List ℕ) (last cap n used : ℕ) (R : ℕ → Row) (ws ms : List ℕ) (r : CheckAnswer) (R′ : ℕ → Row) (ws′ ms′ : List ℕ) : Type 0 where
   pub end : World
   pub ran : Ran s last cap (ready n used R ws ms) end
   pub over : 5 ≤ turnOf (end .machine .phase)
   pub answer : r ≡ answerOf (end .check .tally .steps) (end .machine .phase)
+  pub rows-left : R′ ≡ end .rows
+  pub words-left : ws′ ≡ end .words
+  pub marks-left : ms′ ≡ end .marks
   pub few-bytes : length s ≤ largest
   pub few-words : length ws ≤ largest
   pub few-rows : cap ≤ largest

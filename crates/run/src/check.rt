@@ -3,16 +3,20 @@ use crate::machine::Machine;
 use crate::machine::Phase;
 use crate::machine::step_on;
 use crate::machine::stop;
+use number::Number;
+use steps::reader::moved;
 use steps::reader::number_in;
+use steps::reader::over;
+use steps::reader::read_number;
 use steps::step::Clause;
 use steps::step::Read;
 use steps::step::read_step;
-use number::Number;
 use store::directory::Row;
 ghost use mathlib.Core.Path.{_≡_};
 ghost use Prim.Native.Nat.{_+_, min};
 ghost use Rattle.scope.specs.Number.{number as numberAt};
-ghost use Rattle.run.specs.Check.{begun, withPhase, judged, rowOf, keptAs, Copies, firstId, entered, TakesStep};
+ghost use Rattle.number.specs.Answers.{said};
+ghost use Rattle.run.specs.Check.{begun, withPhase, judged, rowOf, keptAs, copying, copied, copiedBy, copiedWords, copiedAt, firstId, entered, stepTaken};
 
 // Steps, the one at hand counted; the highest id; rows and words in use.
 pub struct Tally {
@@ -122,33 +126,65 @@ pub fn row_of(c: Check) -> Row
     }
 }
 
+// Literals that are being copied: whether it goes on, where the next one stands, and the word that it goes to.
+pub struct Copying {
+    pub more: bool,
+    pub at: usize,
+    pub to: usize,
+}
+
+fn begin_copying(at: usize, to: usize) -> Copying
+    ensures { λ r. ⌜ r ≡ copying at to ⌝ }
+{
+    Copying { more: true, at, to }
+}
+
+fn stop_copying(at: usize, to: usize) -> Copying
+    ensures { λ r. ⌜ r ≡ copied at to ⌝ }
+{
+    Copying {
+        more: false,
+        at,
+        to,
+    }
+}
+
+// After a number was read: a literal is stored, and a 0 ends them.
+fn copy_on(p: Copying, t: Number, words: &mut [u32]) -> Copying
+    ensures { λ r. ⌜ r ≡ copiedBy (now (words .entry)) p (said t) ⌝ }
+    ensures { λ _. ⌜ now (words .exit) ≡ copiedWords (now (words .entry)) p (said t) ⌝ }
+{
+    let to = p.to;
+    let Number::Value(l, next) = t else {
+        return stop_copying(p.at, to);
+    };
+    if l == 0 {
+        return stop_copying(next, to);
+    }
+    if words.len() <= to {
+        return stop_copying(next, to);
+    }
+    words[to] = l;
+    begin_copying(next, to + 1)
+}
+
 // The literals that stand at an offset are copied into the words from first on, as far as there are words.
 fn copy_literals(proof: &[u8], at: usize, words: &mut [u32], first: usize)
-    ensures { λ _. ⌜ Copies (now (proof .entry)) at (now (words .entry)) first (now (words .exit)) ⌝ }
+    ensures { λ _. ⌜ now (words .exit) ≡ copiedAt (now (proof .entry)) at (now (words .entry)) first ⌝ }
 {
-    let mut i = at;
-    let mut k = first;
-    loop {
-        let t = number_in(proof, i);
-        let Number::Value(l, next) = t else {
-            return;
-        };
-        if l == 0 {
-            return;
-        }
-        if words.len() <= k {
-            return;
-        }
-        words[k] = l;
-        k += 1;
-        i = next;
+    let mut r = over(proof, at);
+    let mut p = begin_copying(at, first);
+    while p.more {
+        let t = read_number(r);
+        p = copy_on(p, t, words);
+        r = moved(r, p.at);
     }
 }
 
 // The clause at hand is stored, and counted.
 pub fn keep(c: Check, proof: &[u8], words: &mut [u32]) -> Check
     ensures { λ r. ⌜ r ≡ keptAs c ⌝ }
-    ensures { λ _. ⌜ Copies (now (proof .entry)) (c .clause .literals) (now (words .entry)) (c .tally .words) (now (words .exit)) ⌝ }
+    ensures { λ _. ⌜ now (words .exit) ≡ copiedAt (now (proof .entry)) (c .clause .literals) (now (words .entry)) (c .tally .words) ⌝ }
 {
     let clause = c.clause;
     let old = c.tally;
@@ -202,7 +238,8 @@ pub fn enter(c: Check, proof: &[u8]) -> Machine
 
 // The step that stands at an offset, if there is one.
 pub fn next_step(c: Check, at: usize, proof: &[u8], last: usize, marks: &mut [u8]) -> Check
-    ensures { λ r. ⌜ TakesStep (now (proof .entry)) c at last (now (marks .entry)) r (now (marks .exit)) ⌝ }
+    ensures { λ r. ⌜ r ≡ stepTaken (now (proof .entry)) c at last (now (marks .entry)) .check ⌝ }
+    ensures { λ _. ⌜ now (marks .exit) ≡ stepTaken (now (proof .entry)) c at last (now (marks .entry)) .marks ⌝ }
 {
     if proof.len() <= at {
         return in_phase(c, Phase::Refused(18));

@@ -76,7 +76,7 @@ pub fn drive(
     n: usize,
     used: usize,
 ) -> CheckAnswer
-    ensures { λ r. ⌜ Driven (now (proof .entry)) last (length (now (rows .entry))) n used (rowsOf (now (rows .entry))) (now (words .entry)) (now (marks .entry)) r ⌝ }
+    ensures { λ r. ⌜ Driven (now (proof .entry)) last (length (now (rows .entry))) n used (rowsOf (now (rows .entry))) (now (words .entry)) (now (marks .entry)) r (rowsOf (now (rows .exit))) (now (words .exit)) (now (marks .exit)) ⌝ }
 {
     let mut c = begin(n, used);
     let mut m = ready();

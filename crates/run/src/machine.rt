@@ -1,8 +1,8 @@
 // The machine that judges a proof, id by id. It never sees the directory: it names the id that it wants, and is handed the
 // row that was found. The next number of the proof is read at one place.
+use number::Number;
 use steps::reader::number_in;
 use steps::step::wide;
-use number::Number;
 use store::clauses::Standing;
 use store::clauses::standing_of;
 use store::clauses::wipe_clause;
@@ -12,7 +12,7 @@ ghost use mathlib.Core.Path.{_≡_};
 ghost use Rattle.scope.specs.Steps.{standing, falsified};
 ghost use Rattle.store.specs.Marks.{marksOf};
 ghost use Rattle.store.specs.Live.{rowClause};
-ghost use Rattle.run.specs.Machine.{turnOf, stopped, onward, walked, walkedMarks, Advances};
+ghost use Rattle.run.specs.Machine.{turnOf, stopped, onward, walked, walkedMarks, advanced, advancedMarks};
 
 // What is to be done next.
 pub enum Phase {
@@ -117,7 +117,8 @@ fn take_hint(row: Row, id: u32, next: usize, words: &[u32], marks: &mut [u8]) ->
 
 // One turn with the row of the id that was wanted.
 pub fn advance(m: Machine, row: Row, proof: &[u8], words: &[u32], marks: &mut [u8]) -> Machine
-    ensures { λ r. ⌜ Advances (now (proof .entry)) m row (now (words .entry)) (now (marks .entry)) r (now (marks .exit)) ⌝ }
+    ensures { λ r. ⌜ r ≡ advanced (now (proof .entry)) m row (now (words .entry)) (now (marks .entry)) ⌝ }
+    ensures { λ _. ⌜ now (marks .exit) ≡ advancedMarks (now (proof .entry)) m row (now (words .entry)) (now (marks .entry)) ⌝ }
 {
     let at = m.at;
     if row.live == 0 {

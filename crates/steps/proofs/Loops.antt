@@ -43,12 +43,12 @@ module _ {S : Type 0} (more : S → Bool) (turn : S → S) (μ : S → ℕ) (g :
       go zero n t = absurd (omega arith)
       go (suc k) n t = record { fuel = k; enough = omega arith; todo = rw e at t }
 
-either : {A : Type 0} (f : A → ℕ) (t : Bool) (a b : A) (m : ℕ) → f a < m → f b < m → f (cond t a b) < m
+pub either : {A : Type 0} (f : A → ℕ) (t : Bool) (a b : A) (m : ℕ) → f a < m → f b < m → f (cond t a b) < m
 either f true a b m x y = x
 either f false a b m x y = y
 
 module _ (s : List ℕ) where
-  nearer : (at n next : ℕ) → number s at ≡ got n next → suc (length s - next) < suc (length s - at)
+  pub nearer : (at n next : ℕ) → number s at ≡ got n next → suc (length s - next) < suc (length s - at)
   nearer at n next e = let k = number-got s at e in omega (arith, k .ahead, k .inside)
 
   -- numbers that are passed over

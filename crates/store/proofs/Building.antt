@@ -44,7 +44,7 @@ module _ (ws₀ ws : List ℕ) (first end i : ℕ) (p : Passing ws₀ ws first e
       let w = getD ws₀ i 0 in
       let small : getD ws₀ i 0 < 2147483648 = rw (p .same) at u in
       let more : firstClause (slice i end ws₀) ≡ w ∷ firstClause (slice (suc i) end ws₀) =
-          rw (slice-cons i end ws₀ 0 h k, lt-leb 2147483648 (getD ws₀ i 0) small) in
+      rw (slice-cons i end ws₀ 0 h k, lt-leb 2147483648 (getD ws₀ i 0) small) in
       record {
         same = p .same;
         from = omega (arith, p .from);
@@ -63,8 +63,7 @@ module _ (ws₀ ws : List ℕ) (first end i : ℕ) (p : Passing ws₀ ws first e
       let x = getD ws₀ i 0 - 2147483648 in
       let big : 2147483648 ≤ getD ws₀ i 0 = rw (p .same) at m in
       let c : firstClause (slice first end ws₀) ≡ slice first i ws₀ ++ x ∷ [] =
-          p .clause ∙ rw (slice-cons i end ws₀ 0 h k, le-leb 2147483648 (getD ws₀ i 0) big) in
-      (
+      p .clause ∙ rw (slice-cons i end ws₀ 0 h k, le-leb 2147483648 (getD ws₀ i 0) big) in (
         rw (c, length-append) (omega (arith, length-slice first i ws₀ (omega arith), p .from)),
         rw (p .same, c, add-one, append-snoc (slice first i ws₀) x (drop (suc i) ws₀), ← append-assoc (take first ws₀) (slice first i ws₀) (x ∷ drop (suc i) ws₀), ← front ws₀ first i (p .from))
             (set-split ws₀ i x (omega arith)),
@@ -76,9 +75,8 @@ module _ (ws₀ ws : List ℕ) (first end i : ℕ) (p : Passing ws₀ ws first e
   unfolding firstClause
   pass-end h =
       let c : firstClause (slice first end ws₀) ≡ slice first i ws₀ =
-          p .clause ∙ rw (slice-past ws₀ i end h) (append-nil (slice first i ws₀)) in
-      let e : i ≡ end = omega (arith, p .upto) in
-      (
+      p .clause ∙ rw (slice-past ws₀ i end h) (append-nil (slice first i ws₀)) in
+      let e : i ≡ end = omega (arith, p .upto) in (
         rw c (omega (arith, length-slice first i ws₀ (omega (arith, p .upto)), p .from)),
         rw (p .same, c, ← e, ← append-assoc (take first ws₀) (slice first i ws₀) (drop i ws₀), ← front ws₀ first i (p .from))
             (sym (take-append-drop i ws₀)),

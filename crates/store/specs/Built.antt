@@ -107,7 +107,7 @@ pub built-for : {ws ws′ : List ℕ} {ys ys′ : List Row} {n : ℕ} (f : List 
     → ws ≡ flatMap mark f ++ rest → length f ≤ length ys → BuiltFor f rest ws′ (rowsOf ys′) n
 built-for {ws} {ys = ys} f rest b p e h =
     let t : parted (take (words f) ws) ≡ f =
-        rw (e, take-at (flatMap mark f) rest (words f) (length-marks f)) (parted-marks f p) in
+    rw (e, take-at (flatMap mark f) rest (words f) (length-marks f)) (parted-marks f p) in
     let d : drop (words f) ws ≡ rest = rw e (drop-at (flatMap mark f) rest (words f) (length-marks f)) in
     record {
       unmarked = b .words ∙ rw (t, d);

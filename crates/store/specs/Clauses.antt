@@ -25,6 +25,11 @@ stands Falsified = steps.falsified
 stands (OneOpen l) = steps.oneOpen l
 stands Other = steps.other
 
+-- the marks with the variables of a clause open
+unfoldable pub wiped : List ℕ → List ℕ → List ℕ
+wiped ms [] = ms
+wiped ms (l ∷ ls) = wiped (putMark ms (l / 2) 0) ls
+
 -- a variable stands in a clause
 unfoldable pub inClause : List ℕ → ℕ → Bool
 inClause [] v = false
@@ -32,7 +37,7 @@ inClause (l ∷ ls) v = eqb (l / 2) v || inClause ls v
 
 -- the marks of the variables that p names are open, the others as they were
 pub record Wiped (p : ℕ → Bool) (ms ms′ : List ℕ) : Type 0 where
-  pub wiped : (v : ℕ) → marksOf ms′ v ≡ cond (p v) 0 (marksOf ms v)
+  pub opened : (v : ℕ) → marksOf ms′ v ≡ cond (p v) 0 (marksOf ms v)
 
 pub drop-take : (ws : List ℕ) (first len : ℕ) → drop first (take (first + len) ws) ≡ take len (drop first ws)
 drop-take ws zero len = let e : 0 + len ≡ len = omega arith in rw e
@@ -73,23 +78,9 @@ module _ (ws : List ℕ) (i end : ℕ) (h : i < end) (k : end ≤ length ws) whe
   unfolding standing
   standing-next m s s′ e = rw (slice-cons i end ws 0 h k, add-one, e)
 
-  pub wiped-next : (ms ms₁ ms′ : List ℕ) → ms₁ ≡ putMark ms (getD ws i 0 / 2) 0 → Wiped (inClause (slice (i + 1) end ws)) ms₁ ms′
-      → Wiped (inClause (slice i end ws)) ms ms′
-  unfolding inClause
-  wiped-next ms ms₁ ms′ e w = record { wiped = λ u. rw (slice-cons i end ws 0 h k) (go u (rw add-one at (w .wiped u))) }
-    where
-      both : (a b : Bool) (x : ℕ) → cond b 0 (cond a 0 x) ≡ cond (a || b) 0 x
-      both true true x = refl
-      both true false x = refl
-      both false b x = refl
-
-      go : (u : ℕ) → marksOf ms′ u ≡ cond (inClause (slice (suc i) end ws) u) 0 (marksOf ms₁ u)
-          → marksOf ms′ u ≡ cond (eqb (getD ws i 0 / 2) u || inClause (slice (suc i) end ws) u) 0 (marksOf ms u)
-      go u x =
-          x
-          ∙ ap (λ ms. cond (inClause (slice (suc i) end ws) u) 0 (marksOf ms u)) e
-          ∙ ap (cond (inClause (slice (suc i) end ws) u) 0) (mark-opened ms (getD ws i 0 / 2) u)
-          ∙ both (eqb (getD ws i 0 / 2) u) (inClause (slice (suc i) end ws) u) (marksOf ms u)
+  pub wiped-next : (ms : List ℕ) → wiped (putMark ms (getD ws i 0 / 2) 0) (slice (i + 1) end ws) ≡ wiped ms (slice i end ws)
+  unfolding wiped
+  wiped-next ms = rw (slice-cons i end ws 0 h k, add-one)
 
 pub slice-past : (ws : List ℕ) (i end : ℕ) → end ≤ i → slice i end ws ≡ []
 slice-past ws i end h = drop-of-length-le (take end ws) {i = i} (rw length-take (omega arith))
@@ -98,6 +89,21 @@ pub standing-end : (m : Marks) (s : steps.Standing) (ws : List ℕ) (i end : ℕ
 unfolding standing
 standing-end m s ws i end h = rw (slice-past ws i end h)
 
-pub wiped-end : (ws : List ℕ) (i end : ℕ) → end ≤ i → (ms : List ℕ) → Wiped (inClause (slice i end ws)) ms ms
-unfolding inClause
-wiped-end ws i end h ms = record { wiped = λ u. rw (slice-past ws i end h) }
+pub wiped-end : (ws : List ℕ) (i end : ℕ) → end ≤ i → (ms : List ℕ) → wiped ms (slice i end ws) ≡ ms
+unfolding wiped
+wiped-end ws i end h ms = rw (slice-past ws i end h)
+
+-- what is open afterwards
+pub wiped-opens : (c ms : List ℕ) → Wiped (inClause c) ms (wiped ms c)
+unfolding wiped inClause
+wiped-opens [] ms = record { opened = λ v. refl }
+wiped-opens (l ∷ ls) ms = record { opened = λ v. go v (wiped-opens ls (putMark ms (l / 2) 0) .opened v) }
+  where
+    both : (a b : Bool) (x : ℕ) → cond b 0 (cond a 0 x) ≡ cond (a || b) 0 x
+    both true true x = refl
+    both true false x = refl
+    both false b x = refl
+
+    go : (v : ℕ) → marksOf (wiped (putMark ms (l / 2) 0) ls) v ≡ cond (inClause ls v) 0 (marksOf (putMark ms (l / 2) 0) v)
+        → marksOf (wiped (putMark ms (l / 2) 0) ls) v ≡ cond (eqb (l / 2) v || inClause ls v) 0 (marksOf ms v)
+    go v x = x ∙ ap (cond (inClause ls v) 0) (mark-opened ms (l / 2) v) ∙ both (eqb (l / 2) v) (inClause ls v) (marksOf ms v)

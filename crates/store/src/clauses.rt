@@ -6,7 +6,7 @@ ghost use Prim.Native.Nat.{_+_, min};
 ghost use lib.ListN.{length, replicate};
 ghost use Rattle.scope.specs.Steps.{alsoOpen, alsoLiteral, standing, falsified};
 ghost use Rattle.store.specs.Marks.{marksOf};
-ghost use Rattle.store.specs.Clauses.{part, stands, Wiped, inClause};
+ghost use Rattle.store.specs.Clauses.{part, stands, wiped};
 
 // How a clause stands under the marks: all its literals false; one open, the others false; anything else.
 pub enum Standing {
@@ -82,7 +82,7 @@ pub fn standing_of(marks: &[u8], words: &[u32], first: usize, len: usize) -> Sta
 
 // The variables of a clause are open again.
 pub fn wipe_clause(marks: &mut [u8], words: &[u32], first: usize, len: usize)
-    ensures { λ _. ⌜ Wiped (inClause (part first len (now (words .entry)))) (now (marks .entry)) (now (marks .exit)) ⌝ }
+    ensures { λ _. ⌜ now (marks .exit) ≡ wiped (now (marks .entry)) (part first len (now (words .entry))) ⌝ }
 {
     let end = end_of(words.len(), first, len);
     let mut i = first;

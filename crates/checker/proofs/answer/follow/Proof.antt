@@ -266,7 +266,7 @@ module _ {M : Type 1} (𝓤 : URA M) (H : Heap 𝓤) (A : Atoms 𝓤) (W : Given
         move ! (50 ∷ 51 ∷ []) $ lent u8 κ₃ q₃ γ₃ b₃ o₃ ! tt (named 3) ms (λ μ₃ ε₃.
         move ! (52 ∷ 7 ∷ 4 ∷ 1 ∷ 51 ∷ 6 ∷ 3 ∷ 0 ∷ []) $
         cut (Driving (ws .0) (ws .1 .0) μ₁ ε₁ μ₂ ε₂ μ₃ ε₃) (raw (drive-to 𝓤 H A mem run .pre (to-drive (ws .0) (ws .1 .0) last n used μ₁ ε₁ μ₂ ε₂ μ₃ ε₃)) ∷ []) _ (goes-drive (ws .0) (ws .1 .0) last n used μ₁ ε₁ μ₂ ε₂ μ₃ ε₃ last-fits (is-n .1) used-fits) $
-        calls-to-last drive.ended (drive.clauses 𝓤 H A mem run) (to-drive (ws .0) (ws .1 .0) last n used μ₁ ε₁ μ₂ ε₂ μ₃ ε₃) (λ r ws′. Driven ps last (length (ws .1 .0)) n used (rowsOf (ws .1 .0)) (ws .0) ms r) (λ r ws′. id⊢ 𝓤 _) S′.lowered answer-same ! fm (known .drive)
+        calls-to-last drive.ended (drive.clauses 𝓤 H A mem run) (to-drive (ws .0) (ws .1 .0) last n used μ₁ ε₁ μ₂ ε₂ μ₃ ε₃) (λ r ws′. Driven ps last (length (ws .1 .0)) n used (rowsOf (ws .1 .0)) (ws .0) ms r (rowsOf (ws′ .1 .1 .0)) (ws′ .1 .0) (ws′ .1 .1 .1 .0)) (λ r ws′. id⊢ 𝓤 _) S′.lowered answer-same ! fm (known .drive)
         (and-then ! (var ! 40 refl) (and-then ! (var ! 12 refl) (and-then ! (var ! 8 refl) (and-then ! (var ! 4 refl) (and-then ! (var ! 30 refl) (and-then ! (var ! 28 refl) (and-then ! (var ! 32 refl) (no-more !)))))))) (λ r ws′ driven is-r.
         use1 W (‵ (flft κ₀ q₀) ⊛ (‵ (flft (μ₁ ∷ []) fullShare) ⊛ (‵ (flft (μ₂ ∷ []) fullShare) ⊛ (‵ (flft (μ₃ ∷ []) fullShare) ⊛ ‵ ftrue)))) (id⊢ 𝓤 _) $
         split ! $ move ! (1 ∷ []) $ split ! $ move ! (1 ∷ []) $ split ! $ move ! (1 ∷ []) $ split ! $ move ! (1 ∷ []) $ drop ! $ move ! (4 ∷ []) $

@@ -1,4 +1,6 @@
-use Rattle.run.specs.Check.{over, takes}
+use mathlib.Core.Path.{sym, _∙_}
+use borrow.Author.Tests.{le-leb, lt-leb}
+use Rattle.run.specs.Check.{stepTaken}
 use borrow.Author.Needs.{needs}
 use Rattle.run.proofs.check.next_step.Statement.{statement}
 use Rattle.run.proofs.check.next_step.Tie as tie
@@ -7,7 +9,8 @@ in-phase-requires : tie.Need-in-phase-requires
 in-phase-requires c κs = search needs
 
 returns : tie.Need-returns
-returns c = over (c .before .if1 .taken) (c .in-phase .ensures)
+unfolding stepTaken
+returns c = let z = le-leb _ _ (c .before .if1 .taken) in (c .in-phase .ensures ∙ rw z, rw z)
 
 next-number-requires : tie.Need-next-number-requires
 next-number-requires c κs = search needs
@@ -28,19 +31,34 @@ same-length : tie.Need-same-length
 same-length c = search needs
 
 returns-2 : tie.Need-returns-2
-returns-2 c = takes _ (c .before .before .before .before .before .before .before .before .before .if1 .left) (rw (c .enum-told .given .1) at (c .before .before .before .before .read-step .ensures)) (rw (c .before .before .before .before .before .before .before .next-number .ensures))
+unfolding stepTaken
+returns-2 c =
+    let z = lt-leb _ _ (c .before .before .before .before .before .before .before .before .before .if1 .left) in
+    let x = c .before .before .before .before .read-step .ensures in
+    let e = sym (x .0) ∙ c .enum-told .given .1 in
+    (rw (z, e, c .before .before .before .before .before .before .before .next-number .ensures), x .1 ∙ rw z)
 
 same-length-2 : tie.Need-same-length-2
 same-length-2 c = search needs
 
 returns-3 : tie.Need-returns-3
-returns-3 c = takes _ (c .before .before .before .before .before .before .before .before .before .before .if1 .left) (rw (c .before .read .given .1) at (c .before .before .before .before .before .read-step .ensures)) (rw (c .before .before .before .before .before .before .before .before .next-number .ensures))
+unfolding stepTaken
+returns-3 c =
+    let z = lt-leb _ _ (c .before .before .before .before .before .before .before .before .before .before .if1 .left) in
+    let x = c .before .before .before .before .before .read-step .ensures in
+    let e = sym (x .0) ∙ c .before .read .given .1 in
+    (rw (z, e, c .before .before .before .before .before .before .before .before .next-number .ensures), x .1 ∙ rw z)
 
 same-length-3 : tie.Need-same-length-3
 same-length-3 c = search needs
 
 returns-4 : tie.Need-returns-4
-returns-4 c = takes _ (c .before .before .before .before .before .before .before .before .before .before .if1 .left) (rw (c .before .read2 .given .1) at (c .before .before .before .before .before .read-step .ensures)) (rw (c .before .before .before .before .before .before .before .before .next-number .ensures))
+unfolding stepTaken
+returns-4 c =
+    let z = lt-leb _ _ (c .before .before .before .before .before .before .before .before .before .before .if1 .left) in
+    let x = c .before .before .before .before .before .read-step .ensures in
+    let e = sym (x .0) ∙ c .before .read2 .given .1 in
+    (rw (z, e, c .before .before .before .before .before .before .before .before .next-number .ensures), x .1 ∙ rw z)
 
 pub next-step-spec : {M : Type 1} → statement M
 next-step-spec =

@@ -65,8 +65,10 @@ use Rattle.store.proofs.directory.Probe.Laws as P′
 use Rattle.run.specs.declared.machine.Machine.{Machine}
 use Rattle.run.specs.declared.machine.Phase.the-variants.{Next}
 use Rattle.run.specs.declared.check.Check.{Check}
-use Rattle.run.specs.Machine.{turnOf, stopped, Advances}
-use Rattle.run.specs.Check.{begun, judged, rowOf, keptAs, Copies, entered, TakesStep}
+use Rattle.run.specs.Machine.{turnOf, stopped, advanced, advancedMarks, Advances, advances}
+use Rattle.run.specs.Check.{begun, judged, rowOf, keptAs, copiedAt, entered, stepTaken}
+use Rattle.run.proofs.Taking.{takes-step}
+use Rattle.run.proofs.Copying.{copies-at}
 use Rattle.run.specs.Run.{answerOf, World, world, ready as at-start, Ran, none as no-turn, more, Turn, looks, keeps, judges, reads, Driven}
 use Rattle.run.specs.Termination.{left, Past, Falls, turn-falls}
 use Rattle.run.proofs.machine.Machine as N
@@ -262,29 +264,36 @@ module _ {ps : List ℕ} {last : ℕ} {us₀ : List ℕ} {ys₀ : List Row} {ms�
       unfolding onward
       falls = fall .1
 
+    -- what the machine and the marks become with a row
+    abbrev Advanced : Row → Machine → List ℕ → Type 0
+    Advanced row m ms = (m ≡ advanced ps (t .m) row (t .us) (t .ms)) × (ms ≡ advancedMarks ps (t .m) row (t .us) (t .ms))
+
+    on-row : (row : Row) (m : Machine) (ms : List ℕ) → Advanced row m ms → Advances ps (t .m) row (t .us) (t .ms) m ms
+    on-row row m ms e = rw (e .0, e .1) (advances ps (t .m) row (t .us) (t .ms))
+
     -- the turns
     module _ (p : Probe) {m : Machine} {ms : List ℕ} (h : turnOf (t .m .phase) ≤ 1) where
-      looked : (turnOf (t .m .phase) ≡ 1 → ⊥) → p ≡ lookUp (t .zs) (t .c .tally .rows) (t .m .want) → Advances ps (t .m) (p .hit) (t .us) (t .ms) m ms
+      looked : (turnOf (t .m .phase) ≡ 1 → ⊥) → p ≡ lookUp (t .zs) (t .c .tally .rows) (t .m .want) → Advanced (p .hit) m ms
           → From t (t .c) m (t .zs) (t .us) ms
-      looked two found moved = looks p h (rw (t .long-zs) at (finds (t .zs) (t .c .tally .rows) (t .m .want) p found)) (λ z. refl) (λ z. absurd (two z)) moved refl refl
+      looked two found moved = looks p h (rw (t .long-zs) at (finds (t .zs) (t .c .tally .rows) (t .m .want) p found)) (λ z. refl) (λ z. absurd (two z)) (on-row (p .hit) m ms moved) refl refl
 
       deleted : turnOf (t .m .phase) ≡ 1 → p ≡ lookUp (t .zs) (t .c .tally .rows) (t .m .want) → (zs : List Row) → zs ≡ withDead (t .zs) (p .at)
-          → Advances ps (t .m) (p .hit) (t .us) (t .ms) m ms
+          → Advanced (p .hit) m ms
           → From t (t .c) m zs (t .us) ms
-      deleted one found zs dies moved = looks p h (rw (t .long-zs) at (finds (t .zs) (t .c .tally .rows) (t .m .want) p found)) (λ z. absurd (omega arith)) (λ z. rw (t .long-zs) at (dies-at (t .zs) zs (p .at) dies)) moved refl refl
+      deleted one found zs dies moved = looks p h (rw (t .long-zs) at (finds (t .zs) (t .c .tally .rows) (t .m .want) p found)) (λ z. absurd (omega arith)) (λ z. rw (t .long-zs) at (dies-at (t .zs) zs (p .at) dies)) (on-row (p .hit) m ms moved) refl refl
 
     kept : {c : Check} {m : Machine} {us : List ℕ} → turnOf (t .m .phase) ≡ 2 → (row : Row) → row ≡ rowOf (t .c) → (zs : List Row) → zs ≡ set (t .zs) (t .c .tally .rows) row
-        → (c ≡ keptAs (t .c)) × Copies ps (t .c .clause .literals) (t .us) (t .c .tally .words) us → m ≡ entered ps c
+        → (c ≡ keptAs (t .c)) × (us ≡ copiedAt ps (t .c .clause .literals) (t .us) (t .c .tally .words)) → m ≡ entered ps c
         → From t c m zs us (t .ms)
-    kept h row e zs put k begins = keeps h (rw (t .long-zs, e) at (appends-at (t .zs) zs (t .c .tally .rows) row put)) (k .0) (k .1) begins refl
+    kept h row e zs put k begins = keeps h (rw (t .long-zs, e) at (appends-at (t .zs) zs (t .c .tally .rows) row put)) (k .0) (rw (k .1) (copies-at ps (t .c .clause .literals) (t .us) (t .c .tally .words))) begins refl
 
     judged-on : {c : Check} {m : Machine} → turnOf (t .m .phase) ≡ 3 → c ≡ judged (t .c) (t .m .at) (length ps) (length (t .us)) (length (t .zs)) → m ≡ entered ps c
         → From t c m (t .zs) (t .us) (t .ms)
     judged-on h e begins = judges h (rw (t .long-zs) at e) begins refl refl refl
 
-    stepped-on : {c : Check} {m : Machine} {ms : List ℕ} → turnOf (t .m .phase) ≡ 4 → TakesStep ps (t .c) (t .m .at) last (t .ms) c ms → m ≡ entered ps c
+    stepped-on : {c : Check} {m : Machine} {ms : List ℕ} → turnOf (t .m .phase) ≡ 4 → (c ≡ stepTaken ps (t .c) (t .m .at) last (t .ms) .check) × (ms ≡ stepTaken ps (t .c) (t .m .at) last (t .ms) .marks) → m ≡ entered ps c
         → From t c m (t .zs) (t .us) ms
-    stepped-on h step begins = reads h step begins refl refl
+    stepped-on h step begins = reads h (rw (step .0, step .1) (takes-step ps (t .c) (t .m .at) last (t .ms))) begins refl refl
 
 -- the contracts that are cited
 module _ {M : Type 1} (𝓤 : URA M) (H : Heap 𝓤) (A : Atoms 𝓤) (mem : Memory → SProp 𝓤) (run : Routine → Fun 𝓤) where
@@ -380,7 +389,7 @@ module _ {M : Type 1} (𝓤 : URA M) (H : Heap 𝓤) (A : Atoms 𝓤) (W : Given
   abbrev Upon : Type 0
   Upon = Upto ps last us ys ms n used
 
-  exits : (r : CheckAnswer) → IsAnswer r (S′.lowered r) → (t : Upon) → Driven ps last (length ys) n used (rowsOf ys) us ms r → ent 𝓤 (⋆ 𝓤 H A (Had (t .us) (t .zs) (t .ms))) (Post (S′.lowered r))
+  exits : (r : CheckAnswer) → IsAnswer r (S′.lowered r) → (t : Upon) → Driven ps last (length ys) n used (rowsOf ys) us ms r (rowsOf (t .zs)) (t .us) (t .ms) → ent 𝓤 (⋆ 𝓤 H A (Had (t .us) (t .zs) (t .ms))) (Post (S′.lowered r))
   exits r is t z =
       qed W (Had (t .us) (t .zs) (t .ms)) ∵
       suffices ! _ (ends-at 𝓤 H A f.ended stayed (f.clauses 𝓤 H A mem run) W (((κ₀, (κ₁, (κ₂, (κ₃, tt)))), (q₀, (q₁, (q₂, (q₃, tt)))), tt, a, at), tt) (S′.lowered r) r (tt, (t .us, (t .zs, (t .ms, (tt, (tt, (tt, tt)))))))
@@ -563,7 +572,7 @@ module _ {M : Type 1} (𝓤 : URA M) (H : Heap 𝓤) (A : Atoms 𝓤) (W : Given
         move ! (82 ∷ []) $ use1 W (‵ Proof ⊛ ‵ Proof) (shr-slice-copy 𝓤 H A W (named 0) κ₀ u8 .twice (at-list b₀ o₀ γ₀ ps) (s₀ ∷ [])) $ split ! $
         move ! (84 ∷ 6 ∷ 3 ∷ 0 ∷ 5 ∷ 2 ∷ []) $
         cut (Lending (t .us) (t .ms) ν₁ δ₁ ν₃ δ₃) (raw (advance-to 𝓤 H A mem run .pre (to-advance (t .m) (p .hit) (t .us) (t .ms) ν₁ δ₁ ν₃ δ₃)) ∷ []) _ (goes-advance (t .m) (p .hit) (t .us) (t .ms) ν₁ δ₁ ν₃ δ₃ (t .is-m) (hit-is p is-p)) $
-        calls-to advance.ended (advance.clauses 𝓤 H A mem run) (to-advance (t .m) (p .hit) (t .us) (t .ms) ν₁ δ₁ ν₃ δ₃) (λ r ws. Advances ps (t .m) (p .hit) (t .us) (t .ms) r (ws .1 .1 .1 .1 .0)) (λ r ws. id⊢ 𝓤 _) N′.lowered machine-same ! fm (known .advance) (and-then ! (var ! 60 refl) (and-then ! (part ! 56 refl (sub ! 3 refl (whole !))) (and-then ! (var ! 76 refl) (and-then ! (var ! 46 refl) (and-then ! (var ! 42 refl) (no-more !)))))) (λ m ws′ moved is-m.
+        calls-to advance.ended (advance.clauses 𝓤 H A mem run) (to-advance (t .m) (p .hit) (t .us) (t .ms) ν₁ δ₁ ν₃ δ₃) (λ r ws. Advanced t (p .hit) r (ws .1 .1 .1 .1 .0)) (λ r ws. both-said 𝓤 _ _) N′.lowered machine-same ! fm (known .advance) (and-then ! (var ! 60 refl) (and-then ! (part ! 56 refl (sub ! 3 refl (whole !))) (and-then ! (var ! 76 refl) (and-then ! (var ! 46 refl) (and-then ! (var ! 42 refl) (no-more !)))))) (λ m ws′ moved is-m.
         use1 W (‵ (flft κ₀ q₀) ⊛ (‵ (flft (ν₁ ∷ []) fullShare) ⊛ (‵ (flft (ν₃ ∷ []) fullShare) ⊛ ‵ ftrue))) (id⊢ 𝓤 _) $ split ! $ move ! (1 ∷ []) $
         split ! $
         move ! (1 ∷ []) $ split ! $ move ! (1 ∷ []) $ drop ! $ move ! (3 ∷ []) $ fsplit ! $ drop ! $ fsplit ! $ drop ! $ fsplit ! $ drop ! $
@@ -621,7 +630,7 @@ module _ {M : Type 1} (𝓤 : URA M) (H : Heap 𝓤) (A : Atoms 𝓤) (W : Given
         move ! (79 ∷ []) $ use1 W (‵ Proof ⊛ ‵ Proof) (shr-slice-copy 𝓤 H A W (named 0) κ₀ u8 .twice (at-list b₀ o₀ γ₀ ps) (s₀ ∷ [])) $ split ! $
         move ! (81 ∷ 3 ∷ 0 ∷ 2 ∷ []) $
         cut (‵ (flft κ₀ q₀) ∷ ‵ (flft (ν₁ ∷ []) fullShare) ∷ ‵ Proof ∷ ‵ (MutSlice (named 1) (ν₁ ∷ []) u32 .own (at-list b₁ o₁ δ₁ (t .us)) (s₁ (t .us) ∷ [])) ∷ []) (raw (keep-to 𝓤 H A mem run .pre (to-keep (t .c) (t .us) ν₁ δ₁)) ∷ []) _ (goes-keep (t .c) (t .us) ν₁ δ₁ (t .is-c)) $
-        calls-to keep.ended (keep.clauses 𝓤 H A mem run) (to-keep (t .c) (t .us) ν₁ δ₁) (λ r ws. (r ≡ keptAs (t .c)) × Copies ps (t .c .clause .literals) (t .us) (t .c .tally .words) (ws .1 .1 .0)) (λ r ws. both-said 𝓤 _ _) K′.lowered check-same ! fm (known .keep) (and-then ! (var ! 61 refl) (and-then ! (var ! 75 refl) (and-then ! (var ! 19 refl) (no-more !)))) (λ c ws″ k is-c.
+        calls-to keep.ended (keep.clauses 𝓤 H A mem run) (to-keep (t .c) (t .us) ν₁ δ₁) (λ r ws. (r ≡ keptAs (t .c)) × (ws .1 .1 .0 ≡ copiedAt ps (t .c .clause .literals) (t .us) (t .c .tally .words))) (λ r ws. both-said 𝓤 _ _) K′.lowered check-same ! fm (known .keep) (and-then ! (var ! 61 refl) (and-then ! (var ! 75 refl) (and-then ! (var ! 19 refl) (no-more !)))) (λ c ws″ k is-c.
         use1 W (‵ (flft κ₀ q₀) ⊛ (‵ (flft (ν₁ ∷ []) fullShare) ⊛ ‵ ftrue)) (id⊢ 𝓤 _) $ split ! $ move ! (1 ∷ []) $ split ! $ move ! (1 ∷ []) $
         drop ! $
         move ! (2 ∷ []) $ fsplit ! $ drop ! $ fsplit ! $ drop ! $ fsplit ! $ fsplit ! $ move ! (1 ∷ []) $ feqL ! (λ kept-us.
@@ -666,7 +675,7 @@ module _ {M : Type 1} (𝓤 : URA M) (H : Heap 𝓤) (A : Atoms 𝓤) (W : Given
         move ! (77 ∷ []) $ use1 W (‵ Proof ⊛ ‵ Proof) (shr-slice-copy 𝓤 H A W (named 0) κ₀ u8 .twice (at-list b₀ o₀ γ₀ ps) (s₀ ∷ [])) $ split ! $
         move ! (79 ∷ 3 ∷ 0 ∷ 2 ∷ []) $
         cut (‵ (flft κ₀ q₀) ∷ ‵ (flft (ν₃ ∷ []) fullShare) ∷ ‵ Proof ∷ ‵ (MutSlice (named 3) (ν₃ ∷ []) u8 .own (at-list b₃ o₃ δ₃ (t .ms)) (s₃ (t .ms) ∷ [])) ∷ []) (raw (next-step-to 𝓤 H A mem run .pre (to-next-step (t .c) (t .m .at) (t .ms) ν₃ δ₃)) ∷ []) _ (goes-next-step (t .c) (t .m .at) (t .ms) ν₃ δ₃ (t .is-c) (place-fits (t .m) (t .is-m))) $
-        calls-to next-step.ended (next-step.clauses 𝓤 H A mem run) (to-next-step (t .c) (t .m .at) (t .ms) ν₃ δ₃) (λ r ws. TakesStep ps (t .c) (t .m .at) last (t .ms) r (ws .1 .1 .1 .1 .0)) (λ r ws. id⊢ 𝓤 _) K′.lowered check-same ! fm (known .next-step) (and-then ! (var ! 59 refl) (and-then ! (part ! 57 refl (sub ! 1 refl (whole !))) (and-then ! (var ! 73 refl) (and-then ! (var ! 65 refl) (and-then ! (var ! 3 refl) (no-more !)))))) (λ c ws step is-c.
+        calls-to next-step.ended (next-step.clauses 𝓤 H A mem run) (to-next-step (t .c) (t .m .at) (t .ms) ν₃ δ₃) (λ r ws. (r ≡ stepTaken ps (t .c) (t .m .at) last (t .ms) .check) × (ws .1 .1 .1 .1 .0 ≡ stepTaken ps (t .c) (t .m .at) last (t .ms) .marks)) (λ r ws. both-said 𝓤 _ _) K′.lowered check-same ! fm (known .next-step) (and-then ! (var ! 59 refl) (and-then ! (part ! 57 refl (sub ! 1 refl (whole !))) (and-then ! (var ! 73 refl) (and-then ! (var ! 65 refl) (and-then ! (var ! 3 refl) (no-more !)))))) (λ c ws step is-c.
         use1 W (‵ (flft κ₀ q₀) ⊛ (‵ (flft (ν₃ ∷ []) fullShare) ⊛ ‵ ftrue)) (id⊢ 𝓤 _) $ split ! $ move ! (1 ∷ []) $ split ! $ move ! (1 ∷ []) $
         drop ! $
         move ! (2 ∷ []) $ fsplit ! $ drop ! $ fsplit ! $ drop ! $ fsplit ! $ drop ! $ fsplit ! $ drop ! $ fsplit ! $ fsplit ! $ move ! (1 ∷ []) $
@@ -690,7 +699,7 @@ module _ {M : Type 1} (𝓤 : URA M) (H : Heap 𝓤) (A : Atoms 𝓤) (W : Given
         calls-to answer.ended (answer.clauses 𝓤 H A mem run) (to-answer (t .c) (t .m)) (λ r ws. r ≡ answerOf (t .c .tally .steps) (t .m .phase)) (λ r ws. id⊢ 𝓤 _) S′.lowered answer-same ! fm (known .answer) (and-then ! (var ! 57 refl) (and-then ! (var ! 55 refl) (no-more !))) (λ r ws e is-r.
         drop ! $ drop ! $ land ! (from ! (stop !)) (init ! 72 refl (answer-typed W r _ is-r)) $ returns-within ! Post refl (look ! 72 refl) $
         frees-all ! body.locals ls (some _ ∷ some _ ∷ some _ ∷ some _ ∷ some _ ∷ some _ ∷ some _ ∷ some _ ∷ some _ ∷ some _ ∷ some _ ∷ []) $
-        by ! (exits r is-r t (record { end = here t; ran = t .ran; over = h; answer = e; few-bytes = omega (arith, room₀ .0); few-words = omega (arith, room₁ .0); few-rows = omega (arith, room₂ .0) })))
+        by ! (exits r is-r t (record { end = here t; ran = t .ran; over = h; answer = e; rows-left = refl; words-left = refl; marks-left = refl; few-bytes = omega (arith, room₀ .0); few-words = omega (arith, room₁ .0); few-rows = omega (arith, room₂ .0) })))
 
     turns : (t : Upon) → Sq W (At t) (runs C Λ En body.turn-1 (anyQ (After t)))
     turns t =

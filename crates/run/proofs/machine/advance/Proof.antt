@@ -1,8 +1,8 @@
-use native.Mathlib.Omega.{arith}
-use mathlib.Core.Path.{_≡_, refl}
+use mathlib.Core.Path.{_≡_, _∙_}
+use borrow.Author.Tests.{eq-eqb, ne-eqb}
 use Rattle.scope.specs.Parsed.{got}
 use Rattle.scope.specs.Number.{number}
-use Rattle.run.specs.Machine.{gone, broken, walks, wipes, deletes, idle}
+use Rattle.run.specs.Machine.{advanced, advancedMarks}
 use Rattle.steps.specs.Listing.{value-at, no-value-at}
 use borrow.Author.Needs.{needs}
 use Rattle.run.proofs.machine.advance.Statement.{statement}
@@ -17,7 +17,8 @@ stop-requires : tie.Need-stop-requires
 stop-requires c κs = search needs
 
 returns : tie.Need-returns
-returns c = gone (c .before .if1 .taken) (c .stop .ensures)
+unfolding advanced advancedMarks
+returns c = let z = eq-eqb _ _ (c .before .if1 .taken) in (c .stop .ensures ∙ rw z, rw z)
 
 number-in-requires : tie.Need-number-in-requires
 number-in-requires c κs = search needs
@@ -32,10 +33,12 @@ stop-requires-2 : tie.Need-stop-requires-2
 stop-requires-2 c κs = search needs
 
 returns-2 : tie.Need-returns-2
+unfolding advanced advancedMarks
 returns-2 c =
     let a = c .before .before .before .before .before .before .before .before .before .args in
-    broken _ _ (no-value-at (a .proof .now) (a .m .at) (c .before .before .before .number-in .result) (c .before .before .before .number-in .ensures) (c .before .enum-told .given .1))
-    (c .stop2 .ensures)
+    let z = ne-eqb _ _ (c .before .before .before .before .if1 .left) in
+    let e = no-value-at (a .proof .now) (a .m .at) (c .before .before .before .number-in .result) (c .before .before .before .number-in .ensures) (c .before .enum-told .given .1) in
+    (c .stop2 .ensures ∙ rw (z, e), rw (z, e))
 
 enum-told-2 : tie.Need-enum-told-2
 enum-told-2 c = search needs
@@ -77,34 +80,71 @@ same-length : tie.Need-same-length
 same-length c = search needs
 
 returns-3 : tie.Need-returns-3
+unfolding advanced advancedMarks
 returns-3 c =
-    walks _ _ (c .before .before .before .before .before .before .before .before .before .before .if1 .left) (read (c .before .before .before .before .before .before)) (c .before .before .before .before .enum-told2 .given .1) (c .before .before .take-hint .ensures .0) (c .before .before .take-hint .ensures .1)
+    let z = ne-eqb _ _ (c .before .before .before .before .before .before .before .before .before .before .if1 .left) in
+    let e = read (c .before .before .before .before .before .before) in
+    let p = c .before .before .before .before .enum-told2 .given .1 in
+    (c .before .before .take-hint .ensures .0 ∙ rw (z, e, p), c .before .before .take-hint .ensures .1 ∙ rw (z, e, p))
 
 same-length-2 : tie.Need-same-length-2
 same-length-2 c = search needs
 
 returns-4 : tie.Need-returns-4
+unfolding advanced advancedMarks
 returns-4 c =
-    wipes _ _ (c .before .before .before .before .before .before .before .before .before .before .before .if1 .left) (read (c .before .before .before .before .before .before .before)) (c .before .before .before .before .before .enum-told3 .given .1) (c .step-on .ensures) (c .before .before .before .wipe-clause .ensures)
+    let z = ne-eqb _ _ (c .before .before .before .before .before .before .before .before .before .before .before .if1 .left) in
+    let e = read (c .before .before .before .before .before .before .before) in
+    let p = c .before .before .before .before .before .enum-told3 .given .1 in
+    (c .step-on .ensures ∙ rw (z, e, p), c .before .before .before .wipe-clause .ensures ∙ rw (z, e, p))
 
 returns-5 : tie.Need-returns-5
+unfolding advanced advancedMarks
 returns-5 c =
-    deletes _ _ (c .before .before .before .before .before .before .before .if1 .left) (read (c .before .before .before)) (c .before .enum-told4 .given .1) (c .step-on2 .ensures) refl
+    let z = ne-eqb _ _ (c .before .before .before .before .before .before .before .if1 .left) in
+    let e = read (c .before .before .before) in
+    let p = c .before .enum-told4 .given .1 in
+    (c .step-on2 .ensures ∙ rw (z, e, p), rw (z, e, p))
 
 returns-6 : tie.Need-returns-6
-returns-6 c = let e = c .enum-told5 .given .1 in idle (rw e (omega arith))
+unfolding advanced advancedMarks
+returns-6 c =
+    let z = ne-eqb _ _ (c .before .before .before .before .before .before .if1 .left) in
+    let e = read (c .before .before) in
+    let p = c .enum-told5 .given .1 in
+    (rw (z, e, p), rw (z, e, p))
 
 returns-7 : tie.Need-returns-7
-returns-7 c = let e = c .enum-told6 .given .1 in idle (rw e (omega arith))
+unfolding advanced advancedMarks
+returns-7 c =
+    let z = ne-eqb _ _ (c .before .before .before .before .before .before .if1 .left) in
+    let e = read (c .before .before) in
+    let p = c .enum-told6 .given .1 in
+    (rw (z, e, p), rw (z, e, p))
 
 returns-8 : tie.Need-returns-8
-returns-8 c = let e = c .enum-told7 .given .1 in idle (rw e (omega arith))
+unfolding advanced advancedMarks
+returns-8 c =
+    let z = ne-eqb _ _ (c .before .before .before .before .before .before .if1 .left) in
+    let e = read (c .before .before) in
+    let p = c .enum-told7 .given .1 in
+    (rw (z, e, p), rw (z, e, p))
 
 returns-9 : tie.Need-returns-9
-returns-9 c = let e = c .enum-told8 .given .1 in idle (rw e (omega arith))
+unfolding advanced advancedMarks
+returns-9 c =
+    let z = ne-eqb _ _ (c .before .before .before .before .before .before .if1 .left) in
+    let e = read (c .before .before) in
+    let p = c .enum-told8 .given .1 in
+    (rw (z, e, p), rw (z, e, p))
 
 returns-10 : tie.Need-returns-10
-returns-10 c = let e = c .enum-told9 .given .1 in idle (rw e (omega arith))
+unfolding advanced advancedMarks
+returns-10 c =
+    let z = ne-eqb _ _ (c .before .before .before .before .before .before .if1 .left) in
+    let e = read (c .before .before) in
+    let p = c .enum-told9 .given .1 in
+    (rw (z, e, p), rw (z, e, p))
 
 pub advance-spec : {M : Type 1} → statement M
 advance-spec =

@@ -1,10 +1,9 @@
-use mathlib.Core.Path.{_≡_, refl, _∙_}
-use mathlib.Core.List.{List}
-use Prim.Native.Nat.{ℕ, _-_}
+use mathlib.Core.Path.{_≡_, refl, sym, ap, _∙_}
+use Prim.Native.Nat.{_-_}
 use native.Mathlib.Omega.{arith}
 use lib.ListN.{length}
 use lib.Seq.{slice}
-use Rattle.store.specs.Clauses.{Wiped, inClause, part-slice, wiped-next, wiped-end}
+use Rattle.store.specs.Clauses.{wiped, part-slice, wiped-next, wiped-end}
 use borrow.Author.Needs.{needs}
 use Rattle.store.proofs.clauses.wipe_clause.Statement.{statement}
 use Rattle.store.proofs.clauses.wipe_clause.Tie as tie
@@ -12,7 +11,7 @@ use Rattle.store.proofs.clauses.wipe_clause.Tie as tie
 abbrev Inv-loop : tie.InvT-loop
 Inv-loop marks₀ words first len end i₀ marks i =
     (length marks ≡ length marks₀)
-    × ((ms : List ℕ) → Wiped (inClause (slice i end words)) marks ms → Wiped (inClause (slice first end words)) marks₀ ms)
+    × (wiped marks (slice i end words) ≡ wiped marks₀ (slice first end words))
 
 abbrev μ-loop : tie.MeasureT-loop
 μ-loop marks₀ words first len end i₀ marks i = end - i
@@ -21,7 +20,7 @@ end-of-requires : tie.Need-end-of-requires Inv-loop μ-loop
 end-of-requires c κs = search needs
 
 loop-holds : tie.Need-loop-holds Inv-loop μ-loop
-loop-holds c = (refl, λ ms h. h)
+loop-holds c = (refl, refl)
 
 mul-l : tie.Need-mul-l Inv-loop μ-loop
 mul-l c = search needs
@@ -46,10 +45,9 @@ loop-again c =
     let l = c .before .before .before .before .before .before .before .loop in
     let a = c .before .before .before .before .before .before .before .before .before .before .before .args in (
       c .before .before .put-mark .kept .0 ∙ l .inv .0,
-      λ ms h.
-          l .inv .1 ms
-          (wiped-next (a .words .now) (l .i) (c .before .before .before .before .before .before .before .before .end-of .result) (omega arith) (omega arith) (l .marks) _ ms
-          (c .before .before .put-mark .ensures ∙ rw (c .before .before .before .before .wide .ensures)) h),
+      rw (c .before .before .put-mark .ensures, c .before .before .before .before .wide .ensures)
+          (wiped-next (a .words .now) (l .i) (c .before .before .before .before .before .before .before .before .end-of .result) (omega arith) (omega arith) (l .marks))
+          ∙ l .inv .1,
     )
 
 same-length : tie.Need-same-length Inv-loop μ-loop
@@ -59,8 +57,9 @@ returns : tie.Need-returns Inv-loop μ-loop
 returns c =
     let l = c .before .loop in
     let a = c .before .before .before .before .before .args in
-    rw (← part-slice (a .words .now) (a .first) (a .len) _ (c .before .before .end-of .ensures))
-    (l .inv .1 (l .marks) (wiped-end (a .words .now) (l .i) (c .before .before .end-of .result) (omega arith) (l .marks)))
+    sym (wiped-end (a .words .now) (l .i) (c .before .before .end-of .result) (omega arith) (l .marks))
+    ∙ l .inv .1
+    ∙ ap (wiped (a .marks .now)) (part-slice (a .words .now) (a .first) (a .len) _ (c .before .before .end-of .ensures))
 
 pub wipe-clause-spec : {M : Type 1} → statement M
 wipe-clause-spec =
