@@ -1,0 +1,135 @@
+/*
+ * plain JOB MILLISECONDS INSTANCE [TABLE | MODEL | BOUND PROOF]
+ *
+ * Does a job again and again for so long, and prints the refusal's number, two
+ * numbers of the answer (for a text its length and a checksum), and the
+ * microseconds of the fastest time. Each time the instance file is read anew.
+ */
+#define _POSIX_C_SOURCE 199309L
+#include "plain.h"
+
+#include <stdio.h>
+#include <stdlib.h>
+#include <string.h>
+#include <time.h>
+
+struct bytes {
+    uint8_t *at;
+    size_t length;
+};
+
+static struct bytes load(const char *name)
+{
+    struct bytes b = {0, 0};
+    FILE *f = fopen(name, "rb");
+    if (!f || fseek(f, 0, SEEK_END)) {
+        perror(name);
+        exit(2);
+    }
+    b.length = (size_t)ftell(f);
+    rewind(f);
+    b.at = malloc(b.length + 1);
+    if (!b.at || fread(b.at, 1, b.length, f) != b.length) {
+        perror(name);
+        exit(2);
+    }
+    fclose(f);
+    return b;
+}
+
+static double now(void)
+{
+    struct timespec t;
+    clock_gettime(CLOCK_MONOTONIC, &t);
+    return (double)t.tv_sec * 1e6 + (double)t.tv_nsec / 1e3;
+}
+
+/* A number for all bytes of a text (FNV-1a). */
+static uint64_t checksum(const uint8_t *s, uint64_t length)
+{
+    uint64_t sum = 0xcbf29ce484222325;
+    for (uint64_t i = 0; i < length; i++)
+        sum = (sum ^ s[i]) * 0x100000001b3;
+    return sum;
+}
+
+/* What a job works on, and its answer. */
+struct task {
+    const char *job;
+    struct bytes file, other;
+    uint32_t bound;
+    uint8_t *out;
+    size_t room;
+    struct stores stores;
+    uint64_t answer[2];
+};
+
+static struct instance in;
+
+static int once(struct task *t)
+{
+    int bad = read_instance(&in, t->file.at, t->file.length);
+    if (bad)
+        return bad;
+    if (!strcmp(t->job, "score"))
+        return score(&in, t->other.at, t->other.length, &t->answer[0], &t->answer[1]);
+    if (!strcmp(t->job, "sizes")) {
+        struct sizes s = sizes_of(&in);
+        t->answer[0] = s.variables;
+        t->answer[1] = s.clauses;
+    }
+    if (!strcmp(t->job, "text"))
+        return text(&in, t->out, t->room, &t->answer[0]);
+    if (!strcmp(t->job, "decode"))
+        return decode(&in, t->other.at, t->other.length, &t->answer[0]);
+    if (!strcmp(t->job, "check"))
+        return check(&in, t->bound, t->other.at, t->other.length, &t->stores, &t->answer[0]);
+    return 0;
+}
+
+/* Room for the text, or for the clauses and two bytes a variable. */
+static void lend(struct task *t)
+{
+    if (read_instance(&in, t->file.at, t->file.length))
+        return;
+    struct sizes s = sizes_of(&in);
+    uint64_t columns = t->bound + 1;
+    if (!strcmp(t->job, "text")) {
+        t->room = 64 + 72 * (s.clauses + s.units);
+        t->out = malloc(t->room);
+        memset(t->out, 0, t->room);
+    }
+    if (!strcmp(t->job, "check")) {
+        uint64_t variables = s.variables + s.units * columns, clauses = s.clauses + 4 * s.units * columns + 1;
+        t->stores.words = malloc(sizeof(uint32_t) * (3 * clauses + 1026 * 128 + t->other.length));
+        t->stores.rows = malloc(sizeof(struct row) * (clauses + t->other.length / 3 + 1));
+        t->stores.falsified = calloc(2, variables + 1);
+        t->stores.trail = malloc(sizeof(uint32_t) * (variables + 1));
+    }
+}
+
+int main(int count, char **words)
+{
+    if (count < 4)
+        return 2;
+    struct task t = {words[1], load(words[3]), {0, 0}, 0, 0, 0, {0, 0, 0, 0}, {0, 0}};
+    if (count > 5)
+        t.bound = (uint32_t)strtoul(words[4], 0, 10);
+    if (count > 4)
+        t.other = load(words[count - 1]);
+    in.store = malloc(sizeof(uint16_t) * (2 * t.file.length + 1));
+    lend(&t);
+    double fastest = 1e18, begin = now(), turn = atof(words[2]) * 1e3;
+    int bad;
+    do {
+        double start = now();
+        bad = once(&t);
+        double took = now() - start;
+        if (took < fastest)
+            fastest = took;
+    } while (now() - begin < turn);
+    if (t.out)
+        t.answer[1] = checksum(t.out, t.answer[0]);
+    printf("%d %llu %llu %.3f\n", bad, (unsigned long long)t.answer[0], (unsigned long long)t.answer[1], fastest);
+    return 0;
+}

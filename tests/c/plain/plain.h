@@ -1,0 +1,62 @@
+/*
+ * The engine's jobs in plain C, without proofs: a yardstick for its speed.
+ *
+ * Each job answers 0, or the number of the first refusal without its place.
+ */
+#ifndef PLAIN_H
+#define PLAIN_H
+
+#include <stddef.h>
+#include <stdint.h>
+
+enum { MOST_TIMES = 125, MOST_EVENTS = 1024, MOST_RESOURCES = 99, MOST_GROUPS = 1024, MOST_CONSTRAINTS = 4096 };
+
+/* A list of numbers from 1, at a place of the instance's store. */
+struct list {
+    uint32_t first, count;
+};
+
+/* Kind 1 to 8; one is its resource or event, group its group, many its list of events or groups. */
+struct constraint {
+    uint32_t kind, weight, one, group, lo, hi;
+    struct list many;
+};
+
+struct instance {
+    uint32_t times, events, resources, groups, constraints;
+    uint8_t duration[MOST_EVENTS];
+    struct list uses[MOST_EVENTS];
+    struct list users[MOST_RESOURCES];
+    struct list group[MOST_GROUPS];
+    struct constraint constraint[MOST_CONSTRAINTS];
+    uint32_t used, room;
+    uint16_t *store;
+};
+
+/* Variables and clauses without the tail, the soft units, and 1 + their weights. */
+struct sizes {
+    uint64_t variables, clauses, units, top;
+};
+
+/* A clause's id, its first word and its length; the length is 0 once it is deleted. */
+struct row {
+    uint32_t id, first, length;
+};
+
+/* What a check works in: room for all clauses, and for two bytes a variable, all 0. */
+struct stores {
+    uint32_t *words;
+    struct row *rows;
+    uint8_t *falsified;
+    uint32_t *trail;
+};
+
+int read_number(const uint8_t *s, size_t length, size_t *at, uint32_t *value);
+int read_instance(struct instance *in, const uint8_t *file, size_t length);
+struct sizes sizes_of(const struct instance *in);
+int score(const struct instance *in, const uint8_t *table, size_t length, uint64_t *infeasibility, uint64_t *objective);
+int text(const struct instance *in, uint8_t *out, size_t room, uint64_t *length);
+int decode(const struct instance *in, const uint8_t *model, size_t length, uint64_t *cost);
+int check(const struct instance *in, uint32_t bound, const uint8_t *proof, size_t length, struct stores *stores, uint64_t *steps);
+
+#endif
