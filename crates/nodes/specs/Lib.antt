@@ -1,0 +1,6 @@
+pub mod Nodes
+pub mod Order
+pub mod Values
+pub mod Entries
+pub mod Counts
+pub mod Items
