@@ -4,3 +4,4 @@ pub mod Values
 pub mod Entries
 pub mod Counts
 pub mod Items
+pub mod Sizes
