@@ -43,48 +43,49 @@ fn main() {
     });
     println!("| operation | lessons | bytes of input | engine | reference | engine / reference |");
     println!("|---|---|---|---|---|---|");
-    for School { lessons, file, .. } in &schools {
+    files(&schools);
+    timetables(&schools);
+    formulas(&schools);
+    checks(&schools);
+}
+
+/// The operations on files alone.
+fn files(schools: &[School]) {
+    for School { lessons, file, .. } in schools {
         row(
             ("read", *lessons, file.len()),
             || engine::read(file).is_ok(),
             || reference::read(file).is_ok(),
         );
     }
-    for School { lessons, file, .. } in &schools {
+    for School { lessons, file, .. } in schools {
         row(
             ("sizes", *lessons, file.len()),
             || engine::sizes(file, BOUND).is_ok(),
             || reference::sizes(file, Some(BOUND)).is_ok(),
         );
     }
-    for School {
-        lessons,
-        file,
-        table,
-        ..
-    } in &schools
-    {
+}
+
+/// The operations on timetables.
+fn timetables(schools: &[School]) {
+    let inputs = schools
+        .iter()
+        .map(|school| (school.lessons, &school.file[..], &school.table[..]));
+    for (lessons, file, table) in inputs.clone() {
         row(
-            ("score", *lessons, file.len() + table.len()),
+            ("score", lessons, file.len() + table.len()),
             || engine::score(file, table).is_ok(),
             || reference::score(file, table).is_ok(),
         );
     }
-    for School {
-        lessons,
-        file,
-        table,
-        ..
-    } in &schools
-    {
+    for (lessons, file, table) in inputs {
         row(
-            ("same_sheet", *lessons, file.len() + 2 * table.len()),
+            ("same_sheet", lessons, file.len() + 2 * table.len()),
             || engine::same_sheet(file, table, table).is_ok(),
             || reference::same_sheet(file, table, table).is_ok(),
         );
     }
-    formulas(&schools);
-    checks(&schools);
 }
 
 /// The operations that walk over the clauses, on the same files. Their
