@@ -19,162 +19,191 @@ pub fn forgeries(
     formula: usize,
     steps: &[Step],
 ) -> Vec<Forgery> {
-    let count = steps.len() as u64;
     let at = random.below(steps.len());
-    let number = at as u64 + 1;
     let Step::Add {
         id,
         literals,
         hints,
-    } = steps[at].clone()
+    } = &steps[at]
     else {
         panic!("solve emits no deletion");
     };
-    let hint = random.below(hints.len());
-    let last = hints.len() - 1;
-    let refused = |number, value| Err(Refusal { number, value });
-    let honest = encode_steps(steps);
+    let mut forger = Forger {
+        steps,
+        formula,
+        at,
+        id: *id,
+        literals,
+        hints,
+        hint: random.below(hints.len()),
+        forged: Vec::new(),
+    };
+    forger.whole(random.pick(&[0, ADD, DELETE, 255]));
+    forger.reordered();
+    forger.hints();
+    forger.ids();
+    forger.literals(variables);
+    forger.around();
+    forger.forged
+}
 
-    let mut all: Vec<Forgery> = Vec::new();
-    let mut forge = |name, proof, answer| {
-        all.push(Forgery {
+/// A refutation with the step that is changed.
+struct Forger<'a> {
+    steps: &'a [Step],
+    /// How many clauses the formula has.
+    formula: usize,
+    /// The index of the step, and its parts.
+    at: usize,
+    id: u32,
+    literals: &'a [Literal],
+    hints: &'a [u32],
+    /// The index of one of its hints.
+    hint: usize,
+    forged: Vec<Forgery>,
+}
+
+impl Forger<'_> {
+    fn forge(&mut self, name: &'static str, proof: Vec<u8>, answer: Result<u64, Refusal>) {
+        self.forged.push(Forgery {
             name,
             proof,
             answer,
         });
-    };
+    }
 
-    // Changes of the whole proof.
-    let mut longer = honest.clone();
-    longer.push(random.pick(&[0, ADD, DELETE, 255]));
-    forge("a byte after the empty clause", longer, refused(18, count));
-    forge(
-        "the last byte missing",
-        honest[..honest.len() - 1].to_vec(),
-        refused(14, count),
-    );
-    forge(
-        "the last step missing",
-        encode_steps(&steps[..steps.len() - 1]),
-        refused(18, count - 1),
-    );
-    forge(
-        "gaps between ids",
-        encode_steps(&with_gaps(formula, steps, 5)),
-        Ok(count),
-    );
-    let deleting = with_deletions(formula, steps);
-    forge(
-        "clauses deleted after their last use",
-        encode_steps(&deleting),
-        Ok(deleting.len() as u64),
-    );
-    let empty = Step::Add {
-        id: formula as u32 + 1,
-        literals: vec![],
-        hints: vec![1],
-    };
-    forge(
-        "only the empty clause, by a clause with open literals",
-        encode_steps(&[empty]),
-        refused(16, 1),
-    );
-    let twice = Step::Delete { ids: vec![1, 1] };
-    forge(
-        "a deletion named twice",
-        encode_steps(&[&[twice], steps].concat()),
-        refused(15, 1),
-    );
+    /// A proof that earns a refusal at the step.
+    fn refused_here(&mut self, name: &'static str, proof: Vec<u8>, number: u32) {
+        self.forge(name, proof, refused(number, self.at as u64 + 1));
+    }
 
-    // Changes of the step at hand.
-    let with = |id: u32, literals: &[Literal], hints: &[u32]| {
-        let mut changed = steps.to_vec();
-        changed[at] = Step::Add {
+    /// The number of steps.
+    fn count(&self) -> u64 {
+        self.steps.len() as u64
+    }
+
+    /// The proof with other parts of the step.
+    fn with(&self, id: u32, literals: &[Literal], hints: &[u32]) -> Vec<u8> {
+        let mut changed = self.steps.to_vec();
+        changed[self.at] = Step::Add {
             id,
             literals: literals.to_vec(),
             hints: hints.to_vec(),
         };
         encode_steps(&changed)
-    };
-    let reversed: Vec<Literal> = literals.iter().rev().copied().collect();
-    forge(
-        "literals in another order",
-        with(id, &reversed, &hints),
-        Ok(count),
-    );
-    forge("no hints", with(id, &literals, &[]), refused(16, number));
-    forge(
-        "the last hint missing",
-        with(id, &literals, &hints[..last]),
-        refused(16, number),
-    );
-    // Every reason that `solve` lists is needed by a later hint.
-    let mut fewer = hints.clone();
-    fewer.remove(hint);
-    forge(
-        "a hint missing",
-        with(id, &literals, &fewer),
-        refused(16, number),
-    );
-    // The second time the clause has a true literal, or it was all false before.
-    let mut more = hints.clone();
-    more.insert(hint, hints[hint]);
-    forge(
-        "a hint given twice",
-        with(id, &literals, &more),
-        refused(16, number),
-    );
-    for (name, unknown) in [
-        ("its own id as a hint", id),
-        ("an unknown id as a hint", u32::MAX),
-    ] {
-        let mut more = hints.clone();
-        more.insert(hint, unknown);
-        forge(name, with(id, &literals, &more), refused(15, number));
     }
-    for (name, wrong) in [("an id used before", id - 1), ("id 0", 0)] {
-        forge(name, with(wrong, &literals, &hints), refused(14, number));
+
+    /// Changes of the whole proof.
+    fn whole(&mut self, byte: u8) {
+        let (steps, count) = (self.steps, self.count());
+        let honest = encode_steps(steps);
+        let longer = [&honest[..], &[byte]].concat();
+        self.forge("a byte after the empty clause", longer, refused(18, count));
+        let shorter = honest[..honest.len() - 1].to_vec();
+        self.forge("the last byte missing", shorter, refused(14, count));
+        let fewer = encode_steps(&steps[..steps.len() - 1]);
+        self.forge("the last step missing", fewer, refused(18, count - 1));
+        let gaps = encode_steps(&with_gaps(self.formula, steps, 5));
+        self.forge("gaps between ids", gaps, Ok(count));
+        let deleting = with_deletions(self.formula, steps);
+        self.forge(
+            "clauses deleted after their last use",
+            encode_steps(&deleting),
+            Ok(deleting.len() as u64),
+        );
+        let empty = Step::Add {
+            id: self.formula as u32 + 1,
+            literals: vec![],
+            hints: vec![1],
+        };
+        self.forge(
+            "only the empty clause, by a clause with open literals",
+            encode_steps(&[empty]),
+            refused(16, 1),
+        );
+        let twice = Step::Delete { ids: vec![1, 1] };
+        let twice = encode_steps(&[&[twice], steps].concat());
+        self.forge("a deletion named twice", twice, refused(15, 1));
     }
-    if let Some(&literal) = literals.first() {
-        for (name, extra) in [("a literal twice", literal), ("both signs", !literal)] {
-            let more = [&literals[..], &[extra]].concat();
-            forge(name, with(id, &more, &hints), refused(14, number));
+
+    fn reordered(&mut self) {
+        let reversed: Vec<Literal> = self.literals.iter().rev().copied().collect();
+        let proof = self.with(self.id, &reversed, self.hints);
+        self.forge("literals in another order", proof, Ok(self.count()));
+    }
+
+    /// Changes of the step's hints.
+    fn hints(&mut self) {
+        let (hints, hint) = (self.hints, self.hint);
+        let changed = |forger: &Self, hints: &[u32]| forger.with(forger.id, forger.literals, hints);
+        let proof = changed(self, &[]);
+        self.refused_here("no hints", proof, 16);
+        let proof = changed(self, &hints[..hints.len() - 1]);
+        self.refused_here("the last hint missing", proof, 16);
+        // Every reason that `solve` lists is needed by a later hint.
+        let fewer = [&hints[..hint], &hints[hint + 1..]].concat();
+        let proof = changed(self, &fewer);
+        self.refused_here("a hint missing", proof, 16);
+        // The second time the clause has a true literal, or it was all false before.
+        let with = |more: u32| [&hints[..hint], &[more], &hints[hint..]].concat();
+        let proof = changed(self, &with(hints[hint]));
+        self.refused_here("a hint given twice", proof, 16);
+        for (name, unknown) in [
+            ("its own id as a hint", self.id),
+            ("an unknown id as a hint", u32::MAX),
+        ] {
+            let proof = changed(self, &with(unknown));
+            self.refused_here(name, proof, 15);
         }
     }
-    let above = Literal::positive(variables as u32 + 1);
-    let more = [&literals[..], &[above]].concat();
-    forge(
-        "a variable above the last",
-        with(id, &more, &hints),
-        refused(14, number),
-    );
 
-    // Changes around the step at hand.
-    let before = encode_steps(&steps[..at]);
-    let step = encode_steps(&steps[at..=at]);
-    let after = encode_steps(&steps[at + 1..]);
-    let dead = encode_steps(&[Step::Delete {
-        ids: vec![hints[hint]],
-    }]);
-    forge(
-        "a deleted clause as a hint",
-        [&before[..], &dead, &step, &after].concat(),
-        refused(15, number + 1),
-    );
-    forge(
-        "a deletion of nothing",
-        [&before[..], &[DELETE, 0], &step, &after].concat(),
-        Ok(count + 1),
-    );
-    forge(
-        "another first byte",
-        [&before[..], &[98], &step[1..], &after].concat(),
-        refused(14, number),
-    );
-    forge(
-        "an overlong closing 0",
-        [&before[..], &step[..step.len() - 1], &[0x80, 0], &after].concat(),
-        refused(14, number),
-    );
-    all
+    fn ids(&mut self) {
+        for (name, wrong) in [("an id used before", self.id - 1), ("id 0", 0)] {
+            let proof = self.with(wrong, self.literals, self.hints);
+            self.refused_here(name, proof, 14);
+        }
+    }
+
+    /// A literal more.
+    fn literals(&mut self, variables: usize) {
+        let mut extra = Vec::new();
+        if let Some(&literal) = self.literals.first() {
+            extra.extend([("a literal twice", literal), ("both signs", !literal)]);
+        }
+        let above = Literal::positive(variables as u32 + 1);
+        extra.push(("a variable above the last", above));
+        for (name, literal) in extra {
+            let more = [self.literals, &[literal]].concat();
+            let proof = self.with(self.id, &more, self.hints);
+            self.refused_here(name, proof, 14);
+        }
+    }
+
+    /// Changes around the step.
+    fn around(&mut self) {
+        let (at, count) = (self.at, self.count());
+        let before = encode_steps(&self.steps[..at]);
+        let step = encode_steps(&self.steps[at..=at]);
+        let after = encode_steps(&self.steps[at + 1..]);
+        let dead = encode_steps(&[Step::Delete {
+            ids: vec![self.hints[self.hint]],
+        }]);
+        self.forge(
+            "a deleted clause as a hint",
+            [&before[..], &dead, &step, &after].concat(),
+            refused(15, at as u64 + 2),
+        );
+        self.forge(
+            "a deletion of nothing",
+            [&before[..], &[DELETE, 0], &step, &after].concat(),
+            Ok(count + 1),
+        );
+        let other = [&before[..], &[98], &step[1..], &after].concat();
+        self.refused_here("another first byte", other, 14);
+        let overlong = [&before[..], &step[..step.len() - 1], &[0x80, 0], &after].concat();
+        self.refused_here("an overlong closing 0", overlong, 14);
+    }
+}
+
+fn refused(number: u32, value: u64) -> Result<u64, Refusal> {
+    Err(Refusal { number, value })
 }

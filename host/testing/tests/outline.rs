@@ -90,13 +90,13 @@ fn the_clauses_of_file_a_are_told() {
         [
             "block 1, event 1: it starts at time 1 and does not take it",
             "block 1, event 1: it takes time 1 and does not start there",
-            "block 3, event 1: its counter has a wrong value in row 1, column 1",
-            "block 3, event 1: its counter has a wrong value in row 1, column 1",
+            "block 3, event 1: its counter, in row 1, column 1, has a wrong value",
+            "block 3, event 1: its counter, in row 1, column 1, has a wrong value",
             "block 3, event 1: the number of its times is below 1",
-            "block 4, constraint 1, kind preferred-times: its counter has a wrong value in row 1, \
-             column 1",
-            "block 4, constraint 1, kind preferred-times: its counter has a wrong value in row 1, \
-             column 1",
+            "block 4, constraint 1, kind preferred-times: its counter, in row 1, column 1, has \
+             a wrong value",
+            "block 4, constraint 1, kind preferred-times: its counter, in row 1, column 1, has \
+             a wrong value",
         ]
     );
 }

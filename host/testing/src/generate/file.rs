@@ -1,6 +1,6 @@
 //! Instance files.
 
-use crate::reference::{write_number, Instance, Kind};
+use crate::reference::{write_number, Constraint, Instance, Kind};
 
 /// The instance file of `instance`.
 pub fn encode(instance: &Instance) -> Vec<u8> {
@@ -18,53 +18,62 @@ pub fn encode(instance: &Instance) -> Vec<u8> {
     }
     number(&mut file, instance.constraints.len());
     for constraint in &instance.constraints {
-        let code = match constraint.kind {
-            Kind::Clash { .. } => 1,
-            Kind::Unavailable { .. } => 2,
-            Kind::PreferredTimes { .. } => 3,
-            Kind::Split { .. } => 4,
-            Kind::Spread { .. } => 5,
-            Kind::BusyLimit { .. } => 6,
-            Kind::Cluster { .. } => 7,
-            Kind::Idle { .. } => 8,
-        };
-        number(&mut file, code);
-        number(&mut file, constraint.weight as usize);
-        match &constraint.kind {
-            Kind::Clash { resource } => reference(&mut file, *resource),
-            Kind::Unavailable { resource, group }
-            | Kind::BusyLimit {
-                resource, group, ..
-            } => {
-                reference(&mut file, *resource);
-                reference(&mut file, *group);
-            }
-            Kind::PreferredTimes { event, group } => {
-                reference(&mut file, *event);
-                reference(&mut file, *group);
-            }
-            Kind::Split { event, .. } => reference(&mut file, *event),
-            Kind::Spread { events, group, .. } => {
-                list(&mut file, events);
-                reference(&mut file, *group);
-            }
-            Kind::Cluster {
-                resource, groups, ..
-            }
-            | Kind::Idle {
-                resource, groups, ..
-            } => {
-                reference(&mut file, *resource);
-                list(&mut file, groups);
-            }
-        }
-        if code >= 4 {
-            let range = constraint.kind.range();
-            number(&mut file, range.lo as usize);
-            number(&mut file, range.hi as usize);
-        }
+        write_constraint(&mut file, constraint);
     }
     file
+}
+
+fn write_constraint(file: &mut Vec<u8>, constraint: &Constraint) {
+    let code = code(&constraint.kind);
+    number(file, code);
+    number(file, constraint.weight as usize);
+    match &constraint.kind {
+        Kind::Clash { resource } => reference(file, *resource),
+        Kind::Unavailable { resource, group }
+        | Kind::BusyLimit {
+            resource, group, ..
+        } => {
+            reference(file, *resource);
+            reference(file, *group);
+        }
+        Kind::PreferredTimes { event, group } => {
+            reference(file, *event);
+            reference(file, *group);
+        }
+        Kind::Split { event, .. } => reference(file, *event),
+        Kind::Spread { events, group, .. } => {
+            list(file, events);
+            reference(file, *group);
+        }
+        Kind::Cluster {
+            resource, groups, ..
+        }
+        | Kind::Idle {
+            resource, groups, ..
+        } => {
+            reference(file, *resource);
+            list(file, groups);
+        }
+    }
+    if code >= 4 {
+        let range = constraint.kind.range();
+        number(file, range.lo as usize);
+        number(file, range.hi as usize);
+    }
+}
+
+/// The number of a kind in a file.
+fn code(kind: &Kind) -> usize {
+    match kind {
+        Kind::Clash { .. } => 1,
+        Kind::Unavailable { .. } => 2,
+        Kind::PreferredTimes { .. } => 3,
+        Kind::Split { .. } => 4,
+        Kind::Spread { .. } => 5,
+        Kind::BusyLimit { .. } => 6,
+        Kind::Cluster { .. } => 7,
+        Kind::Idle { .. } => 8,
+    }
 }
 
 fn number(file: &mut Vec<u8>, value: usize) {

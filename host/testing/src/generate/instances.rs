@@ -136,38 +136,14 @@ fn kind(random: &mut Random, instance: &Instance) -> Option<Kind> {
     if no_resource || no_group {
         return None;
     }
-    let resource = random.below(instance.resources.max(1));
-    let event = random.below(instance.events.len());
-    let group = random.below(instance.groups.len().max(1));
-    let groups = random.subset(instance.groups.len());
-    let events = random.subset(instance.events.len());
-    let with_range = |range: Range| match code {
-        1 => Kind::Clash { resource },
-        2 => Kind::Unavailable { resource, group },
-        3 => Kind::PreferredTimes { event, group },
-        4 => Kind::Split { event, range },
-        5 => Kind::Spread {
-            events: events.clone(),
-            group,
-            range,
-        },
-        6 => Kind::BusyLimit {
-            resource,
-            group,
-            range,
-        },
-        7 => Kind::Cluster {
-            resource,
-            groups: groups.clone(),
-            range,
-        },
-        _ => Kind::Idle {
-            resource,
-            groups: groups.clone(),
-            range,
-        },
+    let fields = Fields {
+        resource: random.below(instance.resources.max(1)),
+        event: random.below(instance.events.len()),
+        group: random.below(instance.groups.len().max(1)),
+        groups: random.subset(instance.groups.len()),
+        events: random.subset(instance.events.len()),
     };
-    let length = instance.list_length(&with_range(Range { lo: 0, hi: 0 }));
+    let length = instance.list_length(&fields.clone().kind(code, Range { lo: 0, hi: 0 }));
     if length > LONGEST_LIST {
         return None;
     }
@@ -178,8 +154,58 @@ fn kind(random: &mut Random, instance: &Instance) -> Option<Kind> {
         1 => lo,
         _ => (lo + random.below(length + 2)).min(LARGEST_HI as usize),
     };
-    Some(with_range(Range {
+    let range = Range {
         lo: lo as u32,
         hi: hi as u32,
-    }))
+    };
+    Some(fields.kind(code, range))
+}
+
+/// What a kind may refer to.
+#[derive(Clone)]
+struct Fields {
+    resource: usize,
+    event: usize,
+    group: usize,
+    groups: Vec<usize>,
+    events: Vec<usize>,
+}
+
+impl Fields {
+    /// The kind `code` with those of the fields that it has.
+    fn kind(self, code: usize, range: Range) -> Kind {
+        let Fields {
+            resource,
+            event,
+            group,
+            groups,
+            events,
+        } = self;
+        match code {
+            1 => Kind::Clash { resource },
+            2 => Kind::Unavailable { resource, group },
+            3 => Kind::PreferredTimes { event, group },
+            4 => Kind::Split { event, range },
+            5 => Kind::Spread {
+                events,
+                group,
+                range,
+            },
+            6 => Kind::BusyLimit {
+                resource,
+                group,
+                range,
+            },
+            7 => Kind::Cluster {
+                resource,
+                groups,
+                range,
+            },
+            _ => Kind::Idle {
+                resource,
+                groups,
+                range,
+            },
+        }
+    }
 }

@@ -21,6 +21,32 @@ pub fn model_with_tail(instance: &Instance, table: &[u8], bound: u64) -> Vec<u8>
     extension.model()
 }
 
+/// A timetable of an instance, looked at by its variables.
+struct Sheet<'a> {
+    instance: &'a Instance,
+    table: &'a [u8],
+}
+
+impl Sheet<'_> {
+    fn y(&self, event: usize, time: usize) -> bool {
+        self.table[event * self.instance.times + time] == 1
+    }
+
+    fn s(&self, event: usize, time: usize) -> bool {
+        self.y(self.instance.events.len() + event, time)
+    }
+
+    fn x(&self, resource: usize, time: usize) -> bool {
+        (0..self.instance.events.len())
+            .any(|event| self.instance.uses(event, resource) && self.y(event, time))
+    }
+
+    fn x_in(&self, resource: usize, group: usize) -> Vec<bool> {
+        let members = self.instance.groups[group].iter();
+        members.map(|&time| self.x(resource, time)).collect()
+    }
+}
+
 /// The values of the variables so far.
 struct Extension {
     values: Vec<bool>,
@@ -30,86 +56,90 @@ struct Extension {
 
 impl Extension {
     fn of(instance: &Instance, table: &[u8]) -> Extension {
+        let sheet = Sheet { instance, table };
         let times = instance.times;
-        let half = instance.events.len() * times;
         let mut extension = Extension {
             values: table.iter().map(|&byte| byte == 1).collect(),
             soft: Vec::new(),
         };
-        let y = |event: usize, time: usize| table[event * times + time] == 1;
-        let s = |event: usize, time: usize| table[half + event * times + time] == 1;
-        let x = |resource: usize, time: usize| {
-            (0..instance.events.len()).any(|event| instance.uses(event, resource) && y(event, time))
-        };
         for resource in 0..instance.resources {
             for time in 0..times {
-                extension.values.push(x(resource, time));
+                extension.values.push(sheet.x(resource, time));
             }
         }
         for (event, fields) in instance.events.iter().enumerate() {
-            let list: Vec<bool> = (0..times).map(|time| y(event, time)).collect();
-            let hi = fields.duration;
-            extension.counter(&unweighted(&list), (hi + 1).min(times));
+            let list: Vec<bool> = (0..times).map(|time| sheet.y(event, time)).collect();
+            let columns = (fields.duration + 1).min(times);
+            extension.counter(&unweighted(&list), columns);
         }
         for constraint in &instance.constraints {
-            let x_in = |resource: usize, group: usize| -> Vec<bool> {
-                let members = instance.groups[group].iter();
-                members.map(|&time| x(resource, time)).collect()
-            };
-            let mut list = Vec::new();
-            match &constraint.kind {
-                Kind::Clash { resource } => {
-                    for time in 0..times {
-                        let list: Vec<bool> = instance
-                            .events_of(*resource)
-                            .iter()
-                            .map(|&event| y(event, time))
-                            .collect();
-                        extension.counted(&list, constraint);
-                    }
-                    continue;
-                }
-                Kind::Unavailable { resource, group }
-                | Kind::BusyLimit {
-                    resource, group, ..
-                } => list = x_in(*resource, *group),
-                Kind::PreferredTimes { event, group } => {
-                    for time in (0..times).filter(|time| !instance.groups[*group].contains(time)) {
-                        list.push(y(*event, time));
-                    }
-                }
-                Kind::Split { event, .. } => list.extend((0..times).map(|time| s(*event, time))),
-                Kind::Spread { events, group, .. } => {
-                    for &event in events {
-                        list.extend(instance.groups[*group].iter().map(|&time| s(event, time)));
-                    }
-                }
-                Kind::Cluster {
-                    resource, groups, ..
-                } => {
-                    for &group in groups {
-                        list.push(x_in(*resource, group).contains(&true));
-                    }
-                    extension.values.extend_from_slice(&list);
-                }
-                Kind::Idle {
-                    resource, groups, ..
-                } => {
-                    for &group in groups {
-                        let busy = x_in(*resource, group);
-                        for member in 1..busy.len().saturating_sub(1) {
-                            let earlier = busy[..member].contains(&true);
-                            let later = busy[member + 1..].contains(&true);
-                            let idle = !busy[member] && earlier && later;
-                            extension.values.extend_from_slice(&[earlier, later, idle]);
-                            list.push(idle);
-                        }
-                    }
-                }
-            }
-            extension.counted(&list, constraint);
+            extension.constraint(&sheet, constraint);
         }
         extension
+    }
+
+    /// The gates of a constraint's list, its counter and its bounds.
+    fn constraint(&mut self, sheet: &Sheet, constraint: &Constraint) {
+        let Instance { times, groups, .. } = sheet.instance;
+        let times = 0..*times;
+        let list: Vec<bool> = match &constraint.kind {
+            Kind::Clash { resource } => {
+                let events = sheet.instance.events_of(*resource);
+                for time in times {
+                    let list: Vec<bool> =
+                        events.iter().map(|&event| sheet.y(event, time)).collect();
+                    self.counted(&list, constraint);
+                }
+                return;
+            }
+            Kind::Unavailable { resource, group }
+            | Kind::BusyLimit {
+                resource, group, ..
+            } => sheet.x_in(*resource, *group),
+            Kind::PreferredTimes { event, group } => {
+                let outside = times.filter(|time| !groups[*group].contains(time));
+                outside.map(|time| sheet.y(*event, time)).collect()
+            }
+            Kind::Split { event, .. } => times.map(|time| sheet.s(*event, time)).collect(),
+            Kind::Spread { events, group, .. } => {
+                let starts =
+                    |&event: &usize| groups[*group].iter().map(move |&time| sheet.s(event, time));
+                events.iter().flat_map(starts).collect()
+            }
+            Kind::Cluster {
+                resource, groups, ..
+            } => self.cluster(sheet, *resource, groups),
+            Kind::Idle {
+                resource, groups, ..
+            } => self.idle(sheet, *resource, groups),
+        };
+        self.counted(&list, constraint);
+    }
+
+    /// For each group whether the resource is used in it.
+    fn cluster(&mut self, sheet: &Sheet, resource: usize, groups: &[usize]) -> Vec<bool> {
+        let used = groups
+            .iter()
+            .map(|&group| sheet.x_in(resource, group).contains(&true));
+        let list: Vec<bool> = used.collect();
+        self.values.extend_from_slice(&list);
+        list
+    }
+
+    /// For each member of each group but its first and last whether it is idle.
+    fn idle(&mut self, sheet: &Sheet, resource: usize, groups: &[usize]) -> Vec<bool> {
+        let mut list = Vec::new();
+        for &group in groups {
+            let busy = sheet.x_in(resource, group);
+            for member in 1..busy.len().saturating_sub(1) {
+                let earlier = busy[..member].contains(&true);
+                let later = busy[member + 1..].contains(&true);
+                let idle = !busy[member] && earlier && later;
+                self.values.extend_from_slice(&[earlier, later, idle]);
+                list.push(idle);
+            }
+        }
+        list
     }
 
     /// c(i, j): the first i weights of true inputs sum to at least j.

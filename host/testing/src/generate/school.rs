@@ -3,121 +3,139 @@
 use super::random::Random;
 use crate::reference::{Constraint, Event, Instance, Kind, Range};
 
+const DAYS: usize = 5;
+const TIMES: usize = 8;
+
 /// A school of `events` lessons in a week of five days with eight times each.
 /// A lesson has a class, a teacher and mostly a room. Hard: no clashes, days
 /// off. Soft: free half days, short days, few days and few idle times for
 /// teachers, wanted times and few parts for lessons, lessons of a class spread
 /// over the days.
 pub fn school(random: &mut Random, events: usize) -> Instance {
-    const DAYS: usize = 5;
-    const TIMES: usize = 8;
-    let classes = (events / 16).clamp(1, 40);
-    let teachers = (events / 12).clamp(1, 40);
-    let rooms = (events / 20).clamp(1, 19);
+    let staff = Staff::for_lessons(events);
     let mut instance = Instance {
         times: DAYS * TIMES,
-        resources: classes + teachers + rooms,
-        events: Vec::new(),
-        groups: Vec::new(),
+        resources: staff.all(),
+        events: (0..events)
+            .map(|event| staff.lesson(random, event))
+            .collect(),
+        groups: week(),
         constraints: Vec::new(),
     };
-    for event in 0..events {
-        let mut resources = vec![event % classes, classes + random.below(teachers)];
-        if random.chance(80) {
-            resources.push(classes + teachers + random.below(rooms));
-        }
-        instance.events.push(Event {
-            duration: 1 + random.below(4),
-            resources,
-        });
+    let constraints = &mut instance.constraints;
+    for resource in 0..staff.all() {
+        add(constraints, 0, Kind::Clash { resource });
     }
-    for day in 0..DAYS {
-        instance
-            .groups
-            .push((day * TIMES..(day + 1) * TIMES).collect());
+    for teacher in staff.classes..staff.classes + staff.teachers {
+        teacher_wishes(constraints, random, teacher);
     }
-    for half in 0..2 * DAYS {
-        let first = half * TIMES / 2;
-        instance.groups.push((first..first + TIMES / 2).collect());
-    }
-    let days: Vec<usize> = (0..DAYS).collect();
-    let half_day = |random: &mut Random| DAYS + random.below(2 * DAYS);
-    let mut add = |weight, kind| instance.constraints.push(Constraint { weight, kind });
-    for resource in 0..classes + teachers + rooms {
-        add(0, Kind::Clash { resource });
-    }
-    for resource in classes..classes + teachers {
-        let group = random.below(DAYS);
-        add(
-            if random.chance(30) { 0 } else { 8 },
-            Kind::Unavailable { resource, group },
-        );
-        add(
-            5,
-            Kind::Unavailable {
-                resource,
-                group: half_day(random),
-            },
-        );
-        for group in 0..DAYS {
-            add(
-                2,
-                Kind::BusyLimit {
-                    resource,
-                    group,
-                    range: Range { lo: 2, hi: 6 },
-                },
-            );
-        }
-        let groups = days.clone();
-        add(
-            3,
-            Kind::Cluster {
-                resource,
-                groups,
-                range: Range { lo: 0, hi: 4 },
-            },
-        );
-        let groups = days.clone();
-        add(
-            1,
-            Kind::Idle {
-                resource,
-                groups,
-                range: Range { lo: 0, hi: 2 },
-            },
-        );
-    }
-    for class in 0..classes {
-        for group in 0..DAYS {
-            let events = (class..events).step_by(classes).take(12).collect();
-            add(
-                2,
-                Kind::Spread {
-                    events,
-                    group,
-                    range: Range { lo: 1, hi: 4 },
-                },
-            );
-        }
+    for class in 0..staff.classes {
+        class_wishes(constraints, class, events, staff.classes);
     }
     for event in 0..events {
-        add(
-            1,
-            Kind::Split {
-                event,
-                range: Range { lo: 1, hi: 2 },
-            },
-        );
-        if random.chance(50) {
-            add(
-                4,
-                Kind::PreferredTimes {
-                    event,
-                    group: random.below(3 * DAYS),
-                },
-            );
-        }
+        lesson_wishes(constraints, random, event);
     }
     instance
+}
+
+/// How many resources of each sort there are; classes come first, then
+/// teachers, then rooms.
+struct Staff {
+    classes: usize,
+    teachers: usize,
+    rooms: usize,
+}
+
+impl Staff {
+    fn for_lessons(events: usize) -> Staff {
+        Staff {
+            classes: (events / 16).clamp(1, 40),
+            teachers: (events / 12).clamp(1, 40),
+            rooms: (events / 20).clamp(1, 19),
+        }
+    }
+
+    fn all(&self) -> usize {
+        self.classes + self.teachers + self.rooms
+    }
+
+    fn lesson(&self, random: &mut Random, event: usize) -> Event {
+        let teacher = self.classes + random.below(self.teachers);
+        let mut resources = vec![event % self.classes, teacher];
+        if random.chance(80) {
+            resources.push(self.classes + self.teachers + random.below(self.rooms));
+        }
+        Event {
+            duration: 1 + random.below(4),
+            resources,
+        }
+    }
+}
+
+/// The days, then the half days.
+fn week() -> Vec<Vec<usize>> {
+    let days = (0..DAYS).map(|day| (day * TIMES..(day + 1) * TIMES).collect());
+    let halves = (0..2 * DAYS).map(|half| {
+        let first = half * TIMES / 2;
+        (first..first + TIMES / 2).collect()
+    });
+    days.chain(halves).collect()
+}
+
+fn add(constraints: &mut Vec<Constraint>, weight: u32, kind: Kind) {
+    constraints.push(Constraint { weight, kind });
+}
+
+/// A day off, hard or not, a free half day, short days, few days, few idle times.
+fn teacher_wishes(constraints: &mut Vec<Constraint>, random: &mut Random, resource: usize) {
+    let group = random.below(DAYS);
+    let weight = if random.chance(30) { 0 } else { 8 };
+    add(constraints, weight, Kind::Unavailable { resource, group });
+    let group = DAYS + random.below(2 * DAYS);
+    add(constraints, 5, Kind::Unavailable { resource, group });
+    for group in 0..DAYS {
+        let busy = Kind::BusyLimit {
+            resource,
+            group,
+            range: Range { lo: 2, hi: 6 },
+        };
+        add(constraints, 2, busy);
+    }
+    let cluster = Kind::Cluster {
+        resource,
+        groups: (0..DAYS).collect(),
+        range: Range { lo: 0, hi: 4 },
+    };
+    add(constraints, 3, cluster);
+    let idle = Kind::Idle {
+        resource,
+        groups: (0..DAYS).collect(),
+        range: Range { lo: 0, hi: 2 },
+    };
+    add(constraints, 1, idle);
+}
+
+/// Some lessons of a class on every day.
+fn class_wishes(constraints: &mut Vec<Constraint>, class: usize, events: usize, classes: usize) {
+    for group in 0..DAYS {
+        let spread = Kind::Spread {
+            events: (class..events).step_by(classes).take(12).collect(),
+            group,
+            range: Range { lo: 1, hi: 4 },
+        };
+        add(constraints, 2, spread);
+    }
+}
+
+/// Few parts, and for half of the lessons a wanted day or half day.
+fn lesson_wishes(constraints: &mut Vec<Constraint>, random: &mut Random, event: usize) {
+    let split = Kind::Split {
+        event,
+        range: Range { lo: 1, hi: 2 },
+    };
+    add(constraints, 1, split);
+    if random.chance(50) {
+        let group = random.below(3 * DAYS);
+        add(constraints, 4, Kind::PreferredTimes { event, group });
+    }
 }

@@ -1,6 +1,7 @@
 //! Why a call was refused, in words: what stands at the place that the refusal
 //! names. Nothing here decides an answer; the engine has given it before.
 
+mod clause;
 mod form;
 mod inputs;
 mod instance;
@@ -20,7 +21,7 @@ pub fn reasons(refusal: Refusal, inputs: &Inputs) -> Vec<String> {
         refusal::TOO_MANY_VARIABLES => variables(inputs),
         refusal::WRONG_LENGTH => Some(table::wrong_length(inputs)),
         refusal::NOT_A_TIMETABLE => table::broken_event(inputs, refusal.value),
-        refusal::CLAUSE_FALSE => clause(inputs, refusal.value),
+        refusal::CLAUSE_FALSE => false_clause(inputs, refusal.value),
         refusal::BAD_STEP..=refusal::BAD_END => step::reason(refusal, inputs),
         _ => None,
     };
@@ -43,7 +44,7 @@ fn variables(inputs: &Inputs) -> Option<String> {
 }
 
 /// What the hard clause `id` means, which a model makes false.
-fn clause(inputs: &Inputs, id: u64) -> Option<String> {
+fn false_clause(inputs: &Inputs, id: u64) -> Option<String> {
     let instance = read(inputs.instance).ok()?;
     Some(Outline::of(&instance).clause(id)?.says(&instance))
 }

@@ -188,14 +188,7 @@ impl<'a> Run<'a> {
         if hints.is_empty() {
             return Some("it has no hint".to_string());
         }
-        if self.variables > MOST_WRITTEN {
-            return None;
-        }
-        let formula = match inputs.bound {
-            Some(bound) => Formula::at_bound(inputs.instance, bound),
-            None => Formula::of(inputs.instance),
-        };
-        let formula = formula.ok()?;
+        let formula = self.formula(inputs)?;
         let mut assignment = Assignment::default();
         for code in literals {
             assignment.set(!Literal::from_code(code)?);
@@ -203,28 +196,28 @@ impl<'a> Run<'a> {
         let of = hints.len();
         for (place, &hint) in hints.iter().enumerate() {
             let clause = self.literals(&formula, hint)?;
-            let last = place + 1 == of;
             let state = assignment.state(&clause);
-            let broken = match (state, last) {
-                (State::Unit(literal), false) => {
-                    assignment.set(literal);
-                    continue;
-                }
-                (State::False, true) => return None,
-                (State::False, false) => "is false before the last hint".to_string(),
-                (State::True(literal), _) => {
-                    format!("is true already, by {}", literal.signed())
-                }
-                (State::Unit(_), true) => "has 1 open literal; the last must be false".to_string(),
-                (State::Open(open), true) => {
-                    format!("has {open} open literals; the last must be false")
-                }
-                (State::Open(open), false) => format!("has {open} open literals; 1 is wanted"),
-            };
-            let named = self.named(hint);
-            return Some(format!("hint {} of {of}, {named}, {broken}", place + 1));
+            if let Some(broken) = state.broken(place + 1 == of) {
+                let named = self.named(hint);
+                return Some(format!("hint {} of {of}, {named}, {broken}", place + 1));
+            }
+            if let State::Unit(literal) = state {
+                assignment.set(literal);
+            }
         }
         None
+    }
+
+    /// The formula, if it is not too large to be written out for some words.
+    fn formula(&self, inputs: &Inputs) -> Option<Formula> {
+        if self.variables > MOST_WRITTEN {
+            return None;
+        }
+        let formula = match inputs.bound {
+            Some(bound) => Formula::at_bound(inputs.instance, bound),
+            None => Formula::of(inputs.instance),
+        };
+        formula.ok()
     }
 
     /// The literals of a live clause.
@@ -263,6 +256,24 @@ enum State {
     Open(usize),
     /// By this literal.
     True(Literal),
+}
+
+impl State {
+    /// How a hint in this state, the last or another, breaks the rule.
+    fn broken(&self, last: bool) -> Option<String> {
+        match (self, last) {
+            (State::Unit(_), false) | (State::False, true) => None,
+            (State::False, false) => Some("is false before the last hint".to_string()),
+            (State::True(literal), _) => Some(format!("is true already, by {}", literal.signed())),
+            (State::Unit(_), true) => {
+                Some("has 1 open literal; the last must be false".to_string())
+            }
+            (State::Open(open), true) => {
+                Some(format!("has {open} open literals; the last must be false"))
+            }
+            (State::Open(open), false) => Some(format!("has {open} open literals; 1 is wanted")),
+        }
+    }
 }
 
 impl Assignment {

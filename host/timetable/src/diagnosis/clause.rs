@@ -1,0 +1,132 @@
+//! A clause of the formula in words.
+
+use super::outline::{Clause, Owner, Place, Purpose};
+use crate::instance::{Instance, Kind};
+
+impl Clause {
+    /// The clause in words: where it stands, and what is so where it is false.
+    pub fn says(&self, instance: &Instance) -> String {
+        format!("{}: {}", self.owner(instance), self.broken(instance))
+    }
+
+    /// Where the clause stands: its block with the event, resource or
+    /// constraint.
+    pub fn owner(&self, instance: &Instance) -> String {
+        match self.piece.owner {
+            Owner::Starts { event } => format!("block 1, event {}", event + 1),
+            Owner::Uses { resource } => format!("block 2, resource {}", resource + 1),
+            Owner::Duration { event } => format!("block 3, event {}", event + 1),
+            Owner::Constraint { index } => {
+                let kind = instance.constraints[index].kind.facts().name;
+                format!("block 4, constraint {}, kind {kind}", index + 1)
+            }
+        }
+    }
+
+    /// What is so where the clause is false.
+    fn broken(&self, instance: &Instance) -> String {
+        let wrong = |variable: String| format!("{variable} has a wrong value");
+        let counted = |time| format!("{}{}", self.counted(instance), at_time(time));
+        match self.piece.purpose {
+            Purpose::Start { time } => self.broken_start(time + 1),
+            Purpose::AnyOf { place, inputs } => self.broken_use(place, inputs),
+            Purpose::Idle { time, .. } => {
+                wrong(format!("a variable for the idle time {}", time + 1))
+            }
+            Purpose::Counter { time, columns, .. } => {
+                let (row, column) = cell(self.place, columns as u64);
+                let time = at_time(time);
+                wrong(format!("its counter{time}, in row {row}, column {column},"))
+            }
+            Purpose::Shortage { j } => {
+                wrong(format!("the variable for a count from 1 to {}", j - 1))
+            }
+            Purpose::AtLeast { time, lo } => format!("{} is below {lo}", counted(time)),
+            Purpose::AtMost { time, hi } => format!("{} is above {hi}", counted(time)),
+        }
+    }
+
+    fn broken_start(&self, time: usize) -> String {
+        match (self.place, time) {
+            (0, _) => format!("it starts at time {time} and does not take it"),
+            (_, 1) => "it takes time 1 and does not start there".to_string(),
+            _ => format!(
+                "it takes time {time}, not time {}, and does not start at {time}",
+                time - 1
+            ),
+        }
+    }
+
+    fn broken_use(&self, place: Place, inputs: usize) -> String {
+        let place = match place {
+            Place::Time(time) => format!("at time {}", time + 1),
+            Place::Group(group) => format!("in group {}", group + 1),
+        };
+        match self.place < inputs as u64 {
+            true => format!("the resource is used {place}, and its variable says it is not"),
+            false => format!("the resource is not used {place}, and its variable says it is"),
+        }
+    }
+
+    /// What the count of the piece counts.
+    fn counted(&self, instance: &Instance) -> &'static str {
+        let Owner::Constraint { index } = self.piece.owner else {
+            return "the number of its times";
+        };
+        match instance.constraints[index].kind {
+            Kind::Clash { .. } => "the number of the resource's events",
+            Kind::Unavailable { .. } | Kind::BusyLimit { .. } => {
+                "the number of the resource's times in the group"
+            }
+            Kind::PreferredTimes { .. } => "the number of the event's times outside the group",
+            Kind::Split { .. } => "the number of the event's starts",
+            Kind::Spread { .. } => "the number of the events' starts in the group",
+            Kind::Cluster { .. } => "the number of groups with the resource",
+            Kind::Idle { .. } => "the number of the resource's idle times",
+        }
+    }
+}
+
+fn at_time(time: Option<usize>) -> String {
+    time.map_or(String::new(), |time| format!(" at time {}", time + 1))
+}
+
+/// The row and column, from 1, of a clause of a counter with weights 1: two
+/// clauses to a cell of the first row; in the others three in the first column
+/// and four elsewhere.
+fn cell(place: u64, columns: u64) -> (u64, u64) {
+    if place < 2 * columns {
+        return (1, place / 2 + 1);
+    }
+    let place = place - 2 * columns;
+    let row = 4 * columns - 1;
+    (2 + place / row, (place % row + 1) / 4 + 1)
+}
+
+#[cfg(test)]
+mod tests {
+    use super::*;
+
+    #[test]
+    fn cells_follow_one_another() {
+        for (rows, columns) in [(1, 1), (1, 3), (2, 1), (3, 4), (5, 2)] {
+            let mut places = 0..;
+            for (row, column) in (1..=rows).flat_map(|row| (1..=columns).map(move |c| (row, c))) {
+                let clauses = match (row, column) {
+                    (1, _) => 2,
+                    (_, 1) => 3,
+                    _ => 4,
+                };
+                for place in places.by_ref().take(clauses) {
+                    assert_eq!(cell(place, columns), (row, column), "{rows} x {columns}");
+                }
+            }
+            let counter = Purpose::Counter {
+                time: None,
+                rows: rows as usize,
+                columns: columns as usize,
+            };
+            assert_eq!(places.next(), Some(counter.size().clauses));
+        }
+    }
+}
