@@ -5,7 +5,9 @@ mod support;
 
 use std::fs;
 use std::process::Command;
-use support::{file, folder, hex, host, oversized, program, run, school, schools, Run, FILE_A};
+use support::{
+    file, folder, hex, oversized, program, repository, run, school, schools, Run, FILE_A,
+};
 
 /// The text of file A.
 const TEXT_A: &str = "\
@@ -130,7 +132,7 @@ fn check_says_no_timetable_for_a_refutation() {
 /// The script that README.md names.
 #[test]
 fn the_five_days_end_with_a_price_that_no_timetable_undercuts() {
-    let script = host().join("five-days");
+    let script = repository().join("week");
     let output = Command::new(script)
         .env("TIMETABLE", program())
         .output()
