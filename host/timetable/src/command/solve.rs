@@ -94,21 +94,28 @@ fn options(given: &Given) -> Result<Options, Fault> {
         })?,
         None => Program::installed(),
     };
-    let instance = &given.file("INSTANCE").name;
     let folder = match given.path_if(OUT) {
+        Some(folder) if files::is_standard(folder.as_os_str()) => {
+            let message = "the option '--out' wants a folder, not standard output";
+            return Err(Fault::Usage(message.to_string()));
+        }
         Some(folder) => folder.to_path_buf(),
-        None => PathBuf::from(
-            Path::new(instance)
-                .file_stem()
-                .unwrap_or(OsStr::new("instance")),
-        )
-        .with_extension("week"),
+        None => own_folder(&given.file("INSTANCE").name),
     };
     Ok(Options {
         folder,
         time: Duration::from_secs(given.number_if("time").unwrap_or(SECONDS)),
         programs,
     })
+}
+
+/// The folder of an instance that none was given for: its name, without what
+/// stands behind the last dot, with `.week`.
+fn own_folder(instance: &str) -> PathBuf {
+    let stem = Path::new(instance).file_stem();
+    let mut name = stem.unwrap_or(OsStr::new("instance")).to_os_string();
+    name.push(".week");
+    PathBuf::from(name)
 }
 
 /// Lets a second process of this program do the work, and waits for it.
