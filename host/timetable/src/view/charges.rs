@@ -1,7 +1,8 @@
 //! What each constraint charges a timetable, and where it is broken.
 
 use super::sheet::Sheet;
-use crate::instance::{Instance, Kind};
+use crate::instance::{Constraint, Instance, Kind};
+use std::collections::HashSet;
 
 /// What one constraint charges.
 #[derive(Clone, Debug, PartialEq, Eq)]
@@ -9,18 +10,19 @@ pub struct Charge {
     /// The constraint's weight; 0 means hard.
     pub weight: u32,
     pub deviation: u64,
-    /// Where it is broken; empty if it is kept, or if what is missing has no place.
+    /// Where it is broken, each place once; empty if it is kept, or if what is
+    /// missing has no place.
     pub places: Vec<Place>,
 }
 
 /// A place in a grid: a resource or a lesson at a time.
-#[derive(Clone, Copy, Debug, PartialEq, Eq)]
+#[derive(Clone, Copy, Debug, PartialEq, Eq, Hash)]
 pub struct Place {
     pub subject: Subject,
     pub time: usize,
 }
 
-#[derive(Clone, Copy, Debug, PartialEq, Eq)]
+#[derive(Clone, Copy, Debug, PartialEq, Eq, Hash)]
 pub enum Subject {
     Resource(usize),
     Event(usize),
@@ -60,12 +62,16 @@ impl Totals {
 /// What each constraint of `instance` charges, in the order of the file.
 pub fn charges(instance: &Instance, sheet: &Sheet) -> Vec<Charge> {
     let usage = Usage::of(instance, sheet);
-    let charge = |constraint: &crate::instance::Constraint| {
+    let charge = |constraint: &Constraint| {
         let (deviation, places) = usage.deviation(&constraint.kind);
         Charge {
             weight: constraint.weight,
             deviation,
-            places: if deviation > 0 { places } else { Vec::new() },
+            places: if deviation > 0 {
+                once(places)
+            } else {
+                Vec::new()
+            },
         }
     };
     instance.constraints.iter().map(charge).collect()
@@ -197,6 +203,15 @@ impl<'a> Usage<'a> {
             }
         }
     }
+}
+
+/// Each place once, in the order in which they come up.
+fn once(places: Vec<Place>) -> Vec<Place> {
+    let mut seen = HashSet::new();
+    places
+        .into_iter()
+        .filter(|&place| seen.insert(place))
+        .collect()
 }
 
 fn at(subject: Subject, times: impl Iterator<Item = usize>) -> Vec<Place> {

@@ -138,11 +138,8 @@ fn cell(
     goes_on: bool,
 ) -> Cell {
     let marks_on = |subject: Subject| -> Vec<Mark> {
-        let place = Place { subject, time };
-        let broken = view
-            .broken()
-            .filter(|(_, charge)| charge.places.contains(&place));
-        let mark = |(constraint, _)| Mark {
+        let broken = view.broken_at(Place { subject, time }).iter();
+        let mark = |&constraint| Mark {
             constraint,
             first: false,
         };
@@ -175,17 +172,18 @@ impl Cell {
     }
 }
 
-/// Whether a constraint speaks of the resource or of one of the lessons.
+/// Whether a constraint speaks of the resource or of one of the lessons, which
+/// ascend.
 fn concerns(kind: &Kind, resource: Option<usize>, lessons: &[usize]) -> bool {
     let mut fields = kind.facts().fields.iter().zip(kind.values());
     fields.any(|(field, value)| {
-        let named: &[usize] = match &value {
+        let named = match &value {
             Value::One(one) => std::slice::from_ref(one),
             Value::Many(many) => many,
         };
         match field.sort.thing() {
             Some(Thing::Resource) => named.iter().any(|&one| Some(one) == resource),
-            Some(Thing::Event) => named.iter().any(|one| lessons.contains(one)),
+            Some(Thing::Event) => named.iter().any(|one| lessons.binary_search(one).is_ok()),
             _ => false,
         }
     })
