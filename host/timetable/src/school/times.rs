@@ -84,11 +84,10 @@ impl TimeIndex {
             let period = word.text.strip_prefix(EVERY_DAY).filter(|_| !word.quoted);
             let period = period.and_then(|period| self.periods.get(period));
             let members = self.days.get(&word.text).or(period);
-            let known = self.times.keys().chain(self.days.keys());
-            let message = || missing("time, day or period", &word.text, known);
+            let message = format!("there is no time, day or period '{}'", word.text);
             return members
                 .cloned()
-                .ok_or_else(|| TextFault::at(place, message()));
+                .ok_or_else(|| TextFault::at(place, message));
         };
         if !cursor.passes("to") {
             return Ok(vec![first]);
