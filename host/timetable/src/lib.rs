@@ -3,6 +3,7 @@
 #[cfg(feature = "engine")]
 pub mod command;
 pub mod engine;
+pub mod import;
 pub mod instance;
 pub mod number;
 pub mod proof;

@@ -1,6 +1,6 @@
 //! `timetable compile`: the instance file of a school's text.
 
-use super::frame::answer::Answer;
+use super::frame::answer::{Answer, Fault};
 use super::frame::declare::{CommandOption, Count, Operand, Subcommand, Value};
 use super::frame::files::is_standard;
 use super::frame::given::Given;
@@ -8,7 +8,7 @@ use super::frame::operands::{out, JSON, OUT};
 use super::names::{self, MOST_TEXT_BYTES};
 use super::read;
 use crate::instance::write;
-use crate::school::{parse, write_names};
+use crate::school::{parse, write_names, School};
 use std::path::PathBuf;
 
 const TEXT: Operand = Operand {
@@ -18,7 +18,7 @@ const TEXT: Operand = Operand {
     count: Count::One,
 };
 
-const NAMES: CommandOption = CommandOption {
+pub const NAMES: CommandOption = CommandOption {
     long: "names",
     short: None,
     value: Some(("NAMES", Value::Path)),
@@ -39,23 +39,27 @@ pub const SUBCOMMAND: Subcommand = Subcommand {
         let file = given.file("TEXT");
         let text = names::text(file)?;
         let school = parse(text).map_err(|fault| names::rejected(file, text, &fault))?;
-        let bytes = write(&school.instance);
-        let report = read::report(&bytes)?;
-        let names = write_names(&school.names, &bytes).into_bytes();
-        let files = names_path(given).map(|path| (path, names));
-        Ok(match given.path_if(OUT) {
-            Some(_) => Answer {
-                product: Some(bytes),
-                files: files.into_iter().collect(),
-                ..report
-            },
-            None => Answer {
-                files: files.into_iter().collect(),
-                ..Answer::product(bytes)
-            },
-        })
+        written(given, &school, &[])
     },
 };
+
+/// The instance file of `school` as the product, with its names beside it; `further`
+/// numbers are told after those of the file.
+pub fn written(given: &Given, school: &School, further: &[(&str, u64)]) -> Result<Answer, Fault> {
+    let bytes = write(&school.instance);
+    let numbers = [&read::counts(&bytes)?[..], further].concat();
+    let names = write_names(&school.names, &bytes).into_bytes();
+    let files = names_path(given).map(|path| (path, names));
+    let answer = match given.path_if(OUT) {
+        Some(_) => Answer::report(Some(read::ACCEPTED), &numbers),
+        None => Answer::default(),
+    };
+    Ok(Answer {
+        product: Some(bytes),
+        files: files.into_iter().collect(),
+        ..answer
+    })
+}
 
 /// Where the names go, if anywhere.
 fn names_path(given: &Given) -> Option<PathBuf> {

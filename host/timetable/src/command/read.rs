@@ -19,15 +19,20 @@ pub const SUBCOMMAND: Subcommand = Subcommand {
 
 /// What is said of an instance file that the engine accepts.
 pub fn report(file: &[u8]) -> Result<Answer, Fault> {
+    Ok(Answer::report(Some(ACCEPTED), &counts(file)?))
+}
+
+/// The verdict on an instance file that the engine accepts.
+pub const ACCEPTED: &str = "accepted";
+
+/// How much an instance file holds.
+pub fn counts(file: &[u8]) -> Result<[(&'static str, u64); 5], Fault> {
     let found = engine::read(file)?;
-    Ok(Answer::report(
-        Some("accepted"),
-        &[
-            ("times", found.times as u64),
-            ("events", found.events as u64),
-            ("resources", found.resources as u64),
-            ("groups", found.groups as u64),
-            ("constraints", found.constraints as u64),
-        ],
-    ))
+    Ok([
+        ("times", found.times as u64),
+        ("events", found.events as u64),
+        ("resources", found.resources as u64),
+        ("groups", found.groups as u64),
+        ("constraints", found.constraints as u64),
+    ])
 }

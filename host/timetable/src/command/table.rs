@@ -2,12 +2,14 @@
 
 use super::frame::declare::Subcommand;
 use super::{
-    check, compile, completion, decode, diff, dimacs, explain, help, man, model, read, same, score,
-    show, sizes, solve, steps, text,
+    check, compile, completion, decode, diff, dimacs, explain, export, help, import, man, model,
+    read, same, score, show, sizes, solve, steps, text,
 };
 
 pub const SUBCOMMANDS: &[&Subcommand] = &[
     &compile::SUBCOMMAND,
+    &import::SUBCOMMAND,
+    &export::SUBCOMMAND,
     &explain::SUBCOMMAND,
     &read::SUBCOMMAND,
     &sizes::SUBCOMMAND,

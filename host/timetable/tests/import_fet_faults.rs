@@ -1,0 +1,94 @@
+//! What the import of a FET file says of items that it does not carry, and of damage.
+#![cfg(feature = "engine")]
+
+mod import;
+
+use import::*;
+use timetable::import::{fet, xml};
+
+#[test]
+fn what_is_lost_is_named_with_its_line() {
+    let order =
+        "<First_Activity_Id>1</First_Activity_Id><Second_Activity_Id>2</Second_Activity_Id>";
+    let rules = rule("TwoActivitiesOrdered", "100", order)
+        + &rule("TwoActivitiesConsecutive", "100", order)
+        + &rule(
+            "TeacherMaxDaysPerWeek",
+            "0",
+            "<Teacher_Name>Nobody</Teacher_Name>",
+        );
+    let imported = import(&school(&rules, "")).unwrap();
+    let told: Vec<String> = imported
+        .remarks
+        .iter()
+        .map(|remark| remark.to_string())
+        .collect();
+    assert_eq!(
+        told,
+        [
+            "44: dropped: ConstraintTwoActivitiesOrdered (1, 2): the engine has no counterpart for it",
+            "45: weakened: ConstraintTwoActivitiesConsecutive (1, 2): which of the two comes first \
+             is not carried",
+        ]
+    );
+}
+
+#[test]
+fn faults_are_told_with_their_line() {
+    let nobody = "<Teacher_Name>Nobody</Teacher_Name><Max_Gaps>0</Max_Gaps>";
+    let cases = [
+        (
+            rule("TeacherMaxGapsPerWeek", "100", nobody),
+            "44: there is no teacher 'Nobody'",
+        ),
+        (
+            rule("MinDaysBetweenActivities", "100", &ids(&[9])),
+            "44: 'no number",
+        ),
+        (
+            rule("ActivitiesSameStartingDay", "100", &ids(&[9])),
+            "44: there is no activity '9'",
+        ),
+        (
+            rule("ActivitiesSameStartingDay", "101", &ids(&[1])),
+            "44: '101' is no weight percentage",
+        ),
+        (
+            rule("BreakTimes", "100", &times("Break_Time", "", &[("Su", 1)])),
+            "44: there is no day 'Su'",
+        ),
+    ];
+    for (rules, told) in cases {
+        let fault = import(&school(&rules, ""))
+            .err()
+            .map(|fault| fault.to_string());
+        let fault = fault.unwrap_or_default();
+        let expected = told.replace("'no number", "'' is no number for MinDays");
+        assert!(fault.starts_with(&expected), "{fault}");
+    }
+    let halves = WEEK.replace("Official", "Mornings_Afternoons");
+    assert!(import(&halves)
+        .err()
+        .is_some_and(|fault| fault.message.contains("official mode")));
+    let many = "<Hour><Name>x</Name></Hour>".repeat(60);
+    let many = WEEK.replace("<Hour><Name>3</Name></Hour>", &many);
+    assert!(import(&many)
+        .err()
+        .is_some_and(|fault| fault.message == "186 times, 125 are the most"));
+}
+
+#[test]
+fn no_damage_panics() {
+    let text = school(&rule("ActivitiesSameStartingDay", "95", &ids(&[1, 2])), "");
+    let bytes = text.as_bytes();
+    for cut in (0..bytes.len()).step_by(7) {
+        let _ = xml::read(&bytes[..cut]);
+        for byte in [b'<', b'9', b'0', b'&', 0xff] {
+            let mut damaged = bytes.to_vec();
+            damaged[cut] = byte;
+            if let Ok(root) = xml::read(&damaged) {
+                let _ = fet::import(&root, 10);
+            }
+        }
+    }
+}

@@ -1,0 +1,384 @@
+//! What the import makes of a constraint in XHSTT, against its definition: a small archive
+//! under one constraint after another, each of its timetables priced by the engine and by
+//! the format's formulas.
+#![cfg(feature = "engine")]
+
+use timetable::engine;
+use timetable::import::{xhstt, xml, Fate, Fault, Imported};
+use timetable::instance;
+
+const WEEK: &str = include_str!("import/week.xml");
+const TIMES: usize = 6;
+const DAYS: [std::ops::Range<usize>; 2] = [0..3, 3..6];
+const DURATIONS: [usize; 3] = [1, 2, 1];
+/// The events of each, from 0.
+const ADA: &[usize] = &[0, 2];
+const CLASS_A: &[usize] = &[0, 1];
+
+/// The parts of each event: where each starts and how long it lasts.
+type Table = [Vec<(usize, usize)>; 3];
+type Deviation = fn(&Table) -> usize;
+
+fn archive(constraints: &str) -> String {
+    WEEK.replace("<!-- constraints -->", constraints)
+}
+
+fn import(text: &str) -> Result<Imported, Fault> {
+    xhstt::import(&xml::read(text.as_bytes())?, None)
+}
+
+/// A constraint that applies to what `applies` names.
+fn constraint(name: &str, required: bool, cost: &str, applies: &str, fields: &str) -> String {
+    format!(
+        "<{name} Id=\"x\"><Name>x</Name><Required>{required}</Required><Weight>7</Weight>\
+         <CostFunction>{cost}</CostFunction><AppliesTo>{applies}</AppliesTo>{fields}</{name}>"
+    )
+}
+
+const EVENTS: &str = "<EventGroups><EventGroup Reference=\"AllEvents\"/></EventGroups>";
+const SINGLES: &str = "<EventGroups><EventGroup Reference=\"Singles\"/></EventGroups>";
+const TEACHER: &str = "<Resources><Resource Reference=\"T1\"/></Resources>";
+const CLASSES: &str = "<ResourceGroups><ResourceGroup Reference=\"Classes\"/></ResourceGroups>";
+const DAY_GROUPS: &str =
+    "<TimeGroups><TimeGroup Reference=\"Mo\"/><TimeGroup Reference=\"Tu\"/></TimeGroups>";
+
+fn range(least: usize, most: usize) -> String {
+    format!("<Minimum>{least}</Minimum><Maximum>{most}</Maximum>")
+}
+
+/// Every way to place an event.
+fn ways(duration: usize) -> Vec<Vec<(usize, usize)>> {
+    if duration == 1 {
+        return (0..TIMES).map(|time| vec![(time, 1)]).collect();
+    }
+    let mut ways: Vec<_> = (0..TIMES - 1).map(|time| vec![(time, 2)]).collect();
+    for first in 0..TIMES {
+        ways.extend((first + 1..TIMES).map(|second| vec![(first, 1), (second, 1)]));
+    }
+    ways
+}
+
+fn tables() -> Vec<Table> {
+    let [one, two, three] = DURATIONS.map(ways);
+    let mut all = Vec::new();
+    for a in &one {
+        for b in &two {
+            all.extend(three.iter().map(|c| [a.clone(), b.clone(), c.clone()]));
+        }
+    }
+    all
+}
+
+fn timetable(table: &Table) -> Vec<u8> {
+    let mut taken = vec![0; table.len() * TIMES];
+    let mut begun = taken.clone();
+    for (event, parts) in table.iter().enumerate() {
+        for &(start, duration) in parts {
+            begun[event * TIMES + start] = 1;
+            taken[event * TIMES + start..][..duration].fill(1);
+        }
+    }
+    [taken, begun].concat()
+}
+
+/// How many of the events take place at a time.
+fn on_at(table: &Table, events: &[usize], time: usize) -> usize {
+    let on = |&&event: &&usize| {
+        let mut parts = table[event].iter();
+        parts.any(|&(start, duration)| (start..start + duration).contains(&time))
+    };
+    events.iter().filter(on).count()
+}
+
+fn busy(table: &Table, events: &[usize], times: std::ops::Range<usize>) -> Vec<usize> {
+    times
+        .filter(|&time| on_at(table, events, time) > 0)
+        .collect()
+}
+
+fn outside(count: usize, least: usize, most: usize) -> usize {
+    least.saturating_sub(count) + count.saturating_sub(most)
+}
+
+fn starts(table: &Table, events: &[usize], times: std::ops::Range<usize>) -> usize {
+    let parts = events.iter().flat_map(|&event| &table[event]);
+    parts.filter(|(start, _)| times.contains(start)).count()
+}
+
+/// Judges a constraint as required and as a linear wish: its deviation, priced.
+fn judge(name: &str, applies: &str, fields: &str, deviation: Deviation) {
+    for required in [true, false] {
+        let text = archive(&constraint(name, required, "Linear", applies, fields));
+        let imported = import(&text).unwrap_or_else(|fault| panic!("{fault}\n{text}"));
+        assert!(imported.remarks.is_empty(), "{:?}", imported.remarks);
+        let bytes = instance::write(&imported.school.instance);
+        let mut seen = [false; 2];
+        for table in tables() {
+            let score = engine::score(&bytes, &timetable(&table)).expect("a timetable");
+            let expected = deviation(&table);
+            let said = match required {
+                true => (score.infeasibility.0 > 0) == (expected > 0) && score.objective.0 == 0,
+                // The only weight is reduced to 1.
+                false => score.objective.0 == expected as u64 && score.infeasibility.0 == 0,
+            };
+            assert!(said, "{table:?} {expected} {score:?}\n{text}");
+            seen[usize::from(expected > 0)] = true;
+        }
+        assert_eq!(seen, [true, true], "always kept, or never\n{text}");
+    }
+}
+
+#[test]
+fn an_archive_without_further_constraints_is_carried_whole() {
+    let imported = import(WEEK).unwrap();
+    let school = imported.school;
+    let counts = school.instance.counts();
+    assert_eq!((counts.times, counts.events, counts.resources), (6, 3, 3));
+    assert_eq!(school.names.days[1].name.as_deref(), Some("Tuesday"));
+    assert_eq!((imported.carried, imported.remarks.len()), (1, 0));
+}
+
+#[test]
+fn constraints_on_events() {
+    let amounts = |least: usize, most: usize| {
+        format!(
+            "<MinimumDuration>1</MinimumDuration><MaximumDuration>2</MaximumDuration>\
+             <MinimumAmount>{least}</MinimumAmount><MaximumAmount>{most}</MaximumAmount>"
+        )
+    };
+    judge("SplitEventsConstraint", EVENTS, &amounts(1, 1), |table| {
+        table.iter().map(|parts| outside(parts.len(), 1, 1)).sum()
+    });
+    let long = "<Events><Event Reference=\"E2\"/></Events>";
+    judge("SplitEventsConstraint", long, &amounts(2, 2), |table| {
+        outside(table[1].len(), 2, 2)
+    });
+    let early = "<TimeGroups><TimeGroup Reference=\"Early\"/></TimeGroups>\
+                 <Times><Time Reference=\"Mo3\"/></Times>";
+    judge("PreferTimesConstraint", SINGLES, early, |table| {
+        let late = |event: &&usize| ![0, 2, 3].contains(&table[**event][0].0);
+        ADA.iter().filter(late).count()
+    });
+    let each = |id: &str, least, most| {
+        format!(
+            "<TimeGroup Reference=\"{id}\">{}</TimeGroup>",
+            range(least, most)
+        )
+    };
+    let groups = format!(
+        "<TimeGroups>{}{}</TimeGroups>",
+        each("Mo", 0, 1),
+        each("Tu", 2, 3)
+    );
+    judge("SpreadEventsConstraint", EVENTS, &groups, |table| {
+        outside(starts(table, &[0, 1, 2], 0..3), 0, 1)
+            + outside(starts(table, &[0, 1, 2], 3..6), 2, 3)
+    });
+}
+
+#[test]
+fn constraints_on_resources() {
+    judge("AvoidClashesConstraint", CLASSES, "", |table| {
+        (0..TIMES)
+            .map(|time| on_at(table, CLASS_A, time).saturating_sub(1))
+            .sum()
+    });
+    let times = "<TimeGroups><TimeGroup Reference=\"Early\"/></TimeGroups>";
+    judge("AvoidUnavailableTimesConstraint", TEACHER, times, |table| {
+        [0, 3]
+            .iter()
+            .filter(|&&time| on_at(table, ADA, time) > 0)
+            .count()
+    });
+    let idle = format!("{DAY_GROUPS}{}", range(0, 0));
+    judge("LimitIdleTimesConstraint", TEACHER, &idle, |table| {
+        let gaps = |day: std::ops::Range<usize>| match busy(table, ADA, day)[..] {
+            [first, .., last] => last - first - 1,
+            _ => 0,
+        };
+        DAYS.map(gaps).iter().sum()
+    });
+    let days = format!("{DAY_GROUPS}{}", range(0, 1));
+    judge("ClusterBusyTimesConstraint", CLASSES, &days, |table| {
+        let days = DAYS.map(|day| usize::from(!busy(table, CLASS_A, day).is_empty()));
+        outside(days.iter().sum(), 0, 1)
+    });
+    let hours = format!("{DAY_GROUPS}{}", range(2, 2));
+    judge(
+        "LimitBusyTimesConstraint",
+        "<Resources><Resource Reference=\"C1\"/></Resources>",
+        &hours,
+        |table| {
+            let charged = |day: std::ops::Range<usize>| match busy(table, CLASS_A, day).len() {
+                0 => 0,
+                count => outside(count, 2, 2),
+            };
+            DAYS.map(charged).iter().sum()
+        },
+    );
+}
+
+/// As a rule, events of one length are together; as a wish that is weakened.
+#[test]
+fn linked_events() {
+    let link = |required| constraint("LinkEventsConstraint", required, "Linear", SINGLES, "");
+    let imported = import(&archive(&link(true))).unwrap();
+    assert!(imported.remarks.is_empty());
+    let bytes = instance::write(&imported.school.instance);
+    for table in tables() {
+        let score = engine::score(&bytes, &timetable(&table)).expect("a timetable");
+        assert_eq!(score.infeasibility.0 == 0, table[0] == table[2]);
+    }
+    assert_eq!(
+        import(&archive(&link(false)))
+            .unwrap()
+            .count(Fate::Weakened),
+        1
+    );
+}
+
+#[test]
+fn a_preassigned_time_is_kept() {
+    let fixed = WEEK.replace(
+        "<Duration>2</Duration>",
+        "<Duration>2</Duration><Time Reference=\"Mo2\"/>",
+    );
+    let imported = import(&fixed).unwrap();
+    let bytes = instance::write(&imported.school.instance);
+    for table in tables() {
+        let score = engine::score(&bytes, &timetable(&table)).expect("a timetable");
+        assert_eq!(score.infeasibility.0 == 0, table[1] == [(1, 2)]);
+    }
+}
+
+#[test]
+fn what_is_not_carried_is_told() {
+    let fates = |text: &str| {
+        let imported = import(&archive(text)).unwrap();
+        (
+            imported.count(Fate::Weakened),
+            imported.count(Fate::Dropped),
+        )
+    };
+    let clash = |cost| constraint("AvoidClashesConstraint", false, cost, CLASSES, "");
+    assert_eq!(fates(&clash("Linear")), (0, 0));
+    assert_eq!(fates(&clash("Quadratic")), (1, 0));
+    assert_eq!(fates(&clash("Step")), (0, 1), "linear would cost more");
+    let order = constraint("OrderEventsConstraint", true, "Linear", "", "");
+    assert_eq!(fates(&order), (0, 1));
+    let early = "<TimeGroups><TimeGroup Reference=\"Early\"/></TimeGroups>";
+    let soft = constraint("PreferTimesConstraint", false, "Linear", EVENTS, early);
+    assert_eq!(fates(&soft), (1, 0), "a part costs its length");
+    let open = WEEK.replace(
+        "<!-- open -->",
+        "<Resource><Role>Room</Role><ResourceType Reference=\"Room\"/></Resource>",
+    );
+    let told: Vec<String> = import(&open)
+        .unwrap()
+        .remarks
+        .iter()
+        .map(ToString::to_string)
+        .collect();
+    assert_eq!(
+        told,
+        ["45: dropped: Event 'E3': a resource is left to choose"]
+    );
+}
+
+#[test]
+fn faults_are_told_with_their_line() {
+    let cases = [
+        (
+            WEEK.replace("<Required>true", "<Required>false"),
+            "39: no required AssignTimeConstraint places event 'E1'; the engine places every event",
+        ),
+        (
+            WEEK.replace("<Day Reference=\"Tu\"/>", "<Day Reference=\"We\"/>"),
+            "16: there is no group 'We'",
+        ),
+        (
+            WEEK.replace("<Duration>2", "<Duration>7"),
+            "42: a duration of 7",
+        ),
+        (WEEK.replace("Id=\"E3\"", "Id=\"E1\""), "45: a second 'E1'"),
+        (
+            WEEK.replace("<Weight>1<", "<Weight>1001<"),
+            "50: a weight of 1001",
+        ),
+    ];
+    for (text, told) in cases {
+        assert_eq!(
+            import(&text)
+                .err()
+                .map(|fault| fault.to_string())
+                .as_deref(),
+            Some(told)
+        );
+    }
+    let root = xml::read(WEEK.as_bytes()).unwrap();
+    assert!(xhstt::import(&root, Some("Other")).is_err());
+    assert!(xhstt::import(&root, Some("Week")).is_ok());
+}
+
+#[test]
+fn a_timetable_is_written_back() {
+    let table: Table = [vec![(0, 1)], vec![(1, 1), (2, 1)], vec![(5, 1)]];
+    let once = xhstt::with_solution(WEEK.as_bytes(), None, &timetable(&table), "cost < 1").unwrap();
+    let twice = xhstt::with_solution(once.as_bytes(), None, &timetable(&table), "again").unwrap();
+    let root = xml::read(twice.as_bytes()).unwrap();
+    let groups = &root.child("SolutionGroups").unwrap().children;
+    let ids: Vec<_> = groups
+        .iter()
+        .map(|group| group.attribute("Id").unwrap())
+        .collect();
+    assert_eq!(ids, ["Timetable1", "Timetable2"]);
+    let solution = groups[0].child("Solution").unwrap();
+    assert_eq!(solution.attribute("Reference"), Some("Week"));
+    let events = &solution.child("Events").unwrap().children;
+    let parts: Vec<_> = events
+        .iter()
+        .map(|event| {
+            let time = event
+                .child("Time")
+                .and_then(|time| time.attribute("Reference"));
+            (
+                event.attribute("Reference").unwrap(),
+                event.field("Duration"),
+                time.unwrap(),
+            )
+        })
+        .collect();
+    assert_eq!(
+        parts,
+        [
+            ("E1", "1", "Mo1"),
+            ("E2", "1", "Mo2"),
+            ("E2", "1", "Mo3"),
+            ("E3", "1", "Tu3")
+        ]
+    );
+    assert!(import(&twice).is_ok());
+    assert!(xhstt::with_solution(WEEK.as_bytes(), None, &[0; 7], "").is_err());
+}
+
+#[test]
+fn no_damage_panics() {
+    let text = archive(&constraint(
+        "AvoidClashesConstraint",
+        false,
+        "Linear",
+        CLASSES,
+        "",
+    ));
+    let bytes = text.as_bytes();
+    for cut in (0..bytes.len()).step_by(7) {
+        let _ = xml::read(&bytes[..cut]);
+        for byte in [b'<', b'9', b'0', b'&', 0xff] {
+            let mut damaged = bytes.to_vec();
+            damaged[cut] = byte;
+            if let Ok(root) = xml::read(&damaged) {
+                let _ = xhstt::import(&root, None);
+            }
+        }
+    }
+}
