@@ -2,6 +2,7 @@
 //! HTML page or as CSV, and what each constraint charges.
 
 mod charges;
+mod counts;
 mod csv;
 mod diff;
 mod grid;
