@@ -12,6 +12,7 @@ mod context;
 mod item;
 mod lessons;
 mod people;
+mod placed;
 mod placing;
 mod rooms;
 mod school;
@@ -33,11 +34,9 @@ use std::collections::HashMap;
 
 /// Imports the school of a FET file; a soft weight is so many of `scale` parts.
 pub fn import(root: &Element, scale: u32) -> Result<Imported, Fault> {
-    official(root)?;
-    let school = School::read(root)?;
-    let time_items = Item::all(root.child("Time_Constraints_List"))?;
+    let (school, lessons) = lessons(root)?;
+    let time_items = Item::all(root.child(TIME_ITEMS))?;
     let space_items = Item::all(root.child("Space_Constraints_List"))?;
-    let lessons = Lessons::of(&school, &starting_together(&school, &time_items)?);
     let mut draft = Draft::default();
     let mut context =
         people(&school, &lessons, &mut draft).map_err(|message| Fault::at(root, message))?;
@@ -56,6 +55,24 @@ pub fn import(root: &Element, scale: u32) -> Result<Imported, Fault> {
         write(&mut writer, &context, item, reading, scale);
     }
     Ok(writer.finish())
+}
+
+const TIME_ITEMS: &str = "Time_Constraints_List";
+
+/// The lists of a FET file, and the events of its activities.
+fn lessons(root: &Element) -> Result<(School, Lessons), Fault> {
+    official(root)?;
+    let school = School::read(root)?;
+    let items = Item::all(root.child(TIME_ITEMS))?;
+    let together = starting_together(&school, &items)?;
+    let lessons = Lessons::of(&school, &together);
+    Ok((school, lessons))
+}
+
+/// The timetable that FET made of the school, from its list of placed activities.
+pub fn timetable(root: &Element, placed: &Element) -> Result<Vec<u8>, Fault> {
+    let (school, lessons) = lessons(root)?;
+    placed::timetable(&school, &lessons, placed)
 }
 
 /// What an item comes to, or why it comes to nothing.
