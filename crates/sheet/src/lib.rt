@@ -1,6 +1,5 @@
 // Scoring a timetable, and whether two timetables are the same sheet.
 mod operations;
-mod same;
 
 pub use operations::same_sheet;
 pub use operations::score;

@@ -1,7 +1,7 @@
--- `sheet::operations::refusal_of_verdict` meets its contract. By the case.
+-- `verdict::judged::refusal_of_verdict` meets its contract. By the case.
 use borrow.Author.Needs.{needs}
-use Rattle.sheet.proofs.operations.refusal_of_verdict.Statement.{statement}
-use Rattle.sheet.proofs.operations.refusal_of_verdict.Tie as tie
+use Rattle.verdict.proofs.judged.refusal_of_verdict.Statement.{statement}
+use Rattle.verdict.proofs.judged.refusal_of_verdict.Tie as tie
 
 enum-told : tie.Need-enum-told
 enum-told c = search needs

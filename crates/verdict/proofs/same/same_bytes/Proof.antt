@@ -1,12 +1,12 @@
--- `sheet::same::same_bytes` meets its contract. The bytes before i agree, and what is left decides.
+-- `verdict::same::same_bytes` meets its contract. The bytes before i agree, and what is left decides.
 use Prim.Native.Nat.{_-_, _≤_}
 use mathlib.Core.Path.{_≡_}
 use borrow.Author.Needs.{needs}
 use lib.ListN.{length, drop}
 use Rattle.scope.specs.Operations.{sameBytes}
-use Rattle.sheet.specs.Same.{comparing}
-use Rattle.sheet.proofs.same.same_bytes.Statement.{statement}
-use Rattle.sheet.proofs.same.same_bytes.Tie as tie
+use Rattle.verdict.specs.Same.{comparing}
+use Rattle.verdict.proofs.same.same_bytes.Statement.{statement}
+use Rattle.verdict.proofs.same.same_bytes.Tie as tie
 
 abbrev Inv-loop : tie.InvT-loop
 Inv-loop first second i₀ i = (i ≤ length first) × (sameBytes first second ≡ sameBytes (drop i first) (drop i second))

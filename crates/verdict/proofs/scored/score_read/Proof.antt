@@ -1,9 +1,9 @@
--- `sheet::operations::score_read` meets its contract. The verdict first, then the score.
-use Rattle.sheet.specs.Answers.{timetable-long, score-refused, score-scored}
+-- `verdict::scored::score_read` meets its contract. The verdict first, then the score.
+use Rattle.verdict.specs.Answers.{timetable-long, score-refused, score-scored}
 use Rattle.score.specs.Ready.{scorable}
 use borrow.Author.Needs.{needs}
-use Rattle.sheet.proofs.operations.score_read.Statement.{statement}
-use Rattle.sheet.proofs.operations.score_read.Tie as tie
+use Rattle.verdict.proofs.scored.score_read.Statement.{statement}
+use Rattle.verdict.proofs.scored.score_read.Tie as tie
 
 verdict-of-requires : tie.Need-verdict-of-requires
 verdict-of-requires c κs = search needs

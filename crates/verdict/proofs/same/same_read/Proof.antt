@@ -1,11 +1,11 @@
--- `sheet::operations::same_read` meets its contract. The verdict of the first, of the second, then their Y bytes.
+-- `verdict::same::same_read` meets its contract. The verdict of the first, of the second, then their Y bytes.
 use mathlib.Core.Path.{sym}
-use Rattle.sheet.specs.Answers.{timetables-halve, sheet-first, sheet-second, sheet-answered}
+use Rattle.verdict.specs.Answers.{timetables-halve, sheet-first, sheet-second, sheet-answered}
 use native.Mathlib.Omega.{arith}
 use lib.Seq.{length-take-le}
 use borrow.Author.Needs.{needs}
-use Rattle.sheet.proofs.operations.same_read.Statement.{statement}
-use Rattle.sheet.proofs.operations.same_read.Tie as tie
+use Rattle.verdict.proofs.same.same_read.Statement.{statement}
+use Rattle.verdict.proofs.same.same_read.Tie as tie
 
 verdict-of-requires : tie.Need-verdict-of-requires
 verdict-of-requires c κs = search needs
