@@ -17,18 +17,20 @@ mod placed;
 mod placing;
 mod rooms;
 mod school;
+mod starts;
 mod students;
 
-use super::draft::{Draft, Weight, Wish};
+use super::draft::{Draft, Weight};
 use super::remark::{Fault, Refused};
-use super::times::TimeSet;
 use super::writer::{Carried, Imported, Writer};
 use super::xml::Element;
+use crate::instance::MOST_GROUPS;
 use context::{Context, Reading};
 use item::Item;
 use lessons::{activities, Lessons};
 use rooms::Rooms;
 use school::School;
+use starts::Starts;
 
 /// Imports the school of a FET file; a soft weight is so many of `scale` parts.
 pub fn import(root: &Element, scale: u32) -> Result<Imported, Fault> {
@@ -46,11 +48,13 @@ pub fn import(root: &Element, scale: u32) -> Result<Imported, Fault> {
         readings.push((item, read(&context, &rooms, item)?));
     }
     let mut writer = Writer::over(draft);
-    place_events(&mut writer, &context, &readings).map_err(|message| Fault::at(root, message))?;
+    let starts = Starts::of(&context, &readings);
+    let placed = writer.draft.add(Weight::Hard, &starts.wishes(&context));
+    placed.map_err(|message| Fault::at(root, message))?;
     // Hard ones first: if a limit is reached, it costs wishes.
     readings.sort_by_key(|(item, _)| !item.hard());
     for (item, reading) in &readings {
-        write(&mut writer, &context, item, reading, scale);
+        write(&mut writer, &starts, item, reading, scale);
     }
     Ok(writer.finish())
 }
@@ -73,6 +77,9 @@ pub fn timetable(root: &Element, placed: &Element) -> Result<Vec<u8>, Fault> {
     placed::timetable(&school, &lessons, placed)
 }
 
+/// Narrowed times are groups of their own, and groups are limited.
+const GROUPS_FOR_NARROWING: usize = MOST_GROUPS as usize / 2;
+
 /// What an item comes to, or why it comes to nothing.
 fn read(context: &Context, rooms: &Rooms, item: &Item) -> Result<Result<Reading, String>, Fault> {
     let known = rooms
@@ -87,50 +94,9 @@ fn read(context: &Context, rooms: &Rooms, item: &Item) -> Result<Result<Reading,
     }
 }
 
-/// Where each event may start: within a day, and as the hard items say.
-fn place_events(
-    writer: &mut Writer,
-    context: &Context,
-    readings: &[(&Item, Result<Reading, String>)],
-) -> Result<(), String> {
-    let school = context.school;
-    let all = TimeSet::below(school.times());
-    let lessons = context.lessons.lessons.iter();
-    let mut starts: Vec<TimeSet> = lessons
-        .map(|lesson| school.starts_within(lesson.duration, all))
-        .collect();
-    for (item, reading) in readings {
-        if let (true, Ok(reading)) = (item.hard(), reading) {
-            for &(event, times) in &reading.starts {
-                starts[event] = starts[event] & times;
-            }
-        }
-    }
-    let mut wishes = Vec::new();
-    for (event, &times) in starts.iter().enumerate() {
-        let duration = context.lessons.lessons[event].duration;
-        if duration > 1 {
-            wishes.push(Wish::Split(event, 1, 1));
-        }
-        if times != all {
-            wishes.push(starts_in(event, duration, times, all));
-        }
-    }
-    writer.draft.add(Weight::Hard, &wishes)
-}
-
-/// That an event starts within `times`. An event of one hour starts where it is; a
-/// longer one starts once, so it is enough that it does not start elsewhere.
-fn starts_in(event: usize, duration: usize, times: TimeSet, all: TimeSet) -> Wish {
-    match duration {
-        1 => Wish::Preferred(event, times),
-        _ => Wish::Spread(vec![event], all & !times, 0, 0),
-    }
-}
-
 fn write(
     writer: &mut Writer,
-    context: &Context,
+    starts: &Starts,
     item: &Item,
     reading: &Result<Reading, String>,
     scale: u32,
@@ -141,11 +107,15 @@ fn write(
         Err(reason) => return writer.drop(line, words, reason.clone()),
     };
     let mut wishes = reading.wishes.clone();
+    if writer.draft.instance.groups.len() < GROUPS_FOR_NARROWING {
+        wishes = wishes
+            .into_iter()
+            .filter_map(|wish| starts.narrowed(wish))
+            .collect();
+    }
     if !item.hard() {
-        let all = TimeSet::below(context.school.times());
-        wishes.extend(reading.starts.iter().map(|&(event, times)| {
-            starts_in(event, context.lessons.lessons[event].duration, times, all)
-        }));
+        let soft = reading.starts.iter();
+        wishes.extend(soft.map(|&(event, times)| starts.within(event, times)));
     }
     writer.carry(Carried {
         line,
