@@ -64,9 +64,9 @@ fn every_school_is_imported_or_refused_by_name() {
         carried += 1;
         whole += usize::from(imported.remarks.is_empty());
     }
-    println!(
-        "{} schools, {carried} imported, {whole} of them whole",
-        found.len()
-    );
+    let count = found.len();
+    say(&format!(
+        "{count} schools, {carried} imported, {whole} of them whole"
+    ));
     assert!(whole > 0);
 }
