@@ -13,9 +13,9 @@ use denote.Enum.Laws as EL
 use Rattle.scope.specs.declared.BestAnswer.{BestAnswer}
 use Rattle.scope.proofs.BestAnswer as B
 use Rattle.scope.proofs.BestAnswer.Laws as B′
-use Rattle.checker.specs.declared.claim.Claim.{Claim}
+use Rattle.claims.specs.declared.claim.Claim.{Claim}
 use Rattle.checker.proofs.Values.{IsClaim}
-use Rattle.checker.proofs.claim.Claim.Laws as G′
+use Rattle.claims.proofs.claim.Claim.Laws as G′
 
 abbrev pub IsBestAnswer : BestAnswer → Val → Type 0
 IsBestAnswer r v = Is B.the-row r (v ∷ [])

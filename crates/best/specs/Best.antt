@@ -15,8 +15,8 @@ use Rattle.scope.specs.declared.CheckAnswer.{CheckAnswer}
 use Rattle.scope.specs.declared.BestAnswer.{BestAnswer}
 use Rattle.model.specs.declared.operations.Evaluation.{Evaluation}
 use Rattle.model.specs.Answers.{EvaluatedAs}
-use Rattle.checker.specs.declared.claim.Claim.{Claim}
-use Rattle.checker.specs.Prepared.{asked}
+use Rattle.claims.specs.declared.claim.Claim.{Claim}
+use Rattle.claims.specs.Prepared.{asked}
 
 -- above every bound that is allowed
 abbrev pub noBound : ℕ

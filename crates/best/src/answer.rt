@@ -10,7 +10,7 @@ ghost use lib.ListN.{length, replicate};
 ghost use Rattle.scope.specs.Answers.{bestMeans};
 ghost use Rattle.scope.specs.Operations.{bestOf};
 ghost use Rattle.store.specs.Rows.{noRow};
-ghost use Rattle.checker.specs.Prepared.{lent};
+ghost use Rattle.claims.specs.Prepared.{lent};
 
 // A model's cost w, with the number of steps that show that nothing costs less; or the refusals of decoding, then those of a
 // check at bound w - 1. What the stores hold does not matter; afterwards they are zero.

@@ -1,5 +1,5 @@
 // A decoded cost against bounds: the claim that is to be checked, and what the check makes of the cost.
-use checker::Claim;
+use claims::claim::Claim;
 use model::Evaluation;
 use scope::BestAnswer;
 use scope::CheckAnswer;

@@ -2,7 +2,7 @@
 // document 01 that knows nothing of this code.
 mod show;
 
-use checker::Claim;
+use claims::claim::Claim;
 use show::check_line;
 use show::claim_line;
 ghost use Prim.Native.Nat.{_≤_};

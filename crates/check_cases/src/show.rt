@@ -1,5 +1,5 @@
 // A check with stores that are not zero before it, as a line of text.
-use checker::Claim;
+use claims::claim::Claim;
 use libc::STDOUT_FILENO;
 use scope::CheckAnswer;
 use scope::Refusal;

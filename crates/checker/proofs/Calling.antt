@@ -23,10 +23,10 @@ use denote.Triple.Statement.{Contract}
 use Rattle.store.specs.declared.directory.Row.{Row}
 use Rattle.store.proofs.Slices.{at-list}
 use Rattle.store.proofs.directory.Row as R
-use Rattle.checker.specs.declared.claim.Claim.{Claim}
+use Rattle.claims.specs.declared.claim.Claim.{Claim}
 use Rattle.checker.proofs.Values.{IsClaim}
-use Rattle.checker.proofs.claim.Claim as G
-use Rattle.checker.proofs.claim.Claim.Laws as G′
+use Rattle.claims.proofs.claim.Claim as G
+use Rattle.claims.proofs.claim.Claim.Laws as G′
 use Rattle.checker.proofs.answer.check as check
 
 -- the contract that is cited

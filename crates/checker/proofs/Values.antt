@@ -13,12 +13,12 @@ use denote.Enum.Laws as EL
 use Rattle.scope.specs.declared.CheckAnswer.{CheckAnswer}
 use Rattle.scope.proofs.CheckAnswer as S
 use Rattle.scope.proofs.CheckAnswer.Laws as S′
-use Rattle.checker.specs.declared.claim.Claim.{Claim}
-use Rattle.checker.specs.declared.prepare.Ready.{Ready}
-use Rattle.checker.proofs.claim.Claim as G
-use Rattle.checker.proofs.claim.Claim.Laws as G′
-use Rattle.checker.proofs.prepare.Ready as Y
-use Rattle.checker.proofs.prepare.Ready.Laws as Y′
+use Rattle.claims.specs.declared.claim.Claim.{Claim}
+use Rattle.claims.specs.declared.prepare.Ready.{Ready}
+use Rattle.claims.proofs.claim.Claim as G
+use Rattle.claims.proofs.claim.Claim.Laws as G′
+use Rattle.claims.proofs.prepare.Ready as Y
+use Rattle.claims.proofs.prepare.Ready.Laws as Y′
 
 abbrev pub IsAnswer : CheckAnswer → Val → Type 0
 IsAnswer r v = Is S.the-row r (v ∷ [])

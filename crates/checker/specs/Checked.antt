@@ -14,9 +14,9 @@ use Rattle.store.specs.Directory.{rowsOf}
 use Rattle.store.specs.Marked.{Built}
 use Rattle.run.specs.Run.{Driven}
 use Rattle.bound.specs.Meaning.{check-means}
-use Rattle.checker.specs.declared.claim.Claim.{Claim}
-use Rattle.checker.specs.declared.prepare.Ready.{Ready}
-use Rattle.checker.specs.Prepared.{lent, asked, FormulaIn, preparedAs, Prepared}
+use Rattle.claims.specs.declared.claim.Claim.{Claim}
+use Rattle.claims.specs.declared.prepare.Ready.{Ready}
+use Rattle.claims.specs.Prepared.{lent, asked, FormulaIn, preparedAs, Prepared}
 
 -- the directory was built of the words, and the proof s driven to its end
 pub record Followed (s ws : List ℕ) (cap : ℕ) (ms : List ℕ) (used last : ℕ) (r : CheckAnswer) : Type 0 where

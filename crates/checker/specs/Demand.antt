@@ -14,8 +14,8 @@ use Rattle.scope.specs.declared.CheckAnswer.{CheckAnswer}
 use Rattle.scope.specs.declared.DecodeAnswer.{DecodeAnswer}
 use Rattle.laws.specs.Booleans.{impossible}
 use Rattle.theory.specs.Demands.{demand3, demandHard}
-use Rattle.checker.specs.declared.claim.Claim.{Claim}
-use Rattle.checker.specs.Prepared.{asked}
+use Rattle.claims.specs.declared.claim.Claim.{Claim}
+use Rattle.claims.specs.Prepared.{asked}
 
 -- r is what `check` answers: its contract
 pub record Checks (file : List ℕ) (c : Claim) (proof : List ℕ) (l : Lent) (r : CheckAnswer) : Type 0 where

@@ -1,7 +1,2 @@
-pub mod NonEmpty
-pub mod Storable
-pub mod Tails
-pub mod Written
-pub mod Prepared
 pub mod Checked
 pub mod Demand

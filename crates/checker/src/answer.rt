@@ -1,7 +1,7 @@
 // The check of a proof, with lent stores.
-use crate::claim::Claim;
-use crate::prepare::Ready;
-use crate::prepare::prepare;
+use claims::claim::Claim;
+use claims::prepare::Ready;
+use claims::prepare::prepare;
 use run::drive::drive;
 use scope::CheckAnswer;
 use store::clauses::clear_words;
@@ -13,7 +13,7 @@ ghost use mathlib.Core.Path.{_≡_};
 ghost use lib.ListN.{length, replicate};
 ghost use Rattle.scope.specs.Answers.{checkMeans};
 ghost use Rattle.store.specs.Rows.{noRow};
-ghost use Rattle.checker.specs.Prepared.{lent, asked};
+ghost use Rattle.claims.specs.Prepared.{lent, asked};
 ghost use Rattle.checker.specs.Checked.{Follows};
 
 // The directory is built of the formula that is ready, and the proof is judged.

@@ -1,7 +1,7 @@
 // The check without the tail as a C function.
 use calls::leave_steps;
-use checker::Claim;
 use checker::check;
+use claims::claim::Claim;
 use store::directory::Row;
 ghost use mathlib.Core.Path.{_≡_};
 ghost use Rattle.calls.specs.Call.{call};

@@ -57,10 +57,10 @@ use Rattle.model.proofs.evaluate as evaluate
 use Rattle.model.proofs.evaluate.Symbol as evaluate-def
 use Rattle.model.proofs.evaluate.Symbol.{name as #evaluate}
 use Rattle.model.proofs.evaluate.Met as evaluate-thm
-use Rattle.checker.specs.declared.claim.Claim.{Claim}
-use Rattle.checker.specs.Prepared.{lent as stores, asked}
-use Rattle.checker.proofs.claim.Claim as G
-use Rattle.checker.proofs.claim.Claim.Laws as G′
+use Rattle.claims.specs.declared.claim.Claim.{Claim}
+use Rattle.claims.specs.Prepared.{lent as stores, asked}
+use Rattle.claims.proofs.claim.Claim as G
+use Rattle.claims.proofs.claim.Claim.Laws as G′
 use Rattle.checker.proofs.Values.{IsAnswer, answer-same, answer-typed, IsClaim, claim-typed}
 use Rattle.checker.proofs.Calling.{check-to, to-check, Checking, goes-check}
 use Rattle.checker.proofs.check as check

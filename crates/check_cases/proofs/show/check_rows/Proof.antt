@@ -59,9 +59,9 @@ use denote.Steps.{peeks}
 use denote.Struct.Laws as LL
 use denote.Triple.Walked.{needs}
 use borrow.Table.Elements.{at as place-at, cut-app, join-app}
-use Rattle.checker.specs.declared.claim.Claim.{Claim}
-use Rattle.checker.proofs.claim.Claim as G
-use Rattle.checker.proofs.claim.Claim.Laws as G′
+use Rattle.claims.specs.declared.claim.Claim.{Claim}
+use Rattle.claims.proofs.claim.Claim as G
+use Rattle.claims.proofs.claim.Claim.Laws as G′
 use Rattle.checker.proofs.Values.{IsAnswer, answer-same, answer-typed, IsClaim, claim-typed}
 use Rattle.check_cases.proofs.Local.{made, emptied}
 use Rattle.checker.proofs.Calling.{check-to, to-check, Checking, goes-check}

@@ -58,23 +58,23 @@ use Rattle.store.proofs.marks.clear_bytes as clear-bytes
 use Rattle.store.proofs.marks.clear_bytes.Symbol as clear-bytes-def
 use Rattle.store.proofs.marks.clear_bytes.Symbol.{name as #clear-bytes}
 use Rattle.store.proofs.marks.clear_bytes.Met as clear-bytes-thm
-use Rattle.checker.proofs.prepare.prepare as prepare
-use Rattle.checker.proofs.prepare.prepare.Symbol as prepare-def
-use Rattle.checker.proofs.prepare.prepare.Symbol.{name as #prepare}
-use Rattle.checker.proofs.prepare.prepare.Met as prepare-thm
+use Rattle.claims.proofs.prepare.prepare as prepare
+use Rattle.claims.proofs.prepare.prepare.Symbol as prepare-def
+use Rattle.claims.proofs.prepare.prepare.Symbol.{name as #prepare}
+use Rattle.claims.proofs.prepare.prepare.Met as prepare-thm
 use Rattle.checker.proofs.answer.follow as follow
 use Rattle.checker.proofs.answer.follow.Symbol as follow-def
 use Rattle.checker.proofs.answer.follow.Symbol.{name as #follow}
 use Rattle.checker.proofs.answer.follow.Met as follow-thm
-use Rattle.checker.specs.declared.claim.Claim.{Claim}
-use Rattle.checker.specs.declared.prepare.Ready.{Ready}
-use Rattle.checker.specs.Prepared.{lent as stores, asked, Prepared}
+use Rattle.claims.specs.declared.claim.Claim.{Claim}
+use Rattle.claims.specs.declared.prepare.Ready.{Ready}
+use Rattle.claims.specs.Prepared.{lent as stores, asked, Prepared}
 use Rattle.checker.specs.Checked.{Follows, zeros-kept, checked}
 use Rattle.checker.proofs.Values.{IsAnswer, answer-same, answer-typed, IsReady, ready-same, ready-typed, IsClaim, claim-typed}
-use Rattle.checker.proofs.claim.Claim as G
-use Rattle.checker.proofs.claim.Claim.Laws as G′
-use Rattle.checker.proofs.prepare.Ready as Y
-use Rattle.checker.proofs.prepare.Ready.Laws as Y′
+use Rattle.claims.proofs.claim.Claim as G
+use Rattle.claims.proofs.claim.Claim.Laws as G′
+use Rattle.claims.proofs.prepare.Ready as Y
+use Rattle.claims.proofs.prepare.Ready.Laws as Y′
 use Rattle.checker.proofs.answer.check.Key.{name as #check}
 use Rattle.checker.proofs.answer.check as f
 use Rattle.checker.proofs.answer.check.Statement as stated
@@ -342,7 +342,7 @@ check-spec 𝓤 H 𝓜 𝓖 𝓡 =
     (tables 𝓤 H 𝓜 𝓡 code.env .C) (tables 𝓤 H 𝓜 𝓡 code.env .Λ) #check code.function (code.unfolded 𝓤 H 𝓜 𝓡)
     (meets 𝓤 H (𝓖 .A) (givenOf 𝓤 H 𝓜 𝓖) (𝓜 .mem) (𝓡 .run) (tablesOf 𝓤 H 𝓜 (tables 𝓤 H 𝓜 𝓡 code.env))
     (record {
-      prepare = cited 𝓤 H (prepare-to 𝓤 H (𝓖 .A) (𝓜 .mem) (𝓡 .run)) 𝓜 𝓡 code.env #prepare prepare-def.routine code.calls-checker·prepare·prepare (prepare-thm.met 𝓤 H 𝓜 𝓖 𝓡);
+      prepare = cited 𝓤 H (prepare-to 𝓤 H (𝓖 .A) (𝓜 .mem) (𝓡 .run)) 𝓜 𝓡 code.env #prepare prepare-def.routine code.calls-claims·prepare·prepare (prepare-thm.met 𝓤 H 𝓜 𝓖 𝓡);
       follow = cited 𝓤 H (follow-to 𝓤 H (𝓖 .A) (𝓜 .mem) (𝓡 .run)) 𝓜 𝓡 code.env #follow follow-def.routine code.calls-checker·answer·follow (follow-thm.met 𝓤 H 𝓜 𝓖 𝓡);
       clear-words = cited 𝓤 H (clear-words-to 𝓤 H (𝓖 .A) (𝓜 .mem) (𝓡 .run)) 𝓜 𝓡 code.env #clear-words clear-words-def.routine code.calls-store·clauses·clear-words (clear-words-thm.met 𝓤 H 𝓜 𝓖 𝓡);
       clear-rows = cited 𝓤 H (clear-rows-to 𝓤 H (𝓖 .A) (𝓜 .mem) (𝓡 .run)) 𝓜 𝓡 code.env #clear-rows clear-rows-def.routine code.calls-store·directory·clear-rows (clear-rows-thm.met 𝓤 H 𝓜 𝓖 𝓡);

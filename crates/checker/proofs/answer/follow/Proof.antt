@@ -62,11 +62,11 @@ use Rattle.run.proofs.drive.drive as drive
 use Rattle.run.proofs.drive.drive.Symbol as drive-def
 use Rattle.run.proofs.drive.drive.Symbol.{name as #drive}
 use Rattle.run.proofs.drive.drive.Met as drive-thm
-use Rattle.checker.specs.declared.prepare.Ready.{Ready}
+use Rattle.claims.specs.declared.prepare.Ready.{Ready}
 use Rattle.checker.specs.Checked.{Follows, follows-formula, follows-refused}
 use Rattle.checker.proofs.Values.{IsAnswer, answer-same, answer-typed, IsReady, ready-typed}
-use Rattle.checker.proofs.prepare.Ready as Y
-use Rattle.checker.proofs.prepare.Ready.Laws as Y′
+use Rattle.claims.proofs.prepare.Ready as Y
+use Rattle.claims.proofs.prepare.Ready.Laws as Y′
 use Rattle.checker.proofs.answer.follow.Key.{name as #follow}
 use Rattle.checker.proofs.answer.follow as f
 use Rattle.checker.proofs.answer.follow.Statement as stated

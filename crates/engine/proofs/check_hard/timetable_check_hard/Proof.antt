@@ -47,9 +47,9 @@ use Rattle.store.proofs.Walk.{rotate, allocs-all, frees-all, var, part, fills}
 use Rattle.store.proofs.Slices.{at-list, Whole, lent, back}
 use Rattle.store.proofs.Calls.{uint-same, both-said, and-said, calls-to}
 use Rattle.store.proofs.directory.Row as R
-use Rattle.checker.specs.declared.claim.Claim.{Claim}
-use Rattle.checker.proofs.claim.Claim as G
-use Rattle.checker.proofs.claim.Claim.Laws as G′
+use Rattle.claims.specs.declared.claim.Claim.{Claim}
+use Rattle.claims.proofs.claim.Claim as G
+use Rattle.claims.proofs.claim.Claim.Laws as G′
 use Rattle.checker.proofs.Values.{IsAnswer, answer-same, answer-typed, IsClaim, claim-typed}
 use Rattle.checker.proofs.Calling.{check-to, to-check, Checking, goes-check}
 use Rattle.checker.proofs.check as check

@@ -1,9 +1,9 @@
 -- `write::write_rows` meets its contract: a run over the formula in the mode Tail.
 use borrow.Author.Needs.{needs}
 use mathlib.Core.Path.{refl}
-use Rattle.checker.specs.Written.{rows-written}
-use Rattle.checker.proofs.write.write_rows.Statement.{statement}
-use Rattle.checker.proofs.write.write_rows.Tie as tie
+use Rattle.claims.specs.Written.{rows-written}
+use Rattle.claims.proofs.write.write_rows.Statement.{statement}
+use Rattle.claims.proofs.write.write_rows.Tie as tie
 
 slice-aggregate-write-formula : tie.Need-slice-aggregate-write-formula
 slice-aggregate-write-formula c = search needs

@@ -12,9 +12,9 @@ use sizing::blocks::stored_size;
 use store::marks::clear_bytes;
 ghost use mathlib.Core.Path.{_≡_};
 ghost use lib.ListN.{length, replicate};
-ghost use Rattle.checker.specs.Prepared.{lent, sizeFits, tooShort, Prepared};
-ghost use Rattle.checker.specs.declared.claim.Claim.{Claim};
-ghost use Rattle.checker.specs.declared.prepare.Ready.{Ready};
+ghost use Rattle.claims.specs.Prepared.{lent, sizeFits, tooShort, Prepared};
+ghost use Rattle.claims.specs.declared.claim.Claim.{Claim};
+ghost use Rattle.claims.specs.declared.prepare.Ready.{Ready};
 
 // "a lent store is too short"
 const STORE_TOO_SHORT: u8 = 9;

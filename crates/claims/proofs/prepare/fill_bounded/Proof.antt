@@ -2,10 +2,10 @@
 use borrow.Author.Needs.{needs}
 use mathlib.Core.Path.{refl, sym, _∙_}
 use native.Mathlib.Omega.{arith}
-use Rattle.checker.specs.Written.{bounding}
-use Rattle.checker.specs.Prepared.{refused-before, refused-short, formula-in, prepared-same}
-use Rattle.checker.proofs.prepare.fill_bounded.Statement.{statement}
-use Rattle.checker.proofs.prepare.fill_bounded.Tie as tie
+use Rattle.claims.specs.Written.{bounding}
+use Rattle.claims.specs.Prepared.{refused-before, refused-short, formula-in, prepared-same}
+use Rattle.claims.proofs.prepare.fill_bounded.Statement.{statement}
+use Rattle.claims.proofs.prepare.fill_bounded.Tie as tie
 
 durations-requires : tie.Need-durations-requires
 durations-requires c κs = search needs

@@ -2,9 +2,9 @@
 use borrow.Author.Needs.{needs}
 use mathlib.Core.Path.{refl}
 use native.Mathlib.Omega.{arith}
-use Rattle.checker.specs.Written.{hard-written}
-use Rattle.checker.proofs.write.write_hard.Statement.{statement}
-use Rattle.checker.proofs.write.write_hard.Tie as tie
+use Rattle.claims.specs.Written.{hard-written}
+use Rattle.claims.proofs.write.write_hard.Statement.{statement}
+use Rattle.claims.proofs.write.write_hard.Tie as tie
 
 slice-aggregate-write-formula : tie.Need-slice-aggregate-write-formula
 slice-aggregate-write-formula c = search needs

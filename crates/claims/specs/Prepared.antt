@@ -26,10 +26,10 @@ use Rattle.store.specs.Holding.{Good}
 use Rattle.store.specs.Built.{Each}
 use Rattle.store.specs.Marked.{mark, Plain}
 use Rattle.bound.specs.Meaning.{limits}
-use Rattle.checker.specs.declared.claim.Claim.{Claim}
-use Rattle.checker.specs.declared.prepare.Ready.{Ready}
-use Rattle.checker.specs.Storable.{Storable, hard-storable, bounded-storable}
-use Rattle.checker.specs.Written.{stands}
+use Rattle.claims.specs.declared.claim.Claim.{Claim}
+use Rattle.claims.specs.declared.prepare.Ready.{Ready}
+use Rattle.claims.specs.Storable.{Storable, hard-storable, bounded-storable}
+use Rattle.claims.specs.Written.{stands}
 
 -- what is answered for a claim and a proof
 abbrev pub asked : List ℕ → Claim → Lent → List ℕ → Answer ℕ

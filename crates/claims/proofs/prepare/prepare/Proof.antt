@@ -1,8 +1,8 @@
 -- `prepare::prepare` meets its contract: the marks are cleared, then the formula is written.
 use borrow.Author.Needs.{needs}
-use Rattle.checker.specs.Prepared.{prepared-bytes}
-use Rattle.checker.proofs.prepare.prepare.Statement.{statement}
-use Rattle.checker.proofs.prepare.prepare.Tie as tie
+use Rattle.claims.specs.Prepared.{prepared-bytes}
+use Rattle.claims.proofs.prepare.prepare.Statement.{statement}
+use Rattle.claims.proofs.prepare.prepare.Tie as tie
 
 clear-bytes-requires : tie.Need-clear-bytes-requires
 clear-bytes-requires c κs = search needs

@@ -23,7 +23,7 @@ use Rattle.sink.specs.declared.Sink.{Sink}
 use Rattle.sink.specs.declared.Mode.the-variants.{Words, Tail}
 use Rattle.store.specs.Marked.{length-marks}
 use Rattle.clauses.specs.Writable.{Writable, formulaLines}
-use Rattle.checker.specs.Tails.{unitWord, tail-words, tail-none, bounded-variables, bounded-words}
+use Rattle.claims.specs.Tails.{unitWord, tail-words, tail-none, bounded-variables, bounded-words}
 
 -- the tail's rows were put into the words
 pub record RowsPut (us : List (ℕ × ℕ)) (cols first at : ℕ) (ws : List ℕ) (r : Sink) (ws′ : List ℕ) : Type 0 where

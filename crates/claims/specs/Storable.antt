@@ -11,7 +11,7 @@ use Rattle.theory.specs.Literals.{formula-literals, bounded-literals}
 use Rattle.store.specs.Holding.{All, Good}
 use Rattle.store.specs.Built.{Each}
 use Rattle.store.specs.Marked.{Small, Plain}
-use Rattle.checker.specs.NonEmpty.{NonEmpty, formula-nonempty, bounded-nonempty}
+use Rattle.claims.specs.NonEmpty.{NonEmpty, formula-nonempty, bounded-nonempty}
 
 -- of variables before m, which is at most 2 ^ 30
 module _ (m : ℕ) (h : m ≤ 1073741824) where

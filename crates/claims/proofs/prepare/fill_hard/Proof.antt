@@ -2,10 +2,10 @@
 use borrow.Author.Needs.{needs}
 use mathlib.Core.Path.{refl, sym, _∙_}
 use native.Mathlib.Omega.{arith}
-use Rattle.checker.specs.Written.{hard-writable}
-use Rattle.checker.specs.Prepared.{hard-refused, hard-short, hard-in, prepared-same}
-use Rattle.checker.proofs.prepare.fill_hard.Statement.{statement}
-use Rattle.checker.proofs.prepare.fill_hard.Tie as tie
+use Rattle.claims.specs.Written.{hard-writable}
+use Rattle.claims.specs.Prepared.{hard-refused, hard-short, hard-in, prepared-same}
+use Rattle.claims.proofs.prepare.fill_hard.Statement.{statement}
+use Rattle.claims.proofs.prepare.fill_hard.Tie as tie
 
 durations-requires : tie.Need-durations-requires
 durations-requires c κs = search needs

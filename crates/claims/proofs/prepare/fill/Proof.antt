@@ -1,8 +1,8 @@
 -- `prepare::fill` meets its contract: a case for each claim.
 use borrow.Author.Needs.{needs}
-use Rattle.checker.specs.Prepared.{prepared-claim}
-use Rattle.checker.proofs.prepare.fill.Statement.{statement}
-use Rattle.checker.proofs.prepare.fill.Tie as tie
+use Rattle.claims.specs.Prepared.{prepared-claim}
+use Rattle.claims.proofs.prepare.fill.Statement.{statement}
+use Rattle.claims.proofs.prepare.fill.Tie as tie
 
 enum-known-claim : tie.Need-enum-known-claim
 enum-known-claim c = search needs

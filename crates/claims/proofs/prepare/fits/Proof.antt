@@ -1,7 +1,7 @@
 -- `prepare::fits` meets its contract.
 use borrow.Author.Tests.{le-leb, lt-leb}
-use Rattle.checker.proofs.prepare.fits.Statement.{statement}
-use Rattle.checker.proofs.prepare.fits.Tie as tie
+use Rattle.claims.proofs.prepare.fits.Statement.{statement}
+use Rattle.claims.proofs.prepare.fits.Tie as tie
 
 returns : tie.Need-returns
 returns c = rw (lt-leb _ _ (c .if1 .taken))

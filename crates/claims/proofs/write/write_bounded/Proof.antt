@@ -3,9 +3,9 @@ use borrow.Author.Needs.{needs}
 use mathlib.Core.Path.{sym, _∙_}
 use native.Mathlib.Omega.{arith}
 use Rattle.clauses.specs.Writable.{writable-kept}
-use Rattle.checker.specs.Written.{rows-fit, units-there, last-fits, position, all-without-tail, all-with-tail}
-use Rattle.checker.proofs.write.write_bounded.Statement.{statement}
-use Rattle.checker.proofs.write.write_bounded.Tie as tie
+use Rattle.claims.specs.Written.{rows-fit, units-there, last-fits, position, all-without-tail, all-with-tail}
+use Rattle.claims.proofs.write.write_bounded.Statement.{statement}
+use Rattle.claims.proofs.write.write_bounded.Tie as tie
 
 write-hard-requires : tie.Need-write-hard-requires
 write-hard-requires c κs = search needs

@@ -14,7 +14,7 @@ ghost use Rattle.instance.specs.Answers.{instanceOf};
 ghost use Rattle.sink.specs.Run.{Ran, out, put};
 ghost use Rattle.sink.specs.Block.{mark};
 ghost use Rattle.clauses.specs.Writable.{Writable};
-ghost use Rattle.checker.specs.Written.{RowsPut, Bounding};
+ghost use Rattle.claims.specs.Written.{RowsPut, Bounding};
 
 // The hard clauses; the position after them.
 pub fn write_hard(
