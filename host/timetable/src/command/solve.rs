@@ -73,8 +73,8 @@ fn run(given: &Given, messages: &mut Messages) -> Result<Answer, Fault> {
     let stop = Arc::new(AtomicBool::new(false));
     match env::var_os(WORKER) {
         Some(_) => stop_at_end_of_input(Arc::clone(&stop)),
-        // The instance came over standard input, so there is none for the pipe.
-        None if given.file("INSTANCE").name == files::input_name(OsStr::new("-")) => {}
+        // What is no regular file cannot be read a second time.
+        None if !Path::new(&given.file("INSTANCE").name).is_file() => {}
         None => return by_worker(),
     }
     let mut watcher = Spoken {
