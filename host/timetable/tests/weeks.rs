@@ -144,7 +144,7 @@ fn the_time_is_kept() {
     let slow = ("cadical", "exec sleep 600");
     let solvers = stand_ins("slow", &[CLASP, slow]);
     let started = Instant::now();
-    let found = solve(&solvers, "slow-out", &["--time", "2"]);
+    let found = solve(&solvers, "slow-out", &["--time", "6"]);
     assert!(started.elapsed() < Duration::from_secs(60));
     assert!(
         found.printed.starts_with("costs 4; nothing refuted;"),
