@@ -30,13 +30,13 @@ fn stand_ins(folder_name: &str, scripts: &[(&str, &str)]) -> String {
 
 /// clasp with its two models of the toy school.
 const CLASP: (&str, &str) = ("clasp", "cat \"$R/clasp.out\"");
-/// cadical with its answers at the bounds 4, 3 and 2; it is called with -q, the
-/// clauses and the proof.
+/// cadical with its answers at the bounds 4, 3 and 2; it is called with -t, a
+/// limit, -q, the clauses and the proof.
 const CADICAL: (&str, &str) = (
     "cadical",
-    "case $2 in
-     *bound-2.cnf) cp \"$R/cadical-2.drat\" \"$3\"; cat \"$R/cadical-2.out\" ;;
-     *bound-3.cnf) cp \"$R/cadical-3.drat\" \"$3\"; cat \"$R/cadical-3.out\" ;;
+    "case $4 in
+     *bound-2.cnf) cp \"$R/cadical-2.drat\" \"$5\"; cat \"$R/cadical-2.out\" ;;
+     *bound-3.cnf) cp \"$R/cadical-3.drat\" \"$5\"; cat \"$R/cadical-3.out\" ;;
      *) cat \"$R/cadical-4.out\" ;;
      esac",
 );
@@ -107,12 +107,12 @@ fn a_solvers_word_is_not_taken() {
         ("no-proof", "echo 's UNSATISFIABLE'"),
         (
             "no-conflict",
-            "printf 'a\\002\\000' >\"$3\"; echo 's UNSATISFIABLE'",
+            "printf 'a\\002\\000' >\"$5\"; echo 's UNSATISFIABLE'",
         ),
-        ("words", "echo 'trust me' >\"$3\"; echo 's UNSATISFIABLE'"),
+        ("words", "echo 'trust me' >\"$5\"; echo 's UNSATISFIABLE'"),
         (
             "other-bound",
-            "cp \"$R/picosat-3.rup\" \"$3\"; sed -i 1,900d \"$3\"; echo 's UNSATISFIABLE'",
+            "cp \"$R/picosat-3.rup\" \"$5\"; sed -i 1,900d \"$5\"; echo 's UNSATISFIABLE'",
         ),
         ("wrong-model", "echo 's SATISFIABLE'; echo 'v 1 2 3 0'"),
         ("nothing", "exit 1"),
@@ -144,7 +144,7 @@ fn the_time_is_kept() {
     let slow = ("cadical", "exec sleep 600");
     let solvers = stand_ins("slow", &[CLASP, slow]);
     let started = Instant::now();
-    let found = solve(&solvers, "slow-out", &["--time", "2"]);
+    let found = solve(&solvers, "slow-out", &["--time", "6"]);
     assert!(started.elapsed() < Duration::from_secs(60));
     assert!(
         found.printed.starts_with("costs 4; nothing refuted;"),
@@ -200,6 +200,9 @@ fn wrong_solvers_are_told() {
     let found = solve("gurobi", "wrong-out", &[]);
     assert_eq!(found.status, 2);
     assert!(found.said.contains("'gurobi' is none of"), "{}", found.said);
+    let found = solve("clasp", "-", &[]);
+    assert_eq!(found.status, 2);
+    assert!(found.said.contains("wants a folder"), "{}", found.said);
     let found = solve("./no-such-folder/cadical", "missing-out", &[]);
     assert_eq!(found.status, 2);
     assert!(

@@ -73,8 +73,8 @@ fn run(given: &Given, messages: &mut Messages) -> Result<Answer, Fault> {
     let stop = Arc::new(AtomicBool::new(false));
     match env::var_os(WORKER) {
         Some(_) => stop_at_end_of_input(Arc::clone(&stop)),
-        // The instance came over standard input, so there is none for the pipe.
-        None if given.file("INSTANCE").name == files::input_name(OsStr::new("-")) => {}
+        // What is no regular file cannot be read a second time.
+        None if !Path::new(&given.file("INSTANCE").name).is_file() => {}
         None => return by_worker(),
     }
     let mut watcher = Spoken {
@@ -94,21 +94,28 @@ fn options(given: &Given) -> Result<Options, Fault> {
         })?,
         None => Program::installed(),
     };
-    let instance = &given.file("INSTANCE").name;
     let folder = match given.path_if(OUT) {
+        Some(folder) if files::is_standard(folder.as_os_str()) => {
+            let message = "the option '--out' wants a folder, not standard output";
+            return Err(Fault::Usage(message.to_string()));
+        }
         Some(folder) => folder.to_path_buf(),
-        None => PathBuf::from(
-            Path::new(instance)
-                .file_stem()
-                .unwrap_or(OsStr::new("instance")),
-        )
-        .with_extension("week"),
+        None => own_folder(&given.file("INSTANCE").name),
     };
     Ok(Options {
         folder,
         time: Duration::from_secs(given.number_if("time").unwrap_or(SECONDS)),
         programs,
     })
+}
+
+/// The folder of an instance that none was given for: its name, without what
+/// stands behind the last dot, with `.week`.
+fn own_folder(instance: &str) -> PathBuf {
+    let stem = Path::new(instance).file_stem();
+    let mut name = stem.unwrap_or(OsStr::new("instance")).to_os_string();
+    name.push(".week");
+    PathBuf::from(name)
 }
 
 /// Lets a second process of this program do the work, and waits for it.
@@ -146,28 +153,19 @@ fn stop_at_end_of_input(stop: Arc<AtomicBool>) {
 
 fn answer(outcome: &Outcome) -> Answer {
     let sentence = outcome.sentence();
-    let mut report = String::new();
-    if outcome.interrupted {
-        report += "interrupted\n";
+    let files = files_of(outcome);
+    let mut report = match outcome.interrupted {
+        true => format!("interrupted\n{sentence}\n"),
+        false => format!("{sentence}\n"),
+    };
+    for (name, path) in &files {
+        report += &format!("{name} {path}\n");
     }
-    report += &format!("{sentence}\n");
     let mut fields = vec![
         ("answer", Json::from(sentence.as_str())),
         ("settled", Json::from(outcome.is_settled())),
         ("interrupted", Json::from(outcome.interrupted)),
     ];
-    let mut file = |name: &'static str, path: &Path| {
-        let path = path.display().to_string();
-        report += &format!("{name} {path}\n");
-        fields.push((name, Json::from(path.as_str())));
-    };
-    if let Some(best) = &outcome.best {
-        file("model", &best.model);
-        file("timetable", &best.timetable);
-    }
-    if let Some(refuted) = &outcome.refuted {
-        file("proof", &refuted.proof);
-    }
     if let Some(best) = &outcome.best {
         fields.push(("cost", Json::from(best.cost)));
     }
@@ -175,6 +173,10 @@ fn answer(outcome: &Outcome) -> Answer {
         fields.push(("refuted", Json::from(refuted.bound)));
         fields.push(("steps", Json::from(refuted.steps)));
     }
+    let paths = files
+        .iter()
+        .map(|(name, path)| (*name, Json::from(path.as_str())));
+    fields.extend(paths);
     let notes = outcome.notes.iter().map(|note| format!("{note}\n"));
     Answer {
         report: report.into_bytes(),
@@ -186,6 +188,18 @@ fn answer(outcome: &Outcome) -> Answer {
         },
         ..Answer::default()
     }
+}
+
+/// The files that matter, with what each is.
+fn files_of(outcome: &Outcome) -> Vec<(&'static str, String)> {
+    let best = outcome.best.iter();
+    let best = best.flat_map(|best| [("model", &best.model), ("timetable", &best.timetable)]);
+    let refuted = outcome.refuted.iter();
+    let refuted = refuted.map(|refuted| ("proof", &refuted.proof));
+    let files = best.chain(refuted);
+    files
+        .map(|(name, path)| (name, path.display().to_string()))
+        .collect()
 }
 
 /// Says how far the week is: at once if something is new, else every few seconds.

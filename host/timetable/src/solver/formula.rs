@@ -33,13 +33,13 @@ impl Formula {
     /// The formula of a file with the tail for `bound`, or 1 to 8.
     pub fn at_bound(file: &[u8], bound: u64) -> Result<Formula, Fault> {
         let wanted = engine::sizes(file, bound)?;
-        let mut formula = Formula::of(file)?;
-        formula.append_tail(bound as u32);
-        formula.held_to(wanted)
+        Formula::of(file)?.with_tail(bound, wanted)
     }
 
-    /// The formula if it has the size that the engine says.
-    fn held_to(self, wanted: FormulaSize) -> Result<Formula, Fault> {
+    /// This formula with the tail for `bound`, if it then has the size that the
+    /// engine says, `wanted`.
+    pub fn with_tail(mut self, bound: u64, wanted: FormulaSize) -> Result<Formula, Fault> {
+        self.append_tail(bound as u32);
         let found = self.size();
         match found == wanted {
             true => Ok(self),
@@ -94,7 +94,7 @@ impl Formula {
 
     /// Appends the tail: a counter over the negated soft units with the columns
     /// 1 to `bound` + 1, and the unit that forbids its last.
-    pub fn append_tail(&mut self, bound: u32) {
+    fn append_tail(&mut self, bound: u32) {
         let columns = bound + 1;
         let mut above = None;
         for Soft { weight, unit } in std::mem::take(&mut self.soft) {
@@ -179,7 +179,7 @@ fn numbers(line: &str, clause: &mut Vec<Literal>, variables: u32) -> Option<u64>
 
 #[cfg(test)]
 mod tests {
-    use super::{Formula, Literal, Soft};
+    use super::{engine, Formula, Literal, Soft};
 
     /// Document 01's file A.
     const A: [u8; 12] = [1, 1, 0, 1, 0, 1, 0, 1, 3, 4, 1, 1];
@@ -216,6 +216,15 @@ mod tests {
         assert_eq!(formula.variables, 9);
         let last: Vec<Vec<i64>> = signed(&formula)[14..].to_vec();
         assert_eq!(last, [vec![4, -8], vec![4, -9], vec![-9], vec![-9]]);
+    }
+
+    #[test]
+    fn another_size_than_the_engines_is_told() {
+        let mut wanted = engine::sizes(&A, 4).unwrap();
+        assert!(Formula::of(&A).unwrap().with_tail(4, wanted).is_ok());
+        assert!(Formula::of(&A).unwrap().with_tail(3, wanted).is_err());
+        wanted.words += 1;
+        assert!(Formula::of(&A).unwrap().with_tail(4, wanted).is_err());
     }
 
     #[test]

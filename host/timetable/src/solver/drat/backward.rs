@@ -76,17 +76,7 @@ impl Backward {
         if clauses + variables >= LAST_USE as usize {
             return Err(Fault::Other("the proof is too large".to_string()));
         }
-        let mut pass = Pass {
-            units_from: clauses as u32,
-            needed: vec![false; variables + 1],
-            seen: vec![0; variables + 1],
-            assumed: vec![0; variables + 1],
-            stamp: 0,
-            roots: Vec::new(),
-            records: Vec::new(),
-            hints: Vec::new(),
-            propagation,
-        };
+        let mut pass = Pass::new(propagation, clauses as u32);
         pass.refutation(conflict);
         pass.events(&events, segments, observer)?;
         Ok(Backward {
@@ -119,6 +109,21 @@ struct Pass {
 }
 
 impl Pass {
+    fn new(propagation: Propagation, clauses: u32) -> Pass {
+        let variables = propagation.variables() + 1;
+        Pass {
+            propagation,
+            units_from: clauses,
+            needed: vec![false; variables],
+            seen: vec![0; variables],
+            assumed: vec![0; variables],
+            stamp: 0,
+            roots: Vec::new(),
+            records: Vec::new(),
+            hints: Vec::new(),
+        }
+    }
+
     /// The empty clause: all literals of `conflict` are false.
     fn refutation(&mut self, conflict: Place) {
         self.begin(Added::Empty);
@@ -136,23 +141,17 @@ impl Pass {
             if index % EVERY == 0 {
                 observer.progress("steps looked at", events.len() - index, events.len())?;
             }
-            let Event::Added { place, line } = event else {
-                let Event::Deleted(place) = event else {
-                    unreachable!()
-                };
-                self.propagation.attach(place);
-                continue;
-            };
-            if segments
-                .last()
-                .is_some_and(|segment| segment.event == index)
-            {
-                let trail = segments.pop().map_or(0, |segment| segment.trail);
-                self.undo_units(trail);
-            }
-            self.propagation.arena.make_gone(place);
-            if self.propagation.arena.is_core(place) && !self.lemma(place) {
-                return Err(not_implied(line));
+            match event {
+                Event::Deleted(place) => self.propagation.attach(place),
+                Event::Added { place, line } => {
+                    if let Some(segment) = segments.pop_if(|segment| segment.event == index) {
+                        self.undo_units(segment.trail);
+                    }
+                    self.propagation.arena.make_gone(place);
+                    if self.propagation.arena.is_core(place) && !self.lemma(place) {
+                        return Err(not_implied(line));
+                    }
+                }
             }
         }
         self.undo_units(0);

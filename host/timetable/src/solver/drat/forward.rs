@@ -6,7 +6,7 @@ use super::propagation::{Propagation, Value};
 use super::reading::Drat;
 use crate::solver::formula::Formula;
 use crate::solver::literal::Literal;
-use crate::solver::proofs::{Observer, EVERY};
+use crate::solver::proofs::{extension, Observer, EVERY};
 use crate::solver::Fault;
 
 /// What the proof does, in its order.
@@ -133,12 +133,7 @@ impl Pass {
     fn lemma(&mut self, line: usize, literals: &mut [Literal]) -> Result<Option<Place>, Fault> {
         let variables = self.propagation.variables();
         if let Some(above) = literals.iter().find(|l| l.variable() as usize > variables) {
-            return Err(Fault::Other(format!(
-                "step {} of the proof names variable {}, and the formula has {variables}: \
-                 an extension is a RAT step, which no hints spell",
-                line + 1,
-                above.variable()
-            )));
+            return Err(extension(line + 1, above.variable(), variables));
         }
         let value = |literal: &Literal| match self.propagation.value(*literal) {
             Value::True => 0,

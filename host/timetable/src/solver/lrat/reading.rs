@@ -86,31 +86,24 @@ pub fn from_text(text: &[u8]) -> Result<Lrat, Fault> {
     let mut words = words(text).peekable();
     while let Some(word) = words.next() {
         let step = proof.steps.len() + 1;
-        let number = |word: Option<&[u8]>| -> Result<i64, Fault> {
-            let word = word.ok_or_else(|| wrong(step, "is cut short"))?;
-            let number = std::str::from_utf8(word).ok().and_then(|w| w.parse().ok());
-            number.ok_or_else(|| wrong(step, "has a word that is no number"))
-        };
-        let id = number(Some(word))?;
-        let id = u64::try_from(id).map_err(|_| wrong(step, "has a negative id"))?;
+        let id = u64::try_from(signed(Some(word), step)?);
+        let id = id.map_err(|_| wrong(step, "has a negative id"))?;
         let deletes = words.next_if_eq(&&b"d"[..]).is_some();
         let first_literal = proof.literals.len();
-        while !deletes {
-            match number(words.next())? {
-                0 => break,
-                literal => proof.literals.push(
-                    Literal::from_signed(literal)
-                        .ok_or_else(|| wrong(step, "has a literal too large"))?,
-                ),
-            }
+        if !deletes {
+            list(&mut proof.literals, || {
+                let number = signed(words.next(), step)?;
+                let literal = || Literal::from_signed(number);
+                end_or(number, || {
+                    literal().ok_or_else(|| wrong(step, "has a literal too large"))
+                })
+            })?;
         }
         let first_id = proof.ids.len();
-        loop {
-            match number(words.next())? {
-                0 => break,
-                id => proof.ids.push(u64::try_from(id).map_err(|_| rat(step))?),
-            }
-        }
+        list(&mut proof.ids, || {
+            let number = signed(words.next(), step)?;
+            end_or(number, || u64::try_from(number).map_err(|_| rat(step)))
+        })?;
         proof.end_step(deletes, id, first_literal, first_id);
     }
     Ok(proof)
@@ -122,12 +115,6 @@ pub fn from_binary(bytes: &[u8], numbering: Numbering) -> Result<Lrat, Fault> {
     let mut at = 0;
     while let Some(&kind) = bytes.get(at) {
         let step = proof.steps.len() + 1;
-        let number = |at: &mut usize| -> Result<u64, Fault> {
-            let read = read_number(bytes, *at);
-            let (number, next) = read.ok_or_else(|| wrong(step, "is cut short"))?;
-            *at = next;
-            Ok(u64::from(number))
-        };
         at += 1;
         let deletes = match kind {
             ADD => false,
@@ -135,38 +122,66 @@ pub fn from_binary(bytes: &[u8], numbering: Numbering) -> Result<Lrat, Fault> {
             _ => return Err(wrong(step, "begins with neither 'a' nor 'd'")),
         };
         let mut id = 0;
+        let mut doubled = numbering.deleted;
         let first_literal = proof.literals.len();
         if !deletes {
-            id = plain(number(&mut at)?, numbering.added, step)?;
-            loop {
-                match number(&mut at)? {
-                    0 => break,
-                    code => proof.literals.push(
-                        Literal::from_code(code as u32)
-                            .ok_or_else(|| wrong(step, "has a bad literal"))?,
-                    ),
-                }
-            }
+            id = plain(unsigned(bytes, &mut at, step)?, numbering.added, step)?;
+            doubled = numbering.hints;
+            list(&mut proof.literals, || {
+                let code = unsigned(bytes, &mut at, step)?;
+                let literal = || Literal::from_code(code);
+                end_or(i64::from(code), || {
+                    literal().ok_or_else(|| wrong(step, "has a bad literal"))
+                })
+            })?;
         }
-        let doubled = if deletes {
-            numbering.deleted
-        } else {
-            numbering.hints
-        };
         let first_id = proof.ids.len();
-        loop {
-            match number(&mut at)? {
-                0 => break,
-                id => proof.ids.push(plain(id, doubled, step)?),
-            }
-        }
+        list(&mut proof.ids, || {
+            let number = unsigned(bytes, &mut at, step)?;
+            end_or(i64::from(number), || plain(number, doubled, step))
+        })?;
         proof.end_step(deletes, id, first_literal, first_id);
     }
     Ok(proof)
 }
 
+/// Appends what `next` gives, up to its end.
+fn list<T>(
+    list: &mut Vec<T>,
+    mut next: impl FnMut() -> Result<Option<T>, Fault>,
+) -> Result<(), Fault> {
+    while let Some(one) = next()? {
+        list.push(one);
+    }
+    Ok(())
+}
+
+/// Nothing for 0, which ends a list, and else what `number` stands for.
+fn end_or<T>(number: i64, meant: impl FnOnce() -> Result<T, Fault>) -> Result<Option<T>, Fault> {
+    match number {
+        0 => Ok(None),
+        _ => meant().map(Some),
+    }
+}
+
+/// The number that a word of text spells.
+fn signed(word: Option<&[u8]>, step: usize) -> Result<i64, Fault> {
+    let word = word.ok_or_else(|| wrong(step, "is cut short"))?;
+    let number = std::str::from_utf8(word).ok().and_then(|w| w.parse().ok());
+    number.ok_or_else(|| wrong(step, "has a word that is no number"))
+}
+
+/// The number at `at`, which moves on behind it.
+fn unsigned(bytes: &[u8], at: &mut usize, step: usize) -> Result<u32, Fault> {
+    let read = read_number(bytes, *at);
+    let (number, next) = read.ok_or_else(|| wrong(step, "is cut short or has a bad number"))?;
+    *at = next;
+    Ok(number)
+}
+
 /// An id as it is meant; a doubled one with its lowest bit set is negative.
-fn plain(number: u64, doubled: bool, step: usize) -> Result<u64, Fault> {
+fn plain(number: u32, doubled: bool, step: usize) -> Result<u64, Fault> {
+    let number = u64::from(number);
     match doubled {
         false => Ok(number),
         true if number % 2 == 0 => Ok(number / 2),

@@ -3,7 +3,7 @@
 use super::reading::{Lrat, Step};
 use crate::solver::formula::Formula;
 use crate::solver::literal::{Clauses, Literal};
-use crate::solver::proofs::{Observer, Steps, EVERY};
+use crate::solver::proofs::{extension, Observer, Steps, EVERY};
 use crate::solver::step_bytes::StepBytes;
 use crate::solver::Fault;
 use std::collections::HashMap;
@@ -106,8 +106,8 @@ impl<'a> Replay<'a> {
         literals.dedup();
         for &literal in &literals {
             if literal.variable() > self.formula.variables {
-                let variable = literal.variable();
-                return Err(wrong(format!("names variable {variable}, above the last")));
+                let variables = self.formula.variables as usize;
+                return Err(extension(step, literal.variable(), variables));
             }
             self.falsify(literal);
         }

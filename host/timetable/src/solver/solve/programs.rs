@@ -3,6 +3,7 @@
 use std::ffi::OsString;
 use std::path::Path;
 use std::process::{Command, Stdio};
+use std::time::Duration;
 
 /// A solver of which the calls are known.
 #[derive(Clone, Copy, Debug, PartialEq, Eq)]
@@ -82,18 +83,32 @@ impl Program {
     }
 
     /// The call that looks for models of ever lower cost in a "p wcnf" text.
-    pub fn optimising(&self, clauses: &Path) -> Command {
-        let mut command = Command::new(&self.path);
+    pub fn optimising(&self, clauses: &Path, time: Duration) -> Command {
+        let mut command = self.limited(time);
         command.arg(clauses);
         command
     }
 
     /// The call that looks for a model of a "p cnf" text, or else writes a proof.
-    pub fn refuting(&self, clauses: &Path, proof: &Path) -> Command {
-        let mut command = Command::new(&self.path);
+    pub fn refuting(&self, clauses: &Path, proof: &Path, time: Duration) -> Command {
+        let mut command = self.limited(time);
         match self.kind {
             Kind::Picosat => command.arg("-R").arg(proof).arg(clauses),
             _ => command.arg("-q").arg(clauses).arg(proof),
+        };
+        command
+    }
+
+    /// The program with a limit of its own, some seconds above `time`, so that
+    /// it ends even if nobody is left to end it.
+    fn limited(&self, time: Duration) -> Command {
+        let seconds = time.as_secs().saturating_add(10).min(1_000_000);
+        let mut command = Command::new(&self.path);
+        match self.kind {
+            Kind::Clasp => command.arg(format!("--time-limit={seconds}")),
+            Kind::Cadical => command.arg("-t").arg(seconds.to_string()),
+            Kind::Kissat => command.arg(format!("--time={seconds}")),
+            Kind::Picosat => command.arg("-L").arg(seconds.to_string()),
         };
         command
     }

@@ -55,16 +55,17 @@ fn optimise(week: &mut Week, program: &Program) -> Result<(), Fault> {
     let path = week.folder.write("clauses.wcnf", &clauses)?;
     drop(clauses);
     let started = Instant::now();
+    let time = week.left() / 2;
     let mut judge = Finding {
         reading: Reading::new(week.hard.variables as usize),
         doing: format!("{} looks for better models", program.kind.name()),
         started,
         improved: started,
-        until: started + week.left() / 2,
+        until: started + time,
         impatient: true,
         week,
     };
-    process::run(program.optimising(&path), &mut judge)?;
+    process::run(program.optimising(&path, time), &mut judge)?;
     Ok(())
 }
 
@@ -154,7 +155,10 @@ impl Question {
     /// that every timetable keeps, or at the largest there is.
     fn formula(self, week: &Week) -> Result<(Formula, u64), Fault> {
         match self {
-            Question::AtMost(bound) => Ok((Formula::at_bound(week.file, bound)?, bound)),
+            Question::AtMost(bound) => {
+                let size = engine::sizes(week.file, bound)?;
+                Ok((week.hard.clone().with_tail(bound, size)?, bound))
+            }
             Question::HardAlone => {
                 let bound = largest_bound(week.file, week.outcome.total_weight);
                 Ok((week.hard.clone(), bound.unwrap_or(0)))
@@ -177,7 +181,7 @@ fn ask(
         .write(&format!("{name}.cnf"), &dimacs::text(&formula))?;
     let proof = week.folder.path(&format!("{name}.drat"));
     week.folder.remove(&format!("{name}.drat"));
-    let command = program.refuting(&clauses, &proof);
+    let command = program.refuting(&clauses, &proof, time);
     let answer = answer(week, program, question, time, command)?;
     let reply = match answer {
         Answer::Model(_) => Reply::Model,
@@ -218,7 +222,10 @@ fn answer(
     let end = process::run(command, &mut judge)?;
     let Finding { reading, week, .. } = judge;
     match (reading.end(), end) {
-        (Answer::Model(_), _) if week.best_cost() == before => Ok(Answer::Unknown),
+        (Answer::Model(_), _) if week.best_cost() == before => {
+            week.note(format!("{name} gave a model that is no better timetable"));
+            Ok(Answer::Unknown)
+        }
         (Answer::Unsatisfiable, End::Ended) => Ok(Answer::Unknown),
         (Answer::Unknown, End::Finished) => {
             week.note(format!("{name} ended without an answer"));
