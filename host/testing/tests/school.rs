@@ -91,8 +91,18 @@ fn any_names(random: &mut Random, counts: Counts) -> Names {
     let mut left = counts.times;
     while left > 0 {
         let count = 1 + random.below(left);
-        let periods = (0..count).map(|_| fresh(random)).collect();
-        let name = random.chance(70).then(|| fresh(random));
+        let before = days
+            .last()
+            .map_or(Vec::new(), |day: &Day| day.periods.clone());
+        let periods = match random.chance(60) && (1..=left).contains(&before.len()) {
+            true => before,
+            false => (0..count).map(|_| fresh(random)).collect(),
+        };
+        let count = periods.len();
+        let name = random.chance(90).then(|| fresh(random));
+        if name.is_none() && days.iter().any(|day: &Day| day.periods == periods) {
+            continue; // times of no day with the names of others
+        }
         days.push(Day { name, periods });
         left -= count;
     }

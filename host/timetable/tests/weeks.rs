@@ -6,27 +6,10 @@ mod support;
 
 use std::fs;
 use std::io::Read;
-use std::os::unix::fs::PermissionsExt;
 use std::process::Stdio;
 use std::thread;
 use std::time::{Duration, Instant};
-use support::{command, folder, host, run, school, Run};
-
-/// Makes scripts of these names in a folder of their own, each with the
-/// variable R for the recordings, and gives their paths with commas between.
-fn stand_ins(folder_name: &str, scripts: &[(&str, &str)]) -> String {
-    let folder = folder().join(folder_name);
-    fs::create_dir_all(&folder).expect("a folder for the scripts");
-    let paths = scripts.iter().map(|(name, script)| {
-        let path = folder.join(name);
-        let recorded = host().join("recorded");
-        let text = format!("#!/bin/sh\nR='{}'\n{script}\n", recorded.display());
-        fs::write(&path, text).expect("a script");
-        fs::set_permissions(&path, fs::Permissions::from_mode(0o755)).expect("a script that runs");
-        path.to_str().expect("a path").to_string()
-    });
-    paths.collect::<Vec<_>>().join(",")
-}
+use support::{command, folder, run, school, stand_ins, Run};
 
 /// clasp with its two models of the toy school.
 const CLASP: (&str, &str) = ("clasp", "cat \"$R/clasp.out\"");

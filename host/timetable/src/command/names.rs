@@ -73,8 +73,10 @@ pub fn accepted(bytes: &[u8]) -> Result<Instance, Fault> {
 
 /// The names of the side file beside `file`, if there is one.
 fn beside(file: &File, instance: &Instance) -> Result<Option<Names>, Fault> {
-    let side = side_file(Path::new(&file.name));
-    if !side.is_file() {
+    let path = Path::new(&file.name);
+    let side = side_file(path);
+    // Standard input has nothing beside it.
+    if !path.is_file() || !side.is_file() {
         return Ok(None);
     }
     let side = File {

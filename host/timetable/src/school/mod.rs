@@ -7,6 +7,7 @@ mod declarations;
 mod fault;
 mod names;
 mod names_file;
+mod nearest;
 mod parse;
 mod print;
 mod scope;

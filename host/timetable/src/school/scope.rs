@@ -4,6 +4,7 @@ use super::cursor::Cursor;
 use super::declarations::Declarations;
 use super::fault::TextFault;
 use super::names::ResourceSort;
+use super::nearest::missing;
 use super::parse::Builder;
 use crate::instance::{Counts, Instance, Thing};
 
@@ -63,8 +64,7 @@ impl<'a> Scope<'a> {
             _ => &self.declared.lessons,
         };
         let found = index.get(&word.text).copied();
-        let message = || format!("there is no {one} '{}'", word.text);
-        found.ok_or_else(|| TextFault::at(word.place, message()))
+        found.ok_or_else(|| TextFault::at(word.place, missing(one, &word.text, index.keys())))
     }
 
     /// What `each` or `all` stands for; it is never nothing.

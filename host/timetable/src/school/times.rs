@@ -6,6 +6,7 @@ use super::fault::TextFault;
 use super::names::Names;
 use super::words::{written, Word};
 use std::collections::HashMap;
+use std::ops::Range;
 
 /// The times and days of a school by name.
 #[derive(Default)]
@@ -81,10 +82,8 @@ impl TimeIndex {
         let word = cursor.name("a time, a day, '*.' with a period, 'all' or 'none'")?;
         let Some(&first) = self.times.get(&word.text) else {
             let period = word.text.strip_prefix(EVERY_DAY).filter(|_| !word.quoted);
-            let members = self
-                .days
-                .get(&word.text)
-                .or_else(|| period.and_then(|period| self.periods.get(period)));
+            let period = period.and_then(|period| self.periods.get(period));
+            let members = self.days.get(&word.text).or(period);
             let message = format!("there is no time, day or period '{}'", word.text);
             return members
                 .cloned()
@@ -104,33 +103,64 @@ impl TimeIndex {
                 );
                 Err(TextFault::at(place, message))
             }
-            None => Err(TextFault::at(
-                place,
-                format!("there is no time '{}'", word.text),
-            )),
+            None => {
+                let message = format!("there is no time '{}'", word.text);
+                Err(TextFault::at(place, message))
+            }
         }
     }
 }
 
-/// The words that name `members`: whole days by name, runs of a day as spans.
+/// The words that name `members`: whole days and periods by name, runs of a day
+/// as spans.
 pub fn set_words(names: &Names, members: &[usize]) -> Vec<String> {
-    if members.is_empty() {
-        return vec!["none".to_string()];
+    let times = names.times();
+    match members.len() {
+        0 => return vec!["none".to_string()],
+        count if count == times.len() => return vec!["all".to_string()],
+        _ => {}
     }
-    let all = names.times();
-    if members.len() == all.len() {
-        return vec!["all".to_string()];
+    let mut open = vec![false; times.len()];
+    members.iter().for_each(|&time| open[time] = true);
+    let mut words = period_words(names, &times, &mut open);
+    for (day, span) in names.spans() {
+        let here: Vec<usize> = span.clone().filter(|&time| open[time]).collect();
+        match &day.name {
+            Some(name) if here.len() == span.len() => words.push(written(name)),
+            _ => words.extend(run_words(&times, &here)),
+        }
+    }
+    words
+}
+
+/// The periods that are there on every day that has them, two days at least;
+/// their times are no longer open. Whole days are left to be named as such.
+fn period_words(names: &Names, times: &[String], open: &mut [bool]) -> Vec<String> {
+    let spans = names.spans();
+    let mut periods: Vec<(&String, Vec<usize>)> = Vec::new();
+    for (day, span) in spans.iter().filter(|(day, _)| day.name.is_some()) {
+        for (period, time) in day.periods.iter().zip(span.clone()) {
+            match periods.iter_mut().find(|(known, _)| *known == period) {
+                Some((_, at)) => at.push(time),
+                None => periods.push((period, vec![time])),
+            }
+        }
+    }
+    let whole = |span: &Range<usize>, open: &[bool]| open[span.clone()].iter().all(|&one| one);
+    if spans.iter().any(|(_, span)| whole(span, open)) {
+        return Vec::new();
     }
     let mut words = Vec::new();
-    for (day, span) in names.spans() {
-        let here: Vec<usize> = members
-            .iter()
-            .copied()
-            .filter(|time| span.contains(time))
-            .collect();
-        match &day.name {
-            Some(name) if here.len() == span.len() && !span.is_empty() => words.push(written(name)),
-            _ => words.extend(run_words(&all, &here)),
+    for (period, at) in periods {
+        let word = format!("{EVERY_DAY}{period}");
+        // A time or day of that very name, or a name in quotes, would be read otherwise.
+        let days = names.days.iter().filter_map(|day| day.name.as_ref());
+        let clear = written(&word) == word
+            && !times.contains(&word)
+            && !days.clone().any(|day| *day == word);
+        if clear && at.len() > 1 && at.iter().all(|&time| open[time]) {
+            at.iter().for_each(|&time| open[time] = false);
+            words.push(word);
         }
     }
     words

@@ -2,7 +2,7 @@
 //! or for each constraint.
 
 use super::grid::Grid;
-use super::text::{weight, CHARGE_COLUMNS};
+use super::words::{weight, CHARGE_COLUMNS};
 use super::View;
 use crate::school::ResourceSort;
 

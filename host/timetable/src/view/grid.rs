@@ -3,7 +3,7 @@
 use super::charges::{Place, Subject};
 use super::View;
 use crate::instance::{Kind, Thing, Value};
-use crate::school::{Day, ResourceSort};
+use crate::school::{Day, Names, ResourceSort, School};
 use std::collections::HashSet;
 
 /// The week of one resource, or of the lessons that have none.
@@ -60,23 +60,44 @@ pub fn grids(view: &View, resources: &[usize], others: bool) -> Vec<Grid> {
 }
 
 fn grid(view: &View, resource: Option<usize>) -> Grid {
-    let names = &view.school.names;
-    let instance = &view.school.instance;
+    let School { instance, names } = view.school;
     let here = |&lesson: &usize| match resource {
         Some(resource) => instance.uses(lesson, resource),
         None => instance.events[lesson].resources.is_empty(),
     };
     let lessons: Vec<usize> = (0..instance.events.len()).filter(here).collect();
+    let days = names.days.iter();
+    let broken = view.broken().map(|(number, _)| number);
+    let concerned =
+        |&number: &usize| concerns(&instance.constraints[number].kind, resource, &lessons);
+    Grid {
+        resource,
+        title: title(view, resource),
+        days: days
+            .map(|day| day.name.clone().unwrap_or_default())
+            .collect(),
+        rows: rows(names, cells(view, resource, &lessons)),
+        broken: broken.filter(concerned).collect(),
+    }
+}
+
+/// The cell of each time.
+fn cells(view: &View, resource: Option<usize>, lessons: &[usize]) -> Vec<Option<Cell>> {
     let mut marked = HashSet::new();
-    let mut cells: Vec<Option<Cell>> = Vec::new();
-    for (_, span) in names.spans() {
+    let mut cells = Vec::new();
+    for (_, span) in view.school.names.spans() {
         for time in span.clone() {
             let goes_on = time > span.start;
-            let cell = cell(view, resource, &lessons, time, goes_on);
+            let cell = cell(view, resource, lessons, time, goes_on);
             cells.push(Some(cell.with_costs_once(&mut marked)));
         }
     }
-    let rows = periods(&names.days).into_iter().map(|period| Row {
+    cells
+}
+
+/// The cells of the times, a row for each period.
+fn rows(names: &Names, mut cells: Vec<Option<Cell>>) -> Vec<Row> {
+    let mut row = |period: String| Row {
         cells: names
             .spans()
             .into_iter()
@@ -86,22 +107,9 @@ fn grid(view: &View, resource: Option<usize>) -> Grid {
             })
             .collect(),
         period,
-    });
-    Grid {
-        resource,
-        title: title(view, resource),
-        days: names
-            .days
-            .iter()
-            .map(|day| day.name.clone().unwrap_or_default())
-            .collect(),
-        rows: rows.collect(),
-        broken: view
-            .broken()
-            .map(|(number, _)| number)
-            .filter(|&number| concerns(&instance.constraints[number].kind, resource, &lessons))
-            .collect(),
-    }
+    };
+    let periods = periods(&names.days).into_iter();
+    periods.map(&mut row).collect()
 }
 
 /// "Class 1A", and just the name of a resource of no known sort.
@@ -138,11 +146,8 @@ fn cell(
     goes_on: bool,
 ) -> Cell {
     let marks_on = |subject: Subject| -> Vec<Mark> {
-        let place = Place { subject, time };
-        let broken = view
-            .broken()
-            .filter(|(_, charge)| charge.places.contains(&place));
-        let mark = |(constraint, _)| Mark {
+        let broken = view.broken_at(Place { subject, time }).iter();
+        let mark = |&constraint| Mark {
             constraint,
             first: false,
         };
@@ -175,17 +180,18 @@ impl Cell {
     }
 }
 
-/// Whether a constraint speaks of the resource or of one of the lessons.
+/// Whether a constraint speaks of the resource or of one of the lessons, which
+/// ascend.
 fn concerns(kind: &Kind, resource: Option<usize>, lessons: &[usize]) -> bool {
     let mut fields = kind.facts().fields.iter().zip(kind.values());
     fields.any(|(field, value)| {
-        let named: &[usize] = match &value {
+        let named = match &value {
             Value::One(one) => std::slice::from_ref(one),
             Value::Many(many) => many,
         };
         match field.sort.thing() {
             Some(Thing::Resource) => named.iter().any(|&one| Some(one) == resource),
-            Some(Thing::Event) => named.iter().any(|one| lessons.contains(one)),
+            Some(Thing::Event) => named.iter().any(|one| lessons.binary_search(one).is_ok()),
             _ => false,
         }
     })

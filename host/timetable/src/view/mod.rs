@@ -2,12 +2,14 @@
 //! HTML page or as CSV, and what each constraint charges.
 
 mod charges;
+mod counts;
 mod csv;
 mod diff;
 mod grid;
 mod html;
 mod sheet;
 mod text;
+mod words;
 
 pub use charges::{charges, Charge, Place, Subject, Totals};
 pub use csv::{charges_csv, lessons_csv};
@@ -18,6 +20,7 @@ pub use sheet::Sheet;
 pub use text::{charges_text, diff_text, grids_text};
 
 use crate::school::{constraint_line, School};
+use std::collections::HashMap;
 use std::ops::Range;
 
 /// A school with one of its timetables.
@@ -26,6 +29,8 @@ pub struct View<'a> {
     pub sheet: Sheet<'a>,
     /// What each constraint charges, in the order of the file.
     pub charges: Vec<Charge>,
+    /// The constraints that are broken at each place, from 0.
+    broken_at: HashMap<Place, Vec<usize>>,
 }
 
 impl<'a> View<'a> {
@@ -33,10 +38,17 @@ impl<'a> View<'a> {
     pub fn new(school: &'a School, table: &'a [u8]) -> Option<Self> {
         let sheet = Sheet::over(&school.instance, table)?;
         let charges = charges(&school.instance, &sheet);
+        let mut broken_at: HashMap<Place, Vec<usize>> = HashMap::new();
+        for (number, charge) in charges.iter().enumerate() {
+            for &place in &charge.places {
+                broken_at.entry(place).or_default().push(number);
+            }
+        }
         Some(View {
             school,
             sheet,
             charges,
+            broken_at,
         })
     }
 
@@ -48,6 +60,11 @@ impl<'a> View<'a> {
     pub fn broken(&self) -> impl Iterator<Item = (usize, &Charge)> {
         let all = self.charges.iter().enumerate();
         all.filter(|(_, charge)| charge.deviation > 0)
+    }
+
+    /// The constraints that are broken at `place`, from 0.
+    pub fn broken_at(&self, place: Place) -> &[usize] {
+        self.broken_at.get(&place).map_or(&[], Vec::as_slice)
     }
 
     /// The constraint `number`, from 0, in the text form.

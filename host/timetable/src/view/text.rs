@@ -1,8 +1,9 @@
 //! Grids and charges for a terminal.
 
-use super::charges::{Charge, Totals};
+use super::charges::Totals;
 use super::diff::{Diff, Moved};
 use super::grid::{Cell, Grid, Mark};
+use super::words::{amount, others, weight, CHARGE_COLUMNS};
 use super::View;
 
 /// The grids one below the other, each with what is broken in it.
@@ -11,6 +12,9 @@ pub fn grids_text(view: &View, grids: &[Grid]) -> String {
     grids.collect::<Vec<_>>().join("\n")
 }
 
+/// What stands where a day has no such period.
+const ABSENT: &str = "-";
+
 fn grid_text(view: &View, grid: &Grid) -> String {
     let mut table = vec![vec![Vec::new()]];
     table[0].extend(grid.days.iter().map(|day| vec![day.clone()]));
@@ -18,7 +22,7 @@ fn grid_text(view: &View, grid: &Grid) -> String {
         let mut cells = vec![vec![row.period.clone()]];
         cells.extend(row.cells.iter().map(|cell| match cell {
             Some(cell) => cell_lines(view, grid, cell),
-            None => Vec::new(),
+            None => vec![ABSENT.to_string()],
         }));
         table.push(cells);
     }
@@ -55,15 +59,6 @@ fn cell_lines(view: &View, grid: &Grid, cell: &Cell) -> Vec<String> {
     lines
 }
 
-/// The names of a lesson's resources beside that of the grid.
-pub fn others<'a>(view: &'a View, grid: &Grid, lesson: usize) -> Vec<&'a str> {
-    let resources = view.school.instance.events[lesson].resources.iter();
-    let others = resources.filter(|&&resource| Some(resource) != grid.resource);
-    others
-        .map(|&at| view.school.names.resources[at].name.as_str())
-        .collect()
-}
-
 /// "!12 +5": constraint 12 is broken, which costs 5; further marks of it in a
 /// grid are "!12".
 fn mark(view: &View, mark: Mark) -> String {
@@ -71,14 +66,6 @@ fn mark(view: &View, mark: Mark) -> String {
     match mark.first {
         true => format!("!{number} {}", amount(&view.charges[mark.constraint])),
         false => format!("!{number}"),
-    }
-}
-
-/// What a charge adds: "+5" to the cost, "hard 2" to the infeasibility.
-pub fn amount(charge: &Charge) -> String {
-    match charge.is_hard() {
-        true => format!("hard {}", charge.amount()),
-        false => format!("+{}", charge.amount()),
     }
 }
 
@@ -142,17 +129,6 @@ pub fn charges_text(view: &View, all: bool) -> String {
         if cells.len() > 1 { "" } else { "none\n" },
         view.charges.len(),
     )
-}
-
-/// The columns of the table of charges.
-pub const CHARGE_COLUMNS: [&str; 5] = ["constraint", "deviation", "weight", "charge", "in words"];
-
-/// A charge's weight in words.
-pub fn weight(charge: &Charge) -> String {
-    match charge.is_hard() {
-        true => "hard".to_string(),
-        false => charge.weight.to_string(),
-    }
 }
 
 /// What moved and which charges changed.

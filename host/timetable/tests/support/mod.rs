@@ -3,6 +3,7 @@
 
 use std::fs;
 use std::io::Write;
+use std::os::unix::fs::PermissionsExt;
 use std::path::{Path, PathBuf};
 use std::process::{Command, Stdio};
 use timetable::number::write_number;
@@ -99,4 +100,20 @@ pub fn folder() -> PathBuf {
 pub fn file(name: &str, bytes: &[u8]) -> String {
     fs::write(folder().join(name), bytes).expect("a file in the tests' folder");
     name.to_string()
+}
+
+/// Stand-ins for solvers: makes scripts of these names in a folder of their own, each with the
+/// variable R for the recordings, and gives their paths with commas between.
+pub fn stand_ins(folder_name: &str, scripts: &[(&str, &str)]) -> String {
+    let folder = folder().join(folder_name);
+    fs::create_dir_all(&folder).expect("a folder for the scripts");
+    let paths = scripts.iter().map(|(name, script)| {
+        let path = folder.join(name);
+        let recorded = host().join("recorded");
+        let text = format!("#!/bin/sh\nR='{}'\n{script}\n", recorded.display());
+        fs::write(&path, text).expect("a script");
+        fs::set_permissions(&path, fs::Permissions::from_mode(0o755)).expect("a script that runs");
+        path.to_str().expect("a path").to_string()
+    });
+    paths.collect::<Vec<_>>().join(",")
 }

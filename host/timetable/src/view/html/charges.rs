@@ -1,7 +1,7 @@
 //! The table of charges.
 
 use super::super::charges::{Charge, Totals};
-use super::super::text::weight;
+use super::super::words::weight;
 use super::super::View;
 use super::{escaped, head, Part};
 

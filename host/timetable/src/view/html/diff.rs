@@ -2,7 +2,7 @@
 
 use super::super::diff::Diff;
 use super::super::grid::Grid;
-use super::super::text::amount;
+use super::super::words::amount;
 use super::super::View;
 use super::{charges, document, escaped, grid, head, summary, Part};
 

@@ -2,7 +2,7 @@
 
 use super::super::diff::Diff;
 use super::super::grid::{Cell, Grid, Mark, Placed, Row};
-use super::super::text::{amount, others};
+use super::super::words::{amount, others};
 use super::super::View;
 use super::{escaped, Part};
 
