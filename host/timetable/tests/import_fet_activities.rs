@@ -92,6 +92,16 @@ fn starts_of_activities() {
     });
 }
 
+/// A subject may be named by spaces; a filter for it does not fit all.
+#[test]
+fn spaces_in_names_count() {
+    let slots = times("Preferred_Time_Slot", "Preferred_", &[("Tu", 1), ("Tu", 2)]);
+    let fields = format!("<Subject_Name>  </Subject_Name>{slots}");
+    let text = school(&rule("ActivitiesPreferredTimeSlots", "100", &fields), "");
+    let text = text.replace("<Subject>Sport</Subject>", "<Subject>  </Subject>");
+    judge(&text, |starts| starts[2] == 3, true);
+}
+
 #[test]
 fn slots_of_activities() {
     let slots = times(

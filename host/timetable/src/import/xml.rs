@@ -47,9 +47,15 @@ impl Element {
         self.children.iter().filter(move |child| child.name == name)
     }
 
-    /// The text of the first child of this name; empty if there is none.
+    /// The text of the first child of this name, spaces around it cut off; empty if there is
+    /// none.
     pub fn field(&self, name: &str) -> &str {
-        self.child(name).map_or("", |child| child.text.trim())
+        self.verbatim(name).trim()
+    }
+
+    /// The text of the first child of this name with all its spaces; empty if there is none.
+    pub fn verbatim(&self, name: &str) -> &str {
+        self.child(name).map_or("", |child| child.text.as_str())
     }
 
     /// The value of an attribute.

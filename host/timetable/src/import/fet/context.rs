@@ -68,7 +68,7 @@ impl Context<'_> {
                 .children
                 .iter()
                 .find(|child| child.name.ends_with(suffix));
-            let text = child.map_or("", |child| child.text.trim());
+            let text = child.map_or("", |child| child.text.as_str());
             let place = names.iter().position(|name| name == text);
             place.ok_or_else(|| {
                 let what = suffix.to_lowercase();
@@ -89,7 +89,7 @@ impl Context<'_> {
 
     /// The hour that a field names.
     pub fn hour(&self, item: &Element, field: &str) -> Result<usize, Fault> {
-        let name = item.field(field);
+        let name = item.verbatim(field);
         let hour = self.school.hours.iter().position(|hour| hour == name);
         hour.ok_or_else(|| Fault::at(item, format!("there is no hour '{name}'")))
     }

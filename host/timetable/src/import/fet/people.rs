@@ -44,7 +44,7 @@ const RULES: &[(&str, fn(&Case) -> Wishes)] = &[
 /// matched against them in this order.
 const ABOUT: &[(&str, fn(&Context, &Element) -> Result<Vec<usize>, Fault>)] = &[
     ("ConstraintStudentsSet", |context, item| {
-        context.classes_of(item, item.field("Students"))
+        context.classes_of(item, item.verbatim("Students"))
     }),
     ("ConstraintStudents", |context, _| {
         Ok(context
@@ -59,7 +59,7 @@ const ABOUT: &[(&str, fn(&Context, &Element) -> Result<Vec<usize>, Fault>)] = &[
     ("ConstraintTeacher", |context, item| {
         let field = ["Teacher_Name", "Teacher"];
         let named = field.iter().find_map(|field| item.child(field));
-        let name = named.map_or("", |child| child.text.trim());
+        let name = named.map_or("", |child| child.text.as_str());
         Ok(context.teacher(item, name)?.into_iter().collect())
     }),
 ];
@@ -104,7 +104,7 @@ impl Case<'_> {
     fn who_with_tag(&self) -> Who {
         let fields = ["Activity_Tag_Name", "Activity_Tag"];
         let named = fields.iter().find_map(|field| self.item.child(field));
-        let tag = named.map_or("", |child| child.text.trim());
+        let tag = named.map_or("", |child| child.text.as_str());
         let school = self.context.school;
         let tagged = |&at: &usize| school.activities[at].tags.iter().any(|known| known == tag);
         let lessons = &self.context.lessons.lessons;
@@ -206,7 +206,7 @@ fn min_days_per_week(case: &Case) -> Wishes {
 fn interval_max_days(case: &Case) -> Wishes {
     let most = number(case.item, "Max_Days_Per_Week")?;
     let first = case.context.hour(case.item, "Interval_Start_Hour")?;
-    let end = match case.item.field("Interval_End_Hour") {
+    let end = match case.item.verbatim("Interval_End_Hour") {
         "" => case.hours(),
         _ => case.context.hour(case.item, "Interval_End_Hour")?,
     };

@@ -100,7 +100,7 @@ impl Case<'_> {
         }
         let duration = optional_number(self.item, "Duration")?;
         let component = optional_number(self.item, "Component_Number")?;
-        let field = |name: &str| self.item.field(name).to_string();
+        let field = |name: &str| self.item.verbatim(name).to_string();
         let (teacher, students) = (field("Teacher_Name"), field("Students_Name"));
         let (subject, tag) = (field("Subject_Name"), field("Activity_Tag_Name"));
         let school = self.context.school;

@@ -79,12 +79,12 @@ impl Rooms {
 
     fn room(&mut self, item: &Element) -> &mut Room {
         self.rooms
-            .entry(item.field("Room").to_string())
+            .entry(item.verbatim("Room").to_string())
             .or_default()
     }
 
     fn standing(&self, item: &Element) -> Standing {
-        let room = self.rooms.get(item.field("Room"));
+        let room = self.rooms.get(item.verbatim("Room"));
         room.map_or(Standing::NoRoomLeft, |room| room.standing)
     }
 
@@ -143,7 +143,7 @@ fn is_real(context: &Context, item: &Element) -> bool {
         .school
         .rooms
         .iter()
-        .any(|room| room == item.field("Room"))
+        .any(|room| room == item.verbatim("Room"))
 }
 
 /// The events that an item pins: of one activity, or of a subject and tag.
@@ -151,7 +151,7 @@ fn pinned(context: &Context, item: &Element) -> Result<Vec<usize>, Fault> {
     if item.child("Activity_Id").is_some() {
         return Ok(context.events(&activities(context.school, item, "Activity_Id")?));
     }
-    let (subject, tag) = (item.field("Subject"), item.field("Activity_Tag"));
+    let (subject, tag) = (item.verbatim("Subject"), item.verbatim("Activity_Tag"));
     let known = context.school.activities.iter().enumerate();
     let fits = known.filter(|(_, activity)| {
         (subject.is_empty() || activity.subject == subject)

@@ -88,7 +88,7 @@ impl School {
             id,
             group: number(element, "Activity_Group_Id").unwrap_or(0),
             teachers: texts(element, "Teacher"),
-            subject: element.field("Subject").to_string(),
+            subject: element.verbatim("Subject").to_string(),
             tags: texts(element, "Activity_Tag"),
             students: texts(element, "Students"),
             duration: number(element, "Duration")?,
@@ -159,9 +159,10 @@ impl School {
     }
 }
 
-/// The texts of all children of this name that are not empty.
+/// The texts of all children of this name that are not empty. Spaces count: FET has names
+/// of nothing else.
 pub fn texts(element: &Element, name: &str) -> Vec<String> {
-    let texts = element.all(name).map(|child| child.text.trim());
+    let texts = element.all(name).map(|child| child.text.as_str());
     texts
         .filter(|text| !text.is_empty())
         .map(str::to_string)
@@ -176,7 +177,7 @@ fn names(root: &Element, list: &str, member: &str) -> Vec<String> {
     };
     let members = list
         .all(member)
-        .map(|known| known.field("Name").to_string());
+        .map(|known| known.verbatim("Name").to_string());
     members.chain(texts(list, "Name")).collect()
 }
 
@@ -184,5 +185,5 @@ fn real_rooms(root: &Element) -> Vec<String> {
     let rooms = root.child("Rooms_List");
     let rooms = rooms.iter().flat_map(|list| list.all("Room"));
     let real = rooms.filter(|room| room.field("Virtual") != "true");
-    real.map(|room| room.field("Name").to_string()).collect()
+    real.map(|room| room.verbatim("Name").to_string()).collect()
 }

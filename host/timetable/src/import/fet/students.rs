@@ -39,7 +39,7 @@ impl Students {
     /// Adds a year or a group, and gives its subgroups. A set that stands at several
     /// places is one set.
     fn add(&mut self, set: &Element, inner: &[&str]) -> BTreeSet<usize> {
-        let name = set.field("Name").to_string();
+        let name = set.verbatim("Name").to_string();
         let mut members = BTreeSet::new();
         if let [parts, further @ ..] = inner {
             for part in set.all(parts) {
