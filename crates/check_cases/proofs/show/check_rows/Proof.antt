@@ -42,7 +42,7 @@ use Rattle.scope.proofs.CheckAnswer.Laws as S′
 use Rattle.store.specs.declared.directory.Row.{Row}
 use Rattle.store.proofs.Walk.{ty-at, Addrs, addr-at, rotate, allocs-all, frees-all, var, part, fills}
 use Rattle.store.proofs.Slices.{at-list, Whole, lent, back}
-use Rattle.store.proofs.Calls.{calls-to}
+use Rattle.store.proofs.Calls.{says-all, calls-to}
 use Rattle.store.proofs.Elements.{IsRow, row-typed}
 use Rattle.store.proofs.directory.Row as R
 use Rattle.store.proofs.directory.Row.Laws as R′
@@ -59,7 +59,7 @@ use denote.Steps.{peeks}
 use denote.Struct.Laws as LL
 use denote.Triple.Walked.{needs}
 use borrow.Table.Elements.{at as place-at, cut-app, join-app}
-use Rattle.checker.proofs.Values.{IsAnswer, answer-same, answer-typed, says-all}
+use Rattle.checker.proofs.Values.{IsAnswer, answer-same, answer-typed}
 use Rattle.check_cases.proofs.Local.{made, emptied}
 use Rattle.checker.proofs.Calling.{check-to, to-check, Checking, goes-check}
 use Rattle.checker.proofs.check as check
