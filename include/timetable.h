@@ -1,11 +1,11 @@
 /*
  * The timetable engine, as C functions over the caller's memory.
  *
- * Link libtimetable (x86-64 Linux; 'make install' puts it where pkg-config
- * finds it as 'timetable'). Each function is proved to do what its comment says
- * for input of any content and length: it never traps, never runs on, keeps
- * nothing between calls and allocates nothing. timetable.hpp has the same
- * operations for C++.
+ * Link libtimetable (x86-64 Linux): ./prove builds it, and 'make install' puts
+ * it where pkg-config finds it as 'timetable'. Each function is proved to do
+ * what its comment says for input of any content and length: it never traps,
+ * never runs on, keeps nothing between calls and allocates nothing.
+ * timetable.hpp has the same operations for C++.
  *
  * What every function answers. The result is 0 if the call is accepted, and
  * else the number of the first refusal below, in the order in which the

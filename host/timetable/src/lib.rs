@@ -1,4 +1,10 @@
-//! The timetable engine behind safe functions, and the command over it.
+//! The timetable engine behind safe functions (`engine`), the command over it
+//! (`command`), and what the command does around the engine: instances as typed
+//! values, schools as text, other formats, outside solvers, timetables to look
+//! at, and refusals in words.
+
+// The C functions are called in one file alone.
+#![deny(unsafe_code)]
 
 #[cfg(feature = "engine")]
 pub mod command;

@@ -162,36 +162,48 @@ fn the_charges_sum_up_to_the_cost() {
 }
 
 #[test]
-fn the_page_is_whole_and_accessible() {
+fn pages_are_whole_and_accessible() {
     for (name, _) in EXAMPLES {
         let folder = compiled("page", name);
-        let page = accepted(&folder, &["show", "a.instance", "a.timetable", "--html"]);
-        assert!(page.starts_with("<!DOCTYPE html>\n<html lang=\"en\">\n"));
-        assert!(page.contains("<title>") && page.contains("@media print"));
-        for outside in [
-            "<script", "<link", "<img", "http:", "https:", "url(", "@import",
-        ] {
-            assert!(!page.contains(outside), "{name}: {outside}");
-        }
-        let tags = tags(&page);
-        assert!(tags.iter().all(|tag| !tag.starts_with("th")
-            || tag.contains("scope=")
-            || tag.starts_with("thead")));
-        let values = |attribute: &str| -> Vec<String> {
-            let values = tags.iter().filter_map(|tag| tag.split_once(attribute));
-            values
-                .map(|(_, rest)| rest.split('"').next().unwrap_or("").to_string())
-                .collect()
-        };
-        let ids = values(" id=\"");
-        let all: BTreeSet<&String> = ids.iter().collect();
-        assert_eq!(ids.len(), all.len(), "{name}: an id stands twice");
-        for target in values(" href=\"#")
-            .iter()
-            .chain(&values(" aria-labelledby=\""))
-        {
-            assert!(all.contains(target), "{name}: {target} is not there");
-        }
+        let show = ["show", "a.instance", "a.timetable", "--html"];
+        is_whole_and_accessible(&accepted(&folder, &show));
+    }
+    let folder = compiled("page", "village");
+    let moved = examples().join("village-moved.timetable");
+    let moved = moved.to_str().expect("a path");
+    let diff = ["diff", "a.instance", "a.timetable", moved, "--html"];
+    let page = run(&folder, &diff).printed;
+    is_whole_and_accessible(&page);
+    // Once for its class and once for its teacher.
+    assert_eq!(page.matches("<em>moved</em>").count(), 2);
+    assert!(visible(&page).contains("Nature-Upper | Mon.4 | Thu.3 |\n"));
+}
+
+/// The page needs no other file, its tags are balanced, its links lead
+/// somewhere, and its tables say what their heads are the heads of.
+fn is_whole_and_accessible(page: &str) {
+    assert!(page.starts_with("<!DOCTYPE html>\n<html lang=\"en\">\n"));
+    assert!(page.contains("<title>") && page.contains("@media print"));
+    for outside in [
+        "<script", "<link", "<img", "http:", "https:", "url(", "@import",
+    ] {
+        assert!(!page.contains(outside), "{outside}");
+    }
+    let tags = tags(page);
+    let heads = tags.iter().filter(|tag| tag.starts_with("th "));
+    assert!(heads.clone().all(|tag| tag.contains("scope=\"")));
+    assert!(heads.count() > 0 && !tags.iter().any(|tag| tag == "th"));
+    let values = |attribute: &str| -> Vec<String> {
+        let values = tags.iter().filter_map(|tag| tag.split_once(attribute));
+        let values = values.map(|(_, rest)| rest.split('"').next().unwrap_or_default());
+        values.map(str::to_string).collect()
+    };
+    let ids = values(" id=\"");
+    let all: BTreeSet<&String> = ids.iter().collect();
+    assert_eq!(ids.len(), all.len(), "an id stands twice");
+    let targets = [values(" href=\"#"), values(" aria-labelledby=\"")].concat();
+    for target in targets {
+        assert!(all.contains(&target), "{target} is not there");
     }
 }
 

@@ -109,17 +109,24 @@ static int read_constraint(struct instance *in, struct reader *r, struct constra
     return 0;
 }
 
-/* The users of each resource, from the resources of each event. */
+/* The users of each resource, from the resources of each event: counted, then put into their places. */
 static void fill_users(struct instance *in)
 {
+    for (uint32_t r = 0; r < in->resources; r++)
+        in->users[r].count = 0;
+    for (uint32_t e = 0; e < in->events; e++)
+        for (uint32_t i = 0; i < in->uses[e].count; i++)
+            in->users[in->store[in->uses[e].first + i] - 1].count++;
     for (uint32_t r = 0; r < in->resources; r++) {
         in->users[r].first = in->used;
-        for (uint32_t e = 0; e < in->events; e++)
-            for (uint32_t i = 0; i < in->uses[e].count; i++)
-                if (in->store[in->uses[e].first + i] == r + 1)
-                    in->store[in->used++] = (uint16_t)(e + 1);
-        in->users[r].count = in->used - in->users[r].first;
+        in->used += in->users[r].count;
+        in->users[r].count = 0;
     }
+    for (uint32_t e = 0; e < in->events; e++)
+        for (uint32_t i = 0; i < in->uses[e].count; i++) {
+            struct list *users = &in->users[in->store[in->uses[e].first + i] - 1];
+            in->store[users->first + users->count++] = (uint16_t)(e + 1);
+        }
 }
 
 /* The store has room for a number for each byte of the file and each use of a resource. */

@@ -1,7 +1,7 @@
 /*
  * plain JOB MILLISECONDS INSTANCE [TABLE | MODEL | BOUND PROOF]
  *
- * Does a job again and again for so long, and prints the refusal's number, two
+ * Does a job again and again for so long, three times at least, and prints the refusal's number, two
  * numbers of the answer (for a text its length and a checksum), and the
  * microseconds of the fastest time. Each time the instance file is read anew.
  */
@@ -120,14 +120,14 @@ int main(int count, char **words)
     in.store = malloc(sizeof(uint16_t) * (2 * t.file.length + 1));
     lend(&t);
     double fastest = 1e18, begin = now(), turn = atof(words[2]) * 1e3;
-    int bad;
+    int bad, calls = 0;
     do {
         double start = now();
         bad = once(&t);
         double took = now() - start;
         if (took < fastest)
             fastest = took;
-    } while (now() - begin < turn);
+    } while (++calls < 3 || now() - begin < turn);
     if (t.out)
         t.answer[1] = checksum(t.out, t.answer[0]);
     printf("%d %llu %llu %.3f\n", bad, (unsigned long long)t.answer[0], (unsigned long long)t.answer[1], fastest);

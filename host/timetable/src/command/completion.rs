@@ -14,7 +14,8 @@ pub const SUBCOMMAND: Subcommand = Subcommand {
     }],
     options: &[],
     prints: "what the shell is to read",
-    details: "For bash: source <(timetable completion bash)",
+    details: "In bash: source <(timetable completion bash). In zsh the same after \
+              'autoload -U bashcompinit; bashcompinit'.",
     refusals: &[],
     run: |given, _| Ok(Answer::text(given.manual.bash_completion())),
 };

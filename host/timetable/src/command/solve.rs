@@ -30,6 +30,8 @@ use std::time::{Duration, Instant};
 const OPEN: u8 = 3;
 /// The time for solvers if none is given.
 const SECONDS: u64 = 600;
+/// The most that a time can be: a year.
+const MOST_SECONDS: u64 = 365 * 24 * 60 * 60;
 /// Set for the process that does the work: its standard input is the pipe.
 const WORKER: &str = "TIMETABLE_SOLVE_WORKER";
 
@@ -73,8 +75,8 @@ fn run(given: &Given, messages: &mut Messages) -> Result<Answer, Fault> {
     let stop = Arc::new(AtomicBool::new(false));
     match env::var_os(WORKER) {
         Some(_) => stop_at_end_of_input(Arc::clone(&stop)),
-        // The instance came over standard input, so there is none for the pipe.
-        None if given.file("INSTANCE").name == files::input_name(OsStr::new("-")) => {}
+        // What is no regular file cannot be read a second time.
+        None if !Path::new(&given.file("INSTANCE").name).is_file() => {}
         None => return by_worker(),
     }
     let mut watcher = Spoken {
@@ -102,9 +104,10 @@ fn options(given: &Given) -> Result<Options, Fault> {
         Some(folder) => folder.to_path_buf(),
         None => own_folder(&given.file("INSTANCE").name),
     };
+    let seconds = given.number_if("time").unwrap_or(SECONDS);
     Ok(Options {
         folder,
-        time: Duration::from_secs(given.number_if("time").unwrap_or(SECONDS)),
+        time: Duration::from_secs(seconds.min(MOST_SECONDS)),
         programs,
     })
 }

@@ -9,8 +9,10 @@ use crate::solver::formula::Formula;
 use crate::solver::literal::Literal;
 use std::collections::HashMap;
 
-/// Clauses are written out for a refusal's words up to so many variables.
+/// Clauses are written out for a refusal's words up to so many variables, and
+/// steps followed up to so many.
 const MOST_WRITTEN: u64 = 2_000_000;
+const MOST_STEPS: u64 = 10_000_000;
 
 /// Why the step that a refusal names is refused, or what its end lacks.
 pub fn reason(refusal: Refusal, inputs: &Inputs) -> Option<String> {
@@ -58,6 +60,9 @@ struct Run<'a> {
 impl<'a> Run<'a> {
     /// The run before `step`. The steps before it are well formed.
     fn before(step: u64, instance: &'a Instance, inputs: &Inputs<'a>) -> Option<Run<'a>> {
+        if step > MOST_STEPS {
+            return None;
+        }
         let outline = Outline::of(instance);
         let hard = outline.size();
         let tail = inputs.bound.map(|bound| outline.tail(bound));

@@ -8,6 +8,7 @@
 
 mod answers;
 #[cfg(feature = "engine")]
+#[allow(unsafe_code)]
 pub mod call;
 mod limits;
 #[cfg(feature = "engine")]

@@ -29,7 +29,7 @@ impl Literal {
     pub fn from_signed(number: i64) -> Option<Literal> {
         let variable = u32::try_from(number.unsigned_abs()).ok()?;
         let fits = (1..=Literal::LARGEST_VARIABLE).contains(&variable);
-        fits.then_some(Literal(2 * variable + u32::from(number < 0)))
+        fits.then(|| Literal(2 * variable + u32::from(number < 0)))
     }
 
     pub fn code(self) -> u32 {

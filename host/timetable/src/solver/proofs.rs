@@ -46,14 +46,15 @@ pub enum Form {
 
 impl Form {
     /// The form of `proof`. A binary proof ends each list with the byte 0,
-    /// which no text has. In text a line with an id tells LRAT: it holds two
-    /// lists, or `d` behind its first word. A binary proof is DRAT if it can be
-    /// read so: in LRAT the hints stand where DRAT has the next step's letter.
+    /// which no text has. A text is LRAT if every line has an id: it then holds
+    /// two lists, or `d` behind its first word. A binary proof is DRAT if it can
+    /// be read so: in LRAT the hints stand where DRAT has the next step's letter.
     pub fn of(proof: &[u8]) -> Form {
         match proof.contains(&0) {
             true if drat::from_binary(proof).is_ok() => Form::DratBinary,
             true => Form::LratBinary,
-            false if lines(proof).next().is_some_and(has_id) => Form::LratText,
+            false if lines(proof).next().is_none() => Form::DratText,
+            false if lines(proof).all(has_id) => Form::LratText,
             false => Form::DratText,
         }
     }
@@ -117,6 +118,7 @@ mod tests {
             (b"0\n", Form::DratText),
             (b"c 1 0 2 0\n1 -2 0\n", Form::DratText),
             (b"d 1 -2 0\n", Form::DratText),
+            (b"1 0 -2 0\n0\n", Form::DratText),
             (b"17 1 -2 0 3 4 0\n", Form::LratText),
             (b"16 d 1 0\n", Form::LratText),
             (b"17 0 3 4 0\n", Form::LratText),

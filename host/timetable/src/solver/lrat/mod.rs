@@ -46,7 +46,7 @@ pub fn from_binary_over(
             Err(Fault::Stopped) => return Err(Fault::Stopped),
             Err(fault) => {
                 let lemmas = replay.lemmas();
-                if !furthest.as_ref().is_some_and(|(most, _)| *most >= lemmas) {
+                if furthest.as_ref().is_none_or(|(most, _)| *most < lemmas) {
                     furthest = Some((lemmas, fault));
                 }
             }

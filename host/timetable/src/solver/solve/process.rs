@@ -102,7 +102,8 @@ mod tests {
 
     struct Lines {
         seen: Vec<String>,
-        until: Instant,
+        /// The program is ended after so many lines.
+        enough: usize,
     }
 
     impl Judge for Lines {
@@ -113,32 +114,32 @@ mod tests {
         }
 
         fn goes_on(&mut self) -> Result<bool, Fault> {
-            Ok(Instant::now() < self.until)
+            Ok(self.seen.len() < self.enough)
         }
     }
 
-    fn lines(script: &str, seconds: u64) -> (Result<End, Fault>, Vec<String>) {
+    fn lines(script: &str, enough: usize) -> (Result<End, Fault>, Vec<String>) {
         let mut command = Command::new("sh");
         command.args(["-c", script]);
         let mut judge = Lines {
             seen: Vec::new(),
-            until: Instant::now() + Duration::from_secs(seconds),
+            enough,
         };
         (run(command, &mut judge), judge.seen)
     }
 
     #[test]
     fn the_output_comes_whole() {
-        let (end, seen) = lines("echo one; sleep 0.2; printf 'two\\nthree'", 60);
+        let (end, seen) = lines("echo one; sleep 0.2; printf 'two\\nthree'", usize::MAX);
         assert_eq!(end, Ok(End::Finished));
         assert_eq!(seen, ["one", "two", "three"]);
-        let (end, seen) = lines("seq 5000", 60);
+        let (end, seen) = lines("seq 5000", usize::MAX);
         assert_eq!(end, Ok(End::Finished));
         assert_eq!(seen.len(), 5000);
     }
 
     #[test]
-    fn a_program_whose_time_is_up_is_ended() {
+    fn a_program_is_ended_when_the_judge_says_so() {
         let started = Instant::now();
         let (end, seen) = lines("echo one; exec sleep 600", 1);
         assert_eq!(end, Ok(End::Ended));
@@ -150,7 +151,7 @@ mod tests {
     fn a_program_that_is_not_there_is_told() {
         let mut judge = Lines {
             seen: Vec::new(),
-            until: Instant::now(),
+            enough: 1,
         };
         let missing = Command::new("no-such-solver");
         let Err(Fault::Failed(words)) = run(missing, &mut judge) else {
