@@ -178,14 +178,16 @@ fn proofs_without_the_tail_are_checked_alike() {
 #[test]
 fn best_models_are_found_alike() {
     let seen = each_seed(FORMULAS, |random| {
+        let dear = random.below(50) == 0;
         let soft = random.pick(&[90, 100]);
-        let instance = instance(
-            random,
-            &Shape {
+        let shape = match dear {
+            true => many_units(),
+            false => Shape {
                 soft,
                 ..refutable()
             },
-        );
+        };
+        let instance = instance(random, &shape);
         let file = match random.below(100) {
             0 => oversized(),
             1 => long_list(),
@@ -197,6 +199,10 @@ fn best_models_are_found_alike() {
             0 => damaged_table(random, &model),
             _ => model,
         };
+        if dear {
+            // Most often the cost is above every bound.
+            return number_of(best(&file, &model, &[], [0, 0, 0]));
+        }
         let cost = reference_cost(&instance, &model);
         let bound = cost.saturating_sub(1);
         let Ok(sizes) = Sizes::of(&instance, Some(bound)) else {

@@ -161,7 +161,12 @@ fn check_at_none_says_that_there_is_no_timetable_at_all() {
     assert_eq!(found.printed, "no timetable at all\nsteps 1\n");
     assert_eq!((found.said.as_str(), found.status), ("", 0));
     // The proof at a bound names clauses of the tail.
-    let found = run(&["check", &school("toy.instance"), "none", &school("toy.proof")]);
+    let found = run(&[
+        "check",
+        &school("toy.instance"),
+        "none",
+        &school("toy.proof"),
+    ]);
     assert!(found.printed.starts_with("refused 1"), "{}", found.printed);
     assert_eq!(found.status, 1);
     let found = run(&["check", &hard, "nothing", &proof]);
@@ -182,9 +187,16 @@ fn best_says_that_nothing_costs_less_than_a_model() {
         // Without the proof nothing is shown; a timetable is no model.
         let nothing = file("no-proof", &[]);
         let found = run(&["best", &instance, &model, &nothing]);
-        assert_eq!((found.printed.as_str(), found.status), ("refused 18 0\n", 1));
+        assert_eq!(
+            (found.printed.as_str(), found.status),
+            ("refused 18 0\n", 1)
+        );
         let found = run(&["best", &instance, &proof, &proof]);
-        assert!(found.printed.starts_with("refused 10 "), "{}", found.printed);
+        assert!(
+            found.printed.starts_with("refused 10 "),
+            "{}",
+            found.printed
+        );
     }
 }
 
