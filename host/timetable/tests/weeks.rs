@@ -33,7 +33,7 @@ fn solve(solvers: &str, out: &str, more: &[&str]) -> Run {
 #[test]
 fn a_week_ends_with_the_engines_answers() {
     let solvers = stand_ins("both", &[CLASP, CADICAL]);
-    let found = solve(&solvers, "both-out", &[]);
+    let found = solve(&solvers, "both-out", &["--time", "18446744073709551615"]);
     assert_eq!(
         found.printed,
         "costs 4; none at 3 or less, checked\n\

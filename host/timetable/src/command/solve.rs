@@ -30,6 +30,8 @@ use std::time::{Duration, Instant};
 const OPEN: u8 = 3;
 /// The time for solvers if none is given.
 const SECONDS: u64 = 600;
+/// The most that a time can be: a year.
+const MOST_SECONDS: u64 = 365 * 24 * 60 * 60;
 /// Set for the process that does the work: its standard input is the pipe.
 const WORKER: &str = "TIMETABLE_SOLVE_WORKER";
 
@@ -102,9 +104,10 @@ fn options(given: &Given) -> Result<Options, Fault> {
         Some(folder) => folder.to_path_buf(),
         None => own_folder(&given.file("INSTANCE").name),
     };
+    let seconds = given.number_if("time").unwrap_or(SECONDS);
     Ok(Options {
         folder,
-        time: Duration::from_secs(given.number_if("time").unwrap_or(SECONDS)),
+        time: Duration::from_secs(seconds.min(MOST_SECONDS)),
         programs,
     })
 }

@@ -3,7 +3,7 @@
 use super::process::{self, End, Judge};
 use super::programs::Program;
 use super::week::Week;
-use crate::engine;
+use crate::engine::{self, LARGEST_BOUND};
 use crate::solver::answers::{Answer, Reading};
 use crate::solver::dimacs;
 use crate::solver::formula::Formula;
@@ -12,8 +12,6 @@ use std::time::{Duration, Instant};
 
 /// The least time without a better model after which an optimiser is ended.
 const PATIENCE: Duration = Duration::from_secs(10);
-/// The largest bound that the checker takes.
-const LARGEST_BOUND: u64 = 4_095;
 
 /// Looks for the best timetable and for a proof that none is better.
 pub fn run(
@@ -65,7 +63,11 @@ fn optimise(week: &mut Week, program: &Program) -> Result<(), Fault> {
         impatient: true,
         week,
     };
-    process::run(program.optimising(&path, time), &mut judge)?;
+    let end = process::run(program.optimising(&path, time), &mut judge)?;
+    let Finding { reading, week, .. } = judge;
+    if (reading.end(), end) == (Answer::Unknown, End::Finished) {
+        week.note(format!("{} ended without an answer", program.kind.name()));
+    }
     Ok(())
 }
 
