@@ -73,12 +73,16 @@ fn grid(view: &View, resource: Option<usize>) -> Grid {
     Grid {
         resource,
         title: title(view, resource),
-        days: days
-            .map(|day| day.name.clone().unwrap_or_default())
-            .collect(),
+        days: days.map(day_title).collect(),
         rows: rows(names, cells(view, resource, &lessons)),
         broken: broken.filter(concerned).collect(),
     }
+}
+
+/// The head of a day's column; times of no day have one too.
+fn day_title(day: &Day) -> String {
+    let name = day.name.as_deref();
+    name.unwrap_or("times").to_string()
 }
 
 /// The cell of each time.
