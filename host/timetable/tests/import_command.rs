@@ -37,6 +37,39 @@ fn a_fet_school_is_written_with_its_names() {
     );
 }
 
+/// FET's list of placed activities, as it writes it.
+fn result(places: &[(usize, &str, usize)]) -> String {
+    let placed = places.iter().map(|(id, day, hour)| {
+        format!(
+            "<Activity><Id>{id}</Id><Day>{day}</Day><Hour>{hour}</Hour><Room></Room></Activity>"
+        )
+    });
+    let placed: String = placed.collect();
+    format!("<Activities_Timetable>{placed}</Activities_Timetable>")
+}
+
+#[test]
+fn a_timetable_of_fet_is_priced() {
+    let school = file("placed.fet", WEEK_FET.as_bytes());
+    let places = [(1, "Mo", 1), (2, "Tu", 1), (3, "We", 2), (4, "Mo", 1)];
+    let placed = file("placed.xml", result(&places).as_bytes());
+    let imported = run(&[
+        "import", "fet", &school, "-o", "placed", "--placed", &placed,
+    ]);
+    assert_eq!(imported.status, 0, "{}", imported.said);
+    let score = run(&["score", "placed", "placed.timetable"]);
+    assert_eq!(
+        score.printed, "infeasibility 1\nobjective 0\n",
+        "Ada is at two places"
+    );
+    let placed = file("missing.xml", result(&places[..3]).as_bytes());
+    let refused = run(&[
+        "import", "fet", &school, "-o", "placed", "--placed", &placed,
+    ]);
+    let said = "timetable import: missing.xml:1: activity 4 is not placed\n";
+    assert_eq!((refused.status, refused.said.as_str()), (1, said));
+}
+
 #[test]
 fn what_has_no_counterpart_is_refused_by_default() {
     let text = WEEK_FET.replace("<!-- time rules -->", ORDER);

@@ -6,7 +6,7 @@ mod import;
 use import::*;
 use timetable::engine;
 use timetable::import::Fate;
-use timetable::instance;
+use timetable::instance::{self, Kind};
 
 #[test]
 fn without_rules_only_clashes_are_infeasible() {
@@ -209,6 +209,37 @@ fn a_wish_for_days_between_costs_the_missing_days() {
             no_clash(&starts) && !apart,
             "{starts:?}"
         );
+    }
+}
+
+/// Where a teacher is off, nothing is counted, and what can be placed costs the same.
+#[test]
+fn a_spread_counts_only_where_its_activities_can_start() {
+    let monday = times("Not_Available_Time", "", &[("Mo", 1), ("Mo", 2), ("Mo", 3)]);
+    let off = format!("<Teacher>Ada</Teacher>{monday}");
+    let apart = format!("{}<MinDays>1</MinDays>", ids(&[1, 2]));
+    let rules = rule("TeacherNotAvailableTimes", "100", &off)
+        + &rule("MinDaysBetweenActivities", "95", &apart);
+    let school = import(&school(&rules, "")).unwrap().school;
+    let spreads = school
+        .instance
+        .constraints
+        .iter()
+        .filter_map(|known| match &known.kind {
+            Kind::Spread { events, group, .. } if events.len() == 2 => Some(*group),
+            _ => None,
+        });
+    let counted: Vec<Vec<usize>> = spreads
+        .map(|at| school.instance.groups[at].clone())
+        .collect();
+    assert_eq!(counted, [vec![3, 4, 5], vec![6, 7, 8]]);
+    let bytes = instance::write(&school.instance);
+    for starts in placements() {
+        let score = engine::score(&bytes, &timetable(&starts)).expect("a timetable");
+        if score.infeasibility.0 == 0 {
+            let same_day = u64::from(day_distance(&starts, 0, 1) == 0);
+            assert_eq!(score.objective.0, same_day, "{starts:?}");
+        }
     }
 }
 

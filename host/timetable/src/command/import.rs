@@ -4,9 +4,11 @@ use super::compile::{self, NAMES};
 use super::frame::answer::{Answer, Fault};
 use super::frame::declare::{CommandOption, Count, Operand, Subcommand, Value};
 use super::frame::given::{File, Given};
-use super::frame::operands::{out, JSON};
+use super::frame::operands::{out, JSON, OUT};
 use crate::import::{self, fet, xhstt, xml, Fate, Imported};
 use crate::instance::LARGEST_WEIGHT;
+use std::ffi::OsString;
+use std::path::PathBuf;
 
 /// The longest file that is read as a school of another program.
 pub const MOST_SCHOOL_BYTES: u64 = 64 << 20;
@@ -39,6 +41,13 @@ const SCALE: CommandOption = CommandOption {
     about: "fet: the soft weight that stands for 100 percent; else 10",
 };
 
+const PLACED: CommandOption = CommandOption {
+    long: "placed",
+    short: None,
+    value: Some(("RESULT", Value::File(MOST_SCHOOL_BYTES))),
+    about: "fet: FET's own list of placed activities; its timetable goes to FILE.timetable",
+};
+
 /// The option for an archive of several instances.
 pub const INSTANCE_ID: CommandOption = CommandOption {
     long: "instance",
@@ -59,6 +68,7 @@ pub const SUBCOMMAND: Subcommand = Subcommand {
         NAMES,
         DROP,
         SCALE,
+        PLACED,
         INSTANCE_ID,
         JSON,
     ],
@@ -89,13 +99,31 @@ pub const SUBCOMMAND: Subcommand = Subcommand {
             ("weakened", weakened as u64),
             ("dropped", dropped as u64),
         ];
-        let answer = compile::written(given, &imported.school, &further)?;
+        let mut answer = compile::written(given, &imported.school, &further)?;
+        answer.files.extend(placed(given, file)?);
         Ok(Answer {
             remarks: remarks(&imported, file),
             ..answer
         })
     },
 };
+
+/// The file with the timetable that FET made of the school, if its result is given.
+fn placed(given: &Given, file: &File) -> Result<Option<(PathBuf, Vec<u8>)>, Fault> {
+    let Some(result) = given.file_if(PLACED.long) else {
+        return Ok(None);
+    };
+    let (Some(out), "fet") = (given.path_if(OUT), given.word("FORMAT")) else {
+        let message = "the option '--placed' is for fet, and wants '--out' beside it";
+        return Err(Fault::Usage(message.to_string()));
+    };
+    let read = |file: &File| xml::read(&file.bytes).map_err(|error| rejected(file, &error.into()));
+    let timetable = fet::timetable(&read(file)?, &read(result)?);
+    let timetable = timetable.map_err(|fault| rejected(result, &fault))?;
+    let mut path = OsString::from(out);
+    path.push(".timetable");
+    Ok(Some((PathBuf::from(path), timetable)))
+}
 
 /// The school of a file in this form.
 pub fn imported(given: &Given, format: &str, file: &File) -> Result<Imported, Fault> {

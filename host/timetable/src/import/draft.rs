@@ -3,8 +3,8 @@
 
 use super::times::TimeSet;
 use crate::instance::{
-    Constraint, Instance, Kind, Reason, LARGEST_BOUND_OF_COUNT, LARGEST_WEIGHT, LONGEST_LIST,
-    MOST_CONSTRAINTS, MOST_EVENTS, MOST_GROUPS, MOST_RESOURCES, MOST_TIMES,
+    Constraint, Instance, Kind, Reason, LARGEST_BOUND_OF_COUNT, LONGEST_LIST, MOST_CONSTRAINTS,
+    MOST_EVENTS, MOST_GROUPS, MOST_RESOURCES, MOST_TIMES,
 };
 use crate::school::{Names, Resource, ResourceSort};
 use std::collections::HashMap;
@@ -144,64 +144,66 @@ impl Draft {
     }
 
     fn kind(&mut self, wish: &Wish) -> Result<Kind, String> {
-        let most = |hi: &usize| (*hi).min(LARGEST_BOUND_OF_COUNT as usize);
-        Ok(match wish {
-            Wish::Clash(who) => Kind::Clash {
-                resource: self.who(who)?,
-            },
+        let bound = |hi: &usize| (*hi).min(LARGEST_BOUND_OF_COUNT as usize);
+        let kind = match wish {
+            Wish::Clash(who) => {
+                let resource = self.who(who)?;
+                Kind::Clash { resource }
+            }
             Wish::Unavailable(who, times) => {
                 let (resource, group) = (self.who(who)?, self.group(*times)?);
                 Kind::Unavailable { resource, group }
             }
             Wish::Preferred(event, times) => {
-                let group = self.group(*times)?;
-                Kind::PreferredTimes {
-                    event: *event,
-                    group,
-                }
+                let (event, group) = (*event, self.group(*times)?);
+                Kind::PreferredTimes { event, group }
             }
-            Wish::Split(event, lo, hi) => Kind::Split {
-                event: *event,
-                lo: *lo,
-                hi: most(hi),
-            },
+            Wish::Split(event, lo, hi) => {
+                let (event, lo, hi) = (*event, *lo, bound(hi));
+                Kind::Split { event, lo, hi }
+            }
             Wish::Spread(events, times, lo, hi) => {
                 let (events, group) = (ascending(events), self.group(*times)?);
+                let (lo, hi) = (*lo, bound(hi));
                 Kind::Spread {
                     events,
                     group,
-                    lo: *lo,
-                    hi: most(hi),
+                    lo,
+                    hi,
                 }
             }
             Wish::Busy(who, times, lo, hi) => {
                 let (resource, group) = (self.who(who)?, self.group(*times)?);
+                let (lo, hi) = (*lo, bound(hi));
                 Kind::BusyLimit {
                     resource,
                     group,
-                    lo: *lo,
-                    hi: most(hi),
+                    lo,
+                    hi,
                 }
             }
             Wish::Cluster(who, sets, lo, hi) => {
                 let (resource, groups) = (self.who(who)?, self.group_list(sets)?);
+                let (lo, hi) = (*lo, bound(hi));
                 Kind::Cluster {
                     resource,
                     groups,
-                    lo: *lo,
-                    hi: most(hi),
+                    lo,
+                    hi,
                 }
             }
             Wish::Idle(who, sets, lo, hi) => {
                 let (resource, groups) = (self.who(who)?, self.group_list(sets)?);
+                let (lo, hi) = (*lo, bound(hi));
                 Kind::Idle {
                     resource,
                     groups,
-                    lo: *lo,
-                    hi: most(hi),
+                    lo,
+                    hi,
                 }
             }
-        })
+        };
+        Ok(kind)
     }
 
     fn who(&mut self, who: &Who) -> Result<usize, String> {
@@ -275,9 +277,6 @@ impl Draft {
         }
     }
 }
-
-/// The largest weight that the engine takes.
-pub const HEAVIEST: u32 = LARGEST_WEIGHT;
 
 fn ascending(indices: &[usize]) -> Vec<usize> {
     let mut sorted = indices.to_vec();

@@ -74,26 +74,25 @@ pub fn read(bytes: &[u8]) -> Result<Element, XmlError> {
             return Err(Reader::at_end_of(valid).error("a byte that is not UTF-8"));
         }
     };
-    let mut reader = Reader {
-        text: text.strip_prefix('\u{feff}').unwrap_or(text),
-        line: 1,
-        column: 1,
-    };
+    let mut reader = Reader::over(text.strip_prefix('\u{feff}').unwrap_or(text));
     reader.skip_between_elements()?;
     let root = reader.elements()?;
     reader.skip_between_elements()?;
-    match reader.text.is_empty() {
+    match reader.rest().is_empty() {
         true => Ok(root),
         false => Err(reader.error("text after the root element")),
     }
 }
 
-/// What is left of the file, and where that begins.
+/// A file, and how far it is read.
 #[derive(Clone, Copy)]
 struct Reader<'a> {
     text: &'a str,
+    /// The offset of what is left.
+    at: usize,
     line: usize,
-    column: usize,
+    /// The offset at which the line begins.
+    line_start: usize,
 }
 
 /// An opening tag as read.
@@ -104,46 +103,55 @@ enum Tag {
 }
 
 impl<'a> Reader<'a> {
+    fn over(text: &'a str) -> Reader<'a> {
+        Reader {
+            text,
+            at: 0,
+            line: 1,
+            line_start: 0,
+        }
+    }
+
     /// A reader that stands at the end of `text`.
     fn at_end_of(text: &'a str) -> Reader<'a> {
-        let mut reader = Reader {
-            text,
-            line: 1,
-            column: 1,
-        };
+        let mut reader = Reader::over(text);
         reader.advance(text.len());
         reader
+    }
+
+    /// What is left of the file.
+    fn rest(&self) -> &'a str {
+        &self.text[self.at..]
     }
 
     fn error(&self, message: &str) -> XmlError {
         XmlError {
             line: self.line,
-            column: self.column,
+            column: self.text[self.line_start..self.at].chars().count() + 1,
             message: message.to_string(),
         }
     }
 
     /// Goes on by `length` bytes, which end between two characters, and gives them.
     fn advance(&mut self, length: usize) -> &'a str {
-        let (passed, rest) = self.text.split_at(length);
-        for character in passed.chars() {
-            match character {
-                '\n' => (self.line, self.column) = (self.line + 1, 1),
-                _ => self.column += 1,
-            }
+        let passed = &self.rest()[..length];
+        if let Some(last) = passed.rfind('\n') {
+            self.line += passed.bytes().filter(|&byte| byte == b'\n').count();
+            self.line_start = self.at + last + 1;
         }
-        self.text = rest;
+        self.at += length;
         passed
     }
 
     fn skip_spaces(&mut self) {
-        let rest = self.text.trim_start_matches([' ', '\t', '\r', '\n']);
-        self.advance(self.text.len() - rest.len());
+        let rest = self.rest();
+        let kept = rest.trim_start_matches([' ', '\t', '\r', '\n']);
+        self.advance(rest.len() - kept.len());
     }
 
     /// Passes `word` if it stands here.
     fn passes(&mut self, word: &str) -> bool {
-        let here = self.text.starts_with(word);
+        let here = self.rest().starts_with(word);
         if here {
             self.advance(word.len());
         }
@@ -159,7 +167,7 @@ impl<'a> Reader<'a> {
 
     /// Passes everything up to `end`, and `end`; gives what stands before it.
     fn until(&mut self, end: &str, what: &str) -> Result<&'a str, XmlError> {
-        match self.text.find(end) {
+        match self.rest().find(end) {
             Some(at) => {
                 let before = self.advance(at);
                 self.advance(end.len());
@@ -187,7 +195,7 @@ impl<'a> Reader<'a> {
     fn skip_between_elements(&mut self) -> Result<(), XmlError> {
         loop {
             self.skip_spaces();
-            if self.text.starts_with("<!DOCTYPE") {
+            if self.rest().starts_with("<!DOCTYPE") {
                 let start = *self;
                 let declaration = self.until(">", "this document type")?;
                 if declaration.contains('[') {
@@ -255,13 +263,13 @@ impl<'a> Reader<'a> {
     fn characters(&mut self) -> Result<String, XmlError> {
         let mut text = String::new();
         loop {
-            let plain = self.text.find(['<', '&']);
+            let plain = self.rest().find(['<', '&']);
             let Some(length) = plain else {
-                self.advance(self.text.len());
+                self.advance(self.rest().len());
                 return Err(self.error("the file ends inside an element"));
             };
             text += self.advance(length);
-            if self.text.starts_with('&') {
+            if self.rest().starts_with('&') {
                 text.push(self.reference()?);
             } else if self.passes("<![CDATA[") {
                 text += self.until("]]>", "this CDATA section")?;
@@ -312,11 +320,11 @@ impl<'a> Reader<'a> {
         };
         let mut value = String::new();
         loop {
-            let Some(length) = self.text.find([quote, '&', '<']) else {
+            let Some(length) = self.rest().find([quote, '&', '<']) else {
                 return Err(self.error("this value does not end"));
             };
             value += self.advance(length);
-            match self.text.chars().next() {
+            match self.rest().chars().next() {
                 Some('&') => value.push(self.reference()?),
                 Some('<') => return Err(self.error("'<' in a value is written '&lt;'")),
                 _ => {
@@ -330,8 +338,8 @@ impl<'a> Reader<'a> {
     /// The name of an element or attribute.
     fn name(&mut self) -> Result<&'a str, XmlError> {
         let ends = |c: char| !(c.is_alphanumeric() || matches!(c, '_' | '-' | '.' | ':'));
-        let length = self.text.find(ends).unwrap_or(self.text.len());
-        let first = self.text.chars().next();
+        let length = self.rest().find(ends).unwrap_or(self.rest().len());
+        let first = self.rest().chars().next();
         match first.is_some_and(|c| c.is_alphabetic() || c == '_') {
             true => Ok(self.advance(length)),
             false => Err(self.error("a name is expected")),
@@ -343,7 +351,7 @@ impl<'a> Reader<'a> {
         const LONGEST: usize = 10;
         let start = *self;
         let end = self
-            .text
+            .rest()
             .bytes()
             .take(LONGEST)
             .position(|byte| byte == b';');

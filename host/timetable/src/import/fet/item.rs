@@ -1,8 +1,9 @@
 //! The constraints of a FET file as they stand, with their weights.
 
-use super::super::draft::{Weight, HEAVIEST};
+use super::super::draft::Weight;
 use super::super::remark::Fault;
 use super::super::xml::Element;
+use crate::instance::LARGEST_WEIGHT;
 
 /// An active constraint of the file.
 pub struct Item<'a> {
@@ -41,7 +42,7 @@ impl<'a> Item<'a> {
             true => Weight::Hard,
             false => {
                 let parts = (self.percentage * f64::from(scale) / 100.0).round();
-                Weight::Soft((parts as u32).clamp(1, HEAVIEST))
+                Weight::Soft((parts as u32).clamp(1, LARGEST_WEIGHT))
             }
         }
     }

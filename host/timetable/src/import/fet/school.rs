@@ -93,31 +93,26 @@ impl School {
             students: texts(element, "Students"),
             duration: number(element, "Duration")?,
         };
-        if !(1..=self.hours.len()).contains(&activity.duration) {
-            return Err(Fault::at(
-                element,
-                format!("activity {id} does not fit a day"),
-            ));
-        }
-        if let Some(name) = activity
-            .teachers
-            .iter()
-            .find(|name| !self.teachers.contains(name))
-        {
-            return Err(Fault::at(element, format!("there is no teacher '{name}'")));
-        }
-        if let Some(name) = activity
-            .students
-            .iter()
-            .find(|name| !self.students.knows(name))
-        {
-            return Err(Fault::at(
-                element,
-                format!("there are no students '{name}'"),
-            ));
-        }
+        self.fits(&activity)
+            .map_err(|message| Fault::at(element, message))?;
         self.activities.push(activity);
         Ok(())
+    }
+
+    /// Whether the school has the people of an activity, and days that are long enough.
+    fn fits(&self, activity: &Activity) -> Result<(), String> {
+        if !(1..=self.hours.len()).contains(&activity.duration) {
+            return Err(format!("activity {} does not fit a day", activity.id));
+        }
+        let mut teachers = activity.teachers.iter();
+        if let Some(name) = teachers.find(|name| !self.teachers.contains(name)) {
+            return Err(format!("there is no teacher '{name}'"));
+        }
+        let mut students = activity.students.iter();
+        match students.find(|name| !self.students.knows(name)) {
+            Some(name) => Err(format!("there are no students '{name}'")),
+            None => Ok(()),
+        }
     }
 
     pub fn times(&self) -> usize {

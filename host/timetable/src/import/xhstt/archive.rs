@@ -164,29 +164,10 @@ impl Archive {
             Some(_) => number(event, "Workload")?,
             None => duration,
         };
-        let (mut resources, mut open) = (Vec::new(), false);
-        for asked in event
-            .child("Resources")
-            .iter()
-            .flat_map(|list| &list.children)
-        {
-            match asked.attribute("Reference") {
-                Some(_) => resources.push(find(&self.resource_of, asked, "resource")?),
-                None => open = true,
-            }
-        }
-        for group in event
-            .child("ResourceGroups")
-            .iter()
-            .flat_map(|list| &list.children)
-        {
-            resources.extend(members(&self.resource_groups, group, "resource group")?);
-        }
-        resources.sort_unstable();
-        resources.dedup();
         let time = event
             .child("Time")
             .map(|time| find(&self.time_of, time, "time"));
+        let (resources, open) = self.given_resources(event)?;
         Ok(Lesson {
             line: event.line,
             named: named(event)?,
@@ -196,6 +177,31 @@ impl Archive {
             resources,
             open,
         })
+    }
+
+    /// The resources that an event is given, ascending, and whether one is left to choose.
+    fn given_resources(&self, event: &Element) -> Result<(Vec<usize>, bool), Fault> {
+        let (mut given, mut open) = (Vec::new(), false);
+        for asked in event
+            .child("Resources")
+            .iter()
+            .flat_map(|list| &list.children)
+        {
+            match asked.attribute("Reference") {
+                Some(_) => given.push(find(&self.resource_of, asked, "resource")?),
+                None => open = true,
+            }
+        }
+        for group in event
+            .child("ResourceGroups")
+            .iter()
+            .flat_map(|list| &list.children)
+        {
+            given.extend(members(&self.resource_groups, group, "resource group")?);
+        }
+        given.sort_unstable();
+        given.dedup();
+        Ok((given, open))
     }
 
     /// The groups of times that an item names, each with its element.

@@ -1,10 +1,11 @@
 //! The constraints of an XHSTT instance, each with its counterpart.
 
-use super::super::draft::{Weight, Who, Wish, HEAVIEST};
+use super::super::draft::{Weight, Who, Wish};
 use super::super::remark::{number, Fault, Refused};
 use super::super::times::TimeSet;
 use super::super::xml::Element;
 use super::archive::Archive;
+use crate::instance::LARGEST_WEIGHT;
 
 /// A constraint of the file.
 pub struct Item<'a> {
@@ -46,7 +47,7 @@ const RULES: &[(&str, fn(&Item) -> Outcome)] = &[
 impl<'a> Item<'a> {
     pub fn read(archive: &'a Archive, element: &'a Element) -> Result<Item<'a>, Fault> {
         let weight = number(element, "Weight")?;
-        if weight > HEAVIEST as usize {
+        if weight > LARGEST_WEIGHT as usize {
             return Err(Fault::at(element, format!("a weight of {weight}")));
         }
         let required = match element.field("Required") {

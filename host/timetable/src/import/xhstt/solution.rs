@@ -1,7 +1,7 @@
 //! A timetable written back as a solution of its archive.
 
 use super::super::remark::Fault;
-use super::super::xml::{self, escape};
+use super::super::xml::{self, escape, Element};
 use super::archive::{self, Archive};
 
 /// The archive's text with a further solution group, which holds the timetable: a byte
@@ -19,44 +19,51 @@ pub fn with_solution(
         let message = format!("the timetable is not one of {events} events and {times} times");
         return Err(Fault::at(&root, message));
     }
-    let text = String::from_utf8_lossy(text);
-    let groups = root.child("SolutionGroups");
-    let known = groups.map_or(&[][..], |groups| &groups.children);
-    let taken = |name: &str| {
-        known
-            .iter()
-            .any(|group| group.attribute("Id") == Some(name))
-    };
-    let names = (1..).map(|count| format!("Timetable{count}"));
-    let name = names
-        .into_iter()
-        .find(|name| !taken(name))
-        .unwrap_or_default();
+    let name = free_name(&root);
     let group = solution_group(&archive, timetable, &name, description);
-    let (before, inserted) = match groups.is_some_and(|groups| !groups.children.is_empty()) {
-        true => ("</SolutionGroups>", group),
-        false => (
-            "</HighSchoolTimetableArchive>",
-            format!("<SolutionGroups>\n{group}</SolutionGroups>\n"),
-        ),
-    };
-    let Some(place) = text.rfind(before) else {
-        return Err(Fault::at(&root, format!("'{before}' is not found")));
-    };
-    let written = format!("{}{inserted}{}", &text[..place], &text[place..]);
+    let written = inserted(&String::from_utf8_lossy(text), &root, &group)?;
     let read_back = xml::read(written.as_bytes())?;
-    let groups = read_back
-        .all("SolutionGroups")
-        .flat_map(|groups| &groups.children);
-    match groups
-        .filter(|group| group.attribute("Id") == Some(&name))
-        .count()
-    {
+    match solution_groups(&read_back).filter(|id| *id == name).count() {
         1 => Ok(written),
         _ => Err(Fault::at(
             &root,
             "the solution found no place in the archive",
         )),
+    }
+}
+
+/// The ids of the archive's solution groups.
+fn solution_groups(root: &Element) -> impl Iterator<Item = &str> {
+    let groups = root
+        .all("SolutionGroups")
+        .flat_map(|groups| &groups.children);
+    groups.filter_map(|group| group.attribute("Id"))
+}
+
+/// A name that no solution group has.
+fn free_name(root: &Element) -> String {
+    let mut count = 1;
+    loop {
+        let name = format!("Timetable{count}");
+        if solution_groups(root).all(|id| id != name) {
+            return name;
+        }
+        count += 1;
+    }
+}
+
+/// The archive's text with a solution group at its end.
+fn inserted(text: &str, root: &Element, group: &str) -> Result<String, Fault> {
+    let (before, part) = match solution_groups(root).next() {
+        Some(_) => ("</SolutionGroups>", group.to_string()),
+        None => (
+            "</HighSchoolTimetableArchive>",
+            format!("<SolutionGroups>\n{group}</SolutionGroups>\n"),
+        ),
+    };
+    match text.rfind(before) {
+        Some(place) => Ok(format!("{}{part}{}", &text[..place], &text[place..])),
+        None => Err(Fault::at(root, format!("'{before}' is not found"))),
     }
 }
 
