@@ -77,6 +77,31 @@ fn faults_are_told_with_their_line() {
         .is_some_and(|fault| fault.message == "186 times, 125 are the most"));
 }
 
+/// Numbers that no school has end the import or the item, and nothing else.
+#[test]
+fn large_numbers_do_no_harm() {
+    let days = |least: &str| format!("{}<MinDays>{least}</MinDays>", ids(&[1, 2]));
+    for weight in ["50", "100"] {
+        let large = rule("MinDaysBetweenActivities", weight, &days("4294967295"));
+        assert_eq!(import(&school(&large, "")).unwrap().remarks.len(), 1);
+        let larger = rule("MinDaysBetweenActivities", weight, &days("4294967296"));
+        assert!(import(&school(&larger, "")).is_err());
+    }
+    for (name, field) in [
+        ("TeachersMaxGapsPerWeek", "Max_Gaps"),
+        ("TeachersMaxHoursDaily", "Maximum_Hours_Daily"),
+        ("TeachersMaxDaysPerWeek", "Max_Days_Per_Week"),
+        ("TeachersMaxSpanPerDay", "Max_Span"),
+        ("TeachersMaxHoursContinuously", "Maximum_Hours_Continuously"),
+    ] {
+        let large = rule(name, "100", &format!("<{field}>4294967295</{field}>"));
+        assert!(
+            import(&school(&large, "")).unwrap().remarks.is_empty(),
+            "{name}"
+        );
+    }
+}
+
 #[test]
 fn no_damage_panics() {
     let text = school(&rule("ActivitiesSameStartingDay", "95", &ids(&[1, 2])), "");

@@ -122,7 +122,7 @@ fn a_school_is_compiled_solved_and_shown() {
             ("clasp", "cat \"$R/evening-clasp.out\""),
             (
                 "cadical",
-                "cp \"$R/evening-cadical-3.drat\" \"$3\"; cat \"$R/evening-cadical-3.out\"",
+                "cp \"$R/evening-cadical-3.drat\" \"$5\"; cat \"$R/evening-cadical-3.out\"",
             ),
         ],
     );

@@ -91,14 +91,15 @@ impl Refused {
     }
 }
 
-/// The number in a child's text.
+/// The number in a child's text, which fits 32 bits.
 pub fn number(element: &Element, field: &str) -> Result<usize, Fault> {
     let text = element.field(field);
-    text.parse().map_err(|_| {
-        let child = element.child(field).unwrap_or(element);
-        Fault::at(
-            child,
-            format!("'{text}' is no number for {field} of {}", element.name),
-        )
-    })
+    match text.parse::<u32>() {
+        Ok(number) => Ok(number as usize),
+        Err(_) => {
+            let child = element.child(field).unwrap_or(element);
+            let message = format!("'{text}' is no number for {field} of {}", element.name);
+            Err(Fault::at(child, message))
+        }
+    }
 }

@@ -165,6 +165,9 @@ fn min_days(case: &Case) -> Outcome {
         return Ok(Reading::default());
     }
     let days = case.context.school.days.len() as isize;
+    if least > days {
+        return Refused::because("it asks for more days than there are");
+    }
     let first_days = match case.hard {
         true => 0..(days - least).max(0) + 1,
         false => 1 - least..days,
