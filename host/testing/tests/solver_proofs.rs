@@ -58,8 +58,7 @@ impl Refuted {
 
     fn turned(&self, proof: &[u8]) -> Result<Steps, Fault> {
         let formula = self.formula();
-        let highest = formula.clauses.len() as u32;
-        proofs::steps(&formula, proof, highest, &mut Quiet)
+        proofs::steps(&formula, proof, &mut Quiet)
     }
 
     /// Turns a proof and has the engine accept it.
@@ -283,7 +282,7 @@ fn what_does_not_follow_is_refused_by_name() {
     // The tail at bound 4 allows every timetable of file A, which costs 4.
     let file = [1, 1, 0, 1, 0, 1, 0, 1, 3, 4, 1, 1];
     let formula = Formula::at_bound(&file, 4).expect("a formula");
-    let said = |proof: &[u8]| match proofs::steps(&formula, proof, 18, &mut Quiet) {
+    let said = |proof: &[u8]| match proofs::steps(&formula, proof, &mut Quiet) {
         Err(Fault::Other(words)) => words,
         other => panic!("{other:?}"),
     };
@@ -334,8 +333,7 @@ fn damaged_proofs_never_panic_and_never_prove_too_much() {
         }
         if let Some(bound) = kept[case % all.len()] {
             let formula = Formula::at_bound(&refuted.file, bound).expect("a formula");
-            let highest = formula.clauses.len() as u32;
-            let steps = proofs::steps(&formula, &damaged, highest, &mut Quiet);
+            let steps = proofs::steps(&formula, &damaged, &mut Quiet);
             assert!(steps.is_err(), "a proof against a satisfiable formula");
         }
     }

@@ -4,12 +4,8 @@
 mod support;
 
 use std::fs;
-use support::{file, folder, hex, host, run, run_with, school, FILE_A, PROOF_A};
-
-fn recorded(name: &str) -> String {
-    let path = host().join("recorded").join(name);
-    path.to_str().expect("a path").to_string()
-}
+use support::{file, folder, hex, recorded, run, run_with, school, FILE_A, PROOF_A};
+use timetable::number::write_number;
 
 #[test]
 fn dimacs_writes_the_clauses_with_the_tail() {
@@ -99,6 +95,34 @@ fn every_recorded_proof_is_turned_and_accepted() {
         let bytes = fs::read(folder().join(&steps)).expect("the steps");
         assert!(bytes.contains(&b'd'), "{name} has no deletion");
     }
+}
+
+#[test]
+fn a_recorded_proof_against_the_hard_clauses_shows_none_at_all() {
+    let [instance, steps] = ["crowded.instance", "crowded.proof"];
+    let found = run(&["compile", &recorded("crowded.school"), "-o", instance]);
+    assert_eq!(found.status, 0, "{}", found.said);
+    let proof = recorded("crowded-cadical.drat");
+    let found = run(&["steps", instance, "none", &proof, "-o", steps]);
+    assert_eq!((found.printed.as_str(), found.status), ("", 0));
+    let found = run(&["check", instance, "none", steps]);
+    assert_eq!(found.printed, "no timetable at all\nsteps 119\n");
+    // The first id is the next after the hard clauses' ids, so with a tail it is a tail's.
+    let clauses = run(&["dimacs", instance]).printed.lines().count() - 1;
+    let mut first = vec![b'a'];
+    write_number(clauses as u32 + 1, &mut first);
+    let bytes = fs::read(folder().join(steps)).expect("the steps");
+    assert!(bytes.starts_with(&first), "{bytes:?}");
+    for bound in ["0", "4095"] {
+        let found = run(&["check", instance, bound, steps]);
+        assert_eq!(found.printed, "refused 14 1\n", "{bound}");
+    }
+    // It says nothing of a school that has a timetable.
+    let toy = school("toy.instance");
+    let found = run(&["steps", &toy, "none", &proof]);
+    assert_eq!((found.printed.as_str(), found.status), ("", 1));
+    let found = run(&["check", &toy, "none", steps]);
+    assert_eq!(found.status, 1, "{}", found.printed);
 }
 
 #[test]

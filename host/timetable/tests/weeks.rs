@@ -9,7 +9,7 @@ use std::io::Read;
 use std::process::Stdio;
 use std::thread;
 use std::time::{Duration, Instant};
-use support::{command, folder, run, school, stand_ins, Run};
+use support::{command, file, folder, hex, recorded, run, school, stand_ins, Run};
 
 /// clasp with its two models of the toy school.
 const CLASP: (&str, &str) = ("clasp", "cat \"$R/clasp.out\"");
@@ -24,9 +24,19 @@ const CADICAL: (&str, &str) = (
      esac",
 );
 
+/// cadical with its proof against the hard clauses of the crowded school.
+const CROWDED: (&str, &str) = (
+    "cadical",
+    "cp \"$R/crowded-cadical.drat\" \"$5\"; cat \"$R/crowded-cadical.out\"",
+);
+
+/// Solves the toy school.
 fn solve(solvers: &str, out: &str, more: &[&str]) -> Run {
-    let toy = school("toy.instance");
-    let words = ["solve", &toy, "--solver", solvers, "--out", out];
+    solve_file(&school("toy.instance"), solvers, out, more)
+}
+
+fn solve_file(instance: &str, solvers: &str, out: &str, more: &[&str]) -> Run {
+    let words = ["solve", instance, "--solver", solvers, "--out", out];
     run(&[&words[..], more].concat())
 }
 
@@ -63,6 +73,58 @@ fn a_week_without_an_optimiser_asks_for_less_and_less() {
         found.printed
     );
     assert_eq!(found.status, 0, "{}", found.said);
+}
+
+#[test]
+fn none_at_all_is_told_whatever_the_wishes_weigh() {
+    let crowded = "crowded.instance";
+    let found = run(&["compile", &recorded("crowded.school"), "-o", crowded]);
+    assert_eq!(found.status, 0, "{}", found.said);
+    let solvers = stand_ins("crowded", &[CROWDED]);
+    let found = solve_file(crowded, &solvers, "crowded-out", &[]);
+    assert_eq!(
+        found.printed,
+        "no timetable keeps the hard constraints, whatever it costs, checked\n\
+         proof crowded-out/hard.proof\n"
+    );
+    assert_eq!(found.status, 0, "{}", found.said);
+    let checked = run(&["check", crowded, "none", "crowded-out/hard.proof"]);
+    assert!(checked.printed.starts_with("no timetable at all\n"));
+    let found = solve_file(crowded, &solvers, "crowded-out", &["--json"]);
+    let none = "\"settled\":true,\"interrupted\":false,\"none_at_all\":true,\"steps\":119,";
+    assert!(found.printed.contains(none), "{}", found.printed);
+    assert!(!found.printed.contains("refuted"), "{}", found.printed);
+}
+
+#[test]
+fn none_at_all_is_not_told_on_a_solvers_word() {
+    let silent = ("cadical", "echo 's UNSATISFIABLE'");
+    for (name, solver) in [("other-proof", CROWDED), ("silent", silent)] {
+        let solvers = stand_ins(name, &[solver]);
+        let found = solve(&solvers, &format!("{name}-out"), &[]);
+        let nothing = "no timetable found; nothing refuted\n";
+        assert_eq!((found.printed.as_str(), found.status), (nothing, 3));
+        assert!(found.said.lines().count() > 1, "{name}: {}", found.said);
+    }
+}
+
+#[test]
+fn a_cost_that_no_bound_reaches_is_left_open() {
+    // File A with five wishes that weigh 1,000 each, and that its one timetable breaks.
+    let wishes = "03 E8 07 01 01 ".repeat(5);
+    let dear = file("dear", &hex(&format!("01 01 00 01 00 01 00 05 {wishes}")));
+    let clasp = (
+        "clasp",
+        "echo 's OPTIMUM FOUND'; echo 'v 1 2 3 4 5 6 7 8 0'",
+    );
+    let cadical = ("cadical", "echo 0 >\"$5\"; echo 's UNSATISFIABLE'");
+    let solvers = stand_ins("dear-solvers", &[clasp, cadical]);
+    let found = solve_file(&dear, &solvers, "dear-out", &[]);
+    let open = "costs 5000; none at 4095 or less, checked; open from 4096 to 4999\n";
+    assert!(found.printed.starts_with(open), "{}", found.printed);
+    assert_eq!(found.status, 3);
+    let note = "no bound above 4095 can be asked\n";
+    assert!(found.said.contains(note), "{}", found.said);
 }
 
 #[test]

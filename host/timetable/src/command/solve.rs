@@ -14,7 +14,7 @@ use super::frame::given::Given;
 use super::frame::json::Json;
 use super::frame::messages::Messages;
 use super::frame::operands::{INSTANCE, JSON, OUT};
-use crate::solver::solve::{self, Kind, Options, Outcome, Program, Progress, Watcher};
+use crate::solver::solve::{self, Claim, Kind, Options, Outcome, Program, Progress, Watcher};
 use std::env;
 use std::ffi::OsStr;
 use std::io::{self, Read};
@@ -64,8 +64,9 @@ pub const SUBCOMMAND: Subcommand = Subcommand {
     details: "clasp looks for models, one of the others for proofs; without clasp, that one is \
               asked for less again and again. Every cost is the engine's price of a model that it \
               decoded, every bound one that it checked a proof for; where they do not meet, the \
-              costs that are left open are told, and the exit status is 3. Interrupted, it stops \
-              the solver and tells what it has; the files stay.",
+              costs that are left open are told, and the exit status is 3. That there is no \
+              timetable at all is told where it checked a proof against the hard clauses alone. \
+              Interrupted, it stops the solver and tells what it has; the files stay.",
     refusals: &[1..=6, 8..=8],
     run,
 };
@@ -168,12 +169,17 @@ fn answer(outcome: &Outcome) -> Answer {
         ("answer", Json::from(sentence.as_str())),
         ("settled", Json::from(outcome.is_settled())),
         ("interrupted", Json::from(outcome.interrupted)),
+        (
+            "none_at_all",
+            Json::from(outcome.claim() == Some(Claim::AnyCost)),
+        ),
     ];
     if let Some(best) = &outcome.best {
         fields.push(("cost", Json::from(best.cost)));
     }
     if let Some(refuted) = &outcome.refuted {
-        fields.push(("refuted", Json::from(refuted.bound)));
+        let bound = refuted.claim.bound();
+        fields.extend(bound.map(|bound| ("refuted", Json::from(bound))));
         fields.push(("steps", Json::from(refuted.steps)));
     }
     let paths = files

@@ -40,9 +40,8 @@ pub const SUBCOMMAND: Subcommand = Subcommand {
             Some(bound) => Formula::at_bound(file, bound)?,
             None => Formula::of(file)?,
         };
-        let highest = formula.clauses.len() as u32;
         let mut observer = Spoken::new(messages);
-        let steps = proofs::steps(&formula, given.bytes("PROOF"), highest, &mut observer)?;
+        let steps = proofs::steps(&formula, given.bytes("PROOF"), &mut observer)?;
         Ok(Answer {
             remarks: remarks(&steps),
             ..Answer::product(steps.bytes)

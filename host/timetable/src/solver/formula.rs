@@ -57,11 +57,6 @@ impl Formula {
         }
     }
 
-    /// What every soft unit weighs together; no timetable costs more.
-    pub fn total_weight(&self) -> u64 {
-        self.soft.iter().map(|soft| u64::from(soft.weight)).sum()
-    }
-
     /// The formula that a "p wcnf" text holds, its lines held to its header.
     pub fn from_text(text: &[u8]) -> Result<Formula, Fault> {
         let wrong = |what: &str| Fault::Other(format!("the clauses' text {what}"));
@@ -207,7 +202,6 @@ mod tests {
         );
         let unit = Literal::from_signed(-4).unwrap();
         assert_eq!(formula.soft, [Soft { weight: 4, unit }]);
-        assert_eq!(formula.total_weight(), 4);
     }
 
     #[test]

@@ -60,19 +60,13 @@ impl Form {
     }
 }
 
-/// Turns `proof` into steps over the clauses of `formula`, numbered from
-/// `highest` + 1; `highest` is at least the formula's last id.
-pub fn steps(
-    formula: &Formula,
-    proof: &[u8],
-    highest: u32,
-    observer: &mut dyn Observer,
-) -> Result<Steps, Fault> {
+/// Turns `proof` into steps over the clauses of `formula`, with ids after theirs.
+pub fn steps(formula: &Formula, proof: &[u8], observer: &mut dyn Observer) -> Result<Steps, Fault> {
     match Form::of(proof) {
-        Form::DratText => drat::elaborate(formula, &drat::from_text(proof)?, highest, observer),
-        Form::DratBinary => drat::elaborate(formula, &drat::from_binary(proof)?, highest, observer),
-        Form::LratText => lrat::convert(formula, &lrat::from_text(proof)?, highest, observer),
-        Form::LratBinary => lrat::from_binary_over(formula, proof, highest, observer),
+        Form::DratText => drat::elaborate(formula, &drat::from_text(proof)?, observer),
+        Form::DratBinary => drat::elaborate(formula, &drat::from_binary(proof)?, observer),
+        Form::LratText => lrat::convert(formula, &lrat::from_text(proof)?, observer),
+        Form::LratBinary => lrat::from_binary_over(formula, proof, observer),
     }
 }
 

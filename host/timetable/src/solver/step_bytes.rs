@@ -12,11 +12,11 @@ pub struct StepBytes {
 }
 
 impl StepBytes {
-    /// No step, after a formula whose last id is `highest`.
-    pub fn after(highest: u32) -> StepBytes {
+    /// No step, after a formula of so many clauses, whose ids are 1 to their number.
+    pub fn after(clauses: usize) -> StepBytes {
         StepBytes {
             bytes: Vec::new(),
-            highest,
+            highest: clauses as u32,
         }
     }
 

@@ -89,6 +89,12 @@ pub fn school(name: &str) -> String {
     schools().join(name).to_str().expect("a path").to_string()
 }
 
+/// A recording of what a solver printed or wrote.
+pub fn recorded(name: &str) -> String {
+    let path = host().join("recorded").join(name);
+    path.to_str().expect("a path").to_string()
+}
+
 /// Where the runs of this test program stand, and where their files are written.
 pub fn folder() -> PathBuf {
     let folder = Path::new(env!("CARGO_TARGET_TMPDIR")).join(env!("CARGO_CRATE_NAME"));

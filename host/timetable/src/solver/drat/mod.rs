@@ -30,18 +30,16 @@ use super::Fault;
 use backward::Backward;
 use forward::Forward;
 
-/// The steps of `proof` over the clauses of `formula`, numbered from
-/// `highest` + 1; `highest` is at least the formula's last id.
+/// The steps of `proof` over the clauses of `formula`, with ids after theirs.
 pub fn elaborate(
     formula: &Formula,
     proof: &Drat,
-    highest: u32,
     observer: &mut dyn Observer,
 ) -> Result<Steps, Fault> {
     let forward = Forward::run(formula, proof, observer)?;
     let ignored_deletions = forward.ignored_deletions;
     let backward = Backward::run(forward, observer)?;
-    Ok(writing::write(&backward, highest, ignored_deletions))
+    Ok(writing::write(&backward, ignored_deletions))
 }
 
 #[cfg(test)]
@@ -56,11 +54,10 @@ mod tests {
 
     fn turned(clauses: &str, proof: &str) -> Result<Steps, Fault> {
         let formula = Formula::from_text(clauses.as_bytes())?;
-        let highest = formula.clauses.len() as u32;
         let proof = from_text(proof.as_bytes())?;
-        let turned = elaborate(&formula, &proof, highest, &mut Quiet)?;
+        let turned = elaborate(&formula, &proof, &mut Quiet)?;
         // The steps are spelt as binary LRAT is, so they can be followed again.
-        let again = steps(&formula, &turned.bytes, highest, &mut Quiet)?;
+        let again = steps(&formula, &turned.bytes, &mut Quiet)?;
         assert_eq!(again.bytes, turned.bytes);
         Ok(turned)
     }

@@ -5,9 +5,9 @@ use crate::solver::proofs::Steps;
 use crate::solver::step_bytes::StepBytes;
 
 /// The steps' bytes. An added clause is deleted after its last use.
-pub fn write(found: &Backward, highest: u32, ignored_deletions: usize) -> Steps {
+pub fn write(found: &Backward, ignored_deletions: usize) -> Steps {
     let mut ids = Ids::new(found);
-    let mut steps = StepBytes::after(highest);
+    let mut steps = StepBytes::after(found.formula_clauses);
     let mut last_hint = found.hints.len();
     for record in found.records.iter().rev() {
         let hints = &found.hints[record.first_hint..last_hint];

@@ -17,15 +17,13 @@ use super::Fault;
 use reading::{from_binary, NUMBERINGS};
 use replay::Replay;
 
-/// The steps of `proof` over the clauses of `formula`, numbered from
-/// `highest` + 1.
+/// The steps of `proof` over the clauses of `formula`, with ids after theirs.
 pub fn convert(
     formula: &Formula,
     proof: &Lrat,
-    highest: u32,
     observer: &mut dyn Observer,
 ) -> Result<Steps, Fault> {
-    Replay::new(formula, highest).run(proof, observer)
+    Replay::new(formula).run(proof, observer)
 }
 
 /// The steps of a binary proof. Writers of binary LRAT differ in which ids they
@@ -34,12 +32,11 @@ pub fn convert(
 pub fn from_binary_over(
     formula: &Formula,
     proof: &[u8],
-    highest: u32,
     observer: &mut dyn Observer,
 ) -> Result<Steps, Fault> {
     let mut furthest: Option<(usize, Fault)> = None;
     for numbering in NUMBERINGS {
-        let mut replay = Replay::new(formula, highest);
+        let mut replay = Replay::new(formula);
         let answer = from_binary(proof, numbering).and_then(|read| replay.follow(&read, observer));
         match answer {
             Ok(()) => return Ok(replay.into_steps()),

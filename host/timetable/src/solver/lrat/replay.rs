@@ -38,7 +38,7 @@ enum State {
 }
 
 impl<'a> Replay<'a> {
-    pub fn new(formula: &'a Formula, highest: u32) -> Replay<'a> {
+    pub fn new(formula: &'a Formula) -> Replay<'a> {
         Replay {
             formula,
             dead: vec![false; formula.clauses.len()],
@@ -46,7 +46,7 @@ impl<'a> Replay<'a> {
             live: HashMap::new(),
             falsified: vec![false; 2 * (formula.variables as usize + 1)],
             trail: Vec::new(),
-            steps: StepBytes::after(highest),
+            steps: StepBytes::after(formula.clauses.len()),
             ignored_deletions: 0,
         }
     }

@@ -7,6 +7,7 @@
 //! than the best cost so far. What is claimed at the end comes from the
 //! engine's answers alone; a solver's word decides only what is tried next.
 
+mod claim;
 mod folder;
 mod outcome;
 mod process;
@@ -14,6 +15,7 @@ mod programs;
 mod search;
 mod week;
 
+pub use claim::Claim;
 pub use outcome::{Best, Outcome, Refuted};
 pub use programs::{Kind, Program};
 
@@ -37,6 +39,7 @@ pub struct Options {
 pub struct Progress<'a> {
     pub elapsed: Duration,
     pub best: Option<u64>,
+    /// The highest bound refuted.
     pub refuted: Option<u64>,
     pub doing: &'a str,
 }

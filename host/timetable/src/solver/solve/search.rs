@@ -1,12 +1,12 @@
 //! What the solvers are asked, in which order, and for how long.
 
+use super::claim::Claim;
 use super::process::{self, End, Judge};
 use super::programs::Program;
 use super::week::Week;
 use crate::engine::{self, LARGEST_BOUND};
 use crate::solver::answers::{Answer, Reading};
 use crate::solver::dimacs;
-use crate::solver::formula::Formula;
 use crate::solver::Fault;
 use std::time::{Duration, Instant};
 
@@ -27,7 +27,7 @@ pub fn run(
     };
     if week.best_cost().is_none() {
         let time = week.left();
-        ask(week, refuter, Question::HardAlone, time)?;
+        ask(week, refuter, Claim::AnyCost, time)?;
     }
     let start = match optimiser {
         Some(_) => Start::Top,
@@ -88,6 +88,9 @@ fn close_gap(week: &mut Week, refuter: &Program, start: Start) -> Result<(), Fau
             _ => Some(top),
         };
         let Some(highest) = highest.filter(|&highest| highest >= lowest) else {
+            if lowest > top && top < cost - 1 {
+                week.note(format!("no bound above {top} can be asked"));
+            }
             return Ok(());
         };
         let time = week.left();
@@ -98,7 +101,7 @@ fn close_gap(week: &mut Week, refuter: &Program, start: Start) -> Result<(), Fau
             (Start::Top, None) => highest,
             _ => lowest + (highest - lowest).div_ceil(2),
         };
-        if ask(week, refuter, Question::AtMost(bound), time / 2)? == Reply::Open {
+        if ask(week, refuter, Claim::Bound(bound), time / 2)? == Reply::Open {
             left_open = Some(bound);
         }
     }
@@ -124,16 +127,7 @@ fn largest_bound(file: &[u8], wanted: u64) -> Option<u64> {
     Some(low)
 }
 
-/// What a solver that writes proofs is asked for.
-#[derive(Clone, Copy)]
-enum Question {
-    /// Any timetable that keeps the hard constraints.
-    HardAlone,
-    /// One that costs so much at most.
-    AtMost(u64),
-}
-
-/// What came of a question.
+/// What came of asking for a claim's proof.
 #[derive(Clone, Copy, PartialEq, Eq)]
 enum Reply {
     /// A model, which was offered to the engine.
@@ -143,51 +137,20 @@ enum Reply {
     Open,
 }
 
-impl Question {
-    /// How the files are named.
-    fn name(self) -> String {
-        match self {
-            Question::HardAlone => "hard".to_string(),
-            Question::AtMost(bound) => format!("bound-{bound}"),
-        }
-    }
-
-    /// What the solver is asked about, and the bound at which its proof is
-    /// checked. A proof against the hard clauses alone is checked at a bound
-    /// that every timetable keeps, or at the largest there is.
-    fn formula(self, week: &Week) -> Result<(Formula, u64), Fault> {
-        match self {
-            Question::AtMost(bound) => {
-                let size = engine::sizes(week.file, bound)?;
-                Ok((week.hard.clone().with_tail(bound, size)?, bound))
-            }
-            Question::HardAlone => {
-                let bound = largest_bound(week.file, week.outcome.total_weight);
-                Ok((week.hard.clone(), bound.unwrap_or(0)))
-            }
-        }
-    }
-}
-
-/// Asks `program` one question, for `time` at most.
-fn ask(
-    week: &mut Week,
-    program: &Program,
-    question: Question,
-    time: Duration,
-) -> Result<Reply, Fault> {
-    let name = question.name();
-    let (formula, bound) = question.formula(week)?;
+/// Asks `program` for a proof of `claim`, or a model against it, for `time` at most.
+fn ask(week: &mut Week, program: &Program, claim: Claim, time: Duration) -> Result<Reply, Fault> {
+    let name = claim.name();
+    let formula = claim.formula(week.file, &week.hard)?;
     let clauses = week
         .folder
         .write(&format!("{name}.cnf"), &dimacs::text(&formula))?;
     let proof = week.folder.path(&format!("{name}.drat"));
     week.folder.remove(&format!("{name}.drat"));
     let command = program.refuting(&clauses, &proof, time);
-    let answer = answer(week, program, question, time, command)?;
+    let answer = answer(week, program, claim, time, command)?;
     let reply = match answer {
         Answer::Model(_) => Reply::Model,
-        Answer::Unsatisfiable if week.refute(&name, &formula, bound)? => Reply::Refuted,
+        Answer::Unsatisfiable if week.refute(claim, &formula)? => Reply::Refuted,
         _ => Reply::Open,
     };
     if reply != Reply::Refuted {
@@ -202,7 +165,7 @@ fn ask(
 fn answer(
     week: &mut Week,
     program: &Program,
-    question: Question,
+    claim: Claim,
     time: Duration,
     command: std::process::Command,
 ) -> Result<Answer, Fault> {
@@ -211,9 +174,9 @@ fn answer(
     let before = week.best_cost();
     let mut judge = Finding {
         reading: Reading::new(week.hard.variables as usize),
-        doing: match question {
-            Question::HardAlone => format!("{name} looks for any timetable"),
-            Question::AtMost(bound) => format!("{name} looks for one at {bound} or less"),
+        doing: match claim {
+            Claim::AnyCost => format!("{name} looks for any timetable"),
+            Claim::Bound(bound) => format!("{name} looks for one at {bound} or less"),
         },
         started,
         improved: started,

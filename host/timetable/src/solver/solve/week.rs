@@ -1,6 +1,7 @@
 //! The state of a week: what is known, what the engine says to a model or a
 //! proof, and the files.
 
+use super::claim::Claim;
 use super::folder::Folder;
 use super::outcome::{Best, Outcome, Refuted};
 use super::{Options, Progress, Watcher};
@@ -28,16 +29,11 @@ impl<'a> Week<'a> {
         options: &Options,
         watcher: &'a mut dyn Watcher,
     ) -> Result<Week<'a>, Fault> {
-        let hard = Formula::of(file)?;
-        let total_weight = hard.total_weight();
         Ok(Week {
             file,
-            hard,
+            hard: Formula::of(file)?,
             folder: Folder::at(&options.folder)?,
-            outcome: Outcome {
-                total_weight,
-                ..Outcome::default()
-            },
+            outcome: Outcome::default(),
             started: Instant::now(),
             time: options.time,
             watcher,
@@ -58,7 +54,7 @@ impl<'a> Week<'a> {
     }
 
     pub fn refuted_bound(&self) -> Option<u64> {
-        self.outcome.refuted.as_ref().map(|refuted| refuted.bound)
+        self.outcome.claim().and_then(Claim::bound)
     }
 
     /// Tells the watcher what is done now. An error if a stop is asked for.
@@ -103,9 +99,10 @@ impl<'a> Week<'a> {
         Ok(())
     }
 
-    /// Turns a solver's proof over `formula` into steps and has the engine
-    /// check them at `bound`. False, with a note, if that fails.
-    pub fn refute(&mut self, name: &str, formula: &Formula, bound: u64) -> Result<bool, Fault> {
+    /// Turns a solver's proof of `claim`, which is one over `formula`, into steps
+    /// and has the engine check them. False, with a note, if that fails.
+    pub fn refute(&mut self, claim: Claim, formula: &Formula) -> Result<bool, Fault> {
+        let name = claim.name();
         let proof = match self.folder.read(&format!("{name}.drat")) {
             Ok(proof) => proof,
             Err(fault) => {
@@ -113,9 +110,7 @@ impl<'a> Week<'a> {
                 return Ok(false);
             }
         };
-        // The ids go on after those of the tail, whether the proof uses it or not.
-        let highest = engine::sizes(self.file, bound)?.clauses as u32;
-        let steps = match proofs::steps(formula, &proof, highest, &mut Turning(self)) {
+        let steps = match proofs::steps(formula, &proof, &mut Turning(self)) {
             Ok(steps) => steps,
             Err(Fault::Other(words)) => {
                 self.note(format!("the proof {name}.drat cannot be used: {words}"));
@@ -124,10 +119,10 @@ impl<'a> Week<'a> {
             Err(fault) => return Err(fault),
         };
         let path = self.folder.write(&format!("{name}.proof"), &steps.bytes)?;
-        match engine::check(self.file, bound, &steps.bytes) {
+        match claim.check(self.file, &steps.bytes) {
             Ok(steps) => {
                 self.outcome.refuted = Some(Refuted {
-                    bound,
+                    claim,
                     proof: path,
                     steps,
                 });
