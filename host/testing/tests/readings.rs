@@ -1,8 +1,8 @@
 //! Places where the specification can be read two ways. Each test is named by
-//! what it decides; the codes in brackets are the list's own.
+//! what it decides, and says which decision of docs/DECISIONS.md that is.
 //!
-//! What the lent stores hold before and after a call [W1, W2] is compared with
-//! every check: `support::both` lends stores that are not zero.
+//! What the lent stores hold before and after a call (decisions 51 and 52) is
+//! compared with every check: `support::both` lends stores that are not zero.
 
 mod support;
 
@@ -31,7 +31,7 @@ fn scored(infeasibility: u64, objective: u64) -> Result<Score, Refusal> {
 mod general {
     use super::*;
 
-    /// [G1] Without soft units a refutation says that the hard constraints
+    /// Decision 35: Without soft units a refutation says that the hard constraints
     /// cannot be kept, at every bound.
     #[test]
     fn without_soft_units_the_bound_does_not_matter() {
@@ -55,7 +55,7 @@ mod general {
 mod reader {
     use super::*;
 
-    /// [R1] 4 and 5 of a constraint come before any number of the next.
+    /// Decision 1: 4 and 5 of a constraint come before any number of the next.
     #[test]
     fn constraint_end_comes_before_the_next_constraint() {
         assert_eq!(
@@ -77,14 +77,14 @@ mod reader {
         (numbers(&values), kind)
     }
 
-    /// [R2] Of 4 and 5 in one constraint, 4 is given.
+    /// Decision 2: Of 4 and 5 in one constraint, 4 is given.
     #[test]
     fn a_long_list_comes_before_a_bad_range() {
         let (file, kind) = long_cluster(&[1, 0]);
         assert_eq!(read(&file), refused(4, kind));
     }
 
-    /// [R3] 4 is given at the constraint's end, after lo and hi.
+    /// Decision 3: 4 is given at the constraint's end, after lo and hi.
     #[test]
     fn a_long_list_is_seen_after_lo_and_hi() {
         let (file, _) = long_cluster(&[]);
@@ -94,7 +94,7 @@ mod reader {
         assert_eq!(read(&file), refused(2, at_lo));
     }
 
-    /// [R4] A list's count above the number of things is outside its limit.
+    /// Decision 4: A list's count above the number of things is outside its limit.
     #[test]
     fn a_count_above_the_number_of_things_is_2_at_the_count() {
         assert_eq!(read_of("01 01 00 01 01 01"), refused(2, 4));
@@ -111,7 +111,7 @@ mod reader {
         }
     }
 
-    /// [R5] Reference 0 and a reference too high are references to nothing.
+    /// Decision 5: Reference 0 and a reference too high are references to nothing.
     #[test]
     fn a_reference_outside_its_things_is_3() {
         assert_eq!(read_of("01 01 01 01 01 00"), refused(3, 5));
@@ -120,14 +120,14 @@ mod reader {
         assert_eq!(read_of("01 01 01 01 00 00 01 01 00 02"), refused(3, 9));
     }
 
-    /// [R6] The offset is that of the member that does not ascend.
+    /// Decision 6: The offset is that of the member that does not ascend.
     #[test]
     fn a_list_not_ascending_is_3_at_the_member() {
         assert_eq!(read_of("02 01 00 01 00 01 02 02 01 00"), refused(3, 8));
         assert_eq!(read_of("02 01 00 01 00 01 02 01 01 00"), refused(3, 8));
     }
 
-    /// [R7] A clash has one list for each time, not one for all times.
+    /// Decision 7: A clash has one list for each time, not one for all times.
     #[test]
     fn the_lists_of_a_clash_are_as_long_as_the_resource_has_events() {
         let file = |events: u32| {
@@ -145,7 +145,7 @@ mod reader {
         assert_eq!(read(&file(256)), refused(4, kind));
     }
 
-    /// [R8] lo above the list's length is 5 for a busy limit too.
+    /// Decision 8: lo above the list's length is 5 for a busy limit too.
     #[test]
     fn a_busy_limit_has_no_exception_from_5() {
         assert_eq!(
@@ -154,7 +154,7 @@ mod reader {
         );
     }
 
-    /// [R9] hi = 256 is outside its limit, whatever lo is.
+    /// Decision 9: hi = 256 is outside its limit, whatever lo is.
     #[test]
     fn limits_come_before_5() {
         assert_eq!(
@@ -167,7 +167,7 @@ mod reader {
         );
     }
 
-    /// [R10] Cut short, overlong and too large give 1 at the first byte.
+    /// Decision 10: Cut short, overlong and too large give 1 at the first byte.
     #[test]
     fn bad_numbers_are_1_at_their_first_byte() {
         assert_eq!(read_of(""), refused(1, 0));
@@ -179,7 +179,7 @@ mod reader {
         assert_eq!(read_of("01 01 00 01 00 00 01 09"), refused(2, 7));
     }
 
-    /// [R11] Empty groups and lists, equal groups and equal constraints are accepted.
+    /// Decision 11: Empty groups and lists, equal groups and equal constraints are accepted.
     #[test]
     fn empty_and_equal_things_are_accepted() {
         assert!(read_of("01 01 01 01 00 01 00 01 07 00 01 00 00 00").is_ok());
@@ -201,7 +201,7 @@ mod reader {
 mod timetables {
     use super::*;
 
-    /// [S1] 12 gives the lowest event that breaks any rule.
+    /// Decision 13: 12 gives the lowest event that breaks any rule.
     #[test]
     fn the_lowest_broken_event_is_given() {
         let file = hex("01 02 00 01 00 01 00 00 00");
@@ -209,7 +209,7 @@ mod timetables {
         assert_eq!(score(&file, &hex("01 00 01 00")), refused(12, 2));
     }
 
-    /// [S2] Same sheet skips the sizing place, as scoring does.
+    /// Decision 14: Same sheet skips the sizing place, as scoring does.
     #[test]
     fn same_sheet_and_score_skip_sizing() {
         let file = oversized();
@@ -219,7 +219,7 @@ mod timetables {
         assert_eq!(score(&file, &table), scored(0, 0));
     }
 
-    /// [S3] An empty group has no X; groups of up to two members add no idle time.
+    /// Decision 15: An empty group has no X; groups of up to two members add no idle time.
     #[test]
     fn empty_and_short_groups_count_nothing() {
         // two times; the event takes both; groups {}, {1}, {1, 2}
@@ -232,7 +232,7 @@ mod timetables {
         assert_eq!(read(&hex(&idle)), refused(5, 14));
     }
 
-    /// [S4] A busy limit of 0 to 0 with count 0 deviates by 0.
+    /// Decision 16: A busy limit of 0 to 0 with count 0 deviates by 0.
     #[test]
     fn an_unused_day_never_deviates() {
         let file = hex("02 01 01 01 01 01 01 01 01 01 06 01 01 01 00 00");
@@ -248,7 +248,7 @@ mod clause_order {
         clauses(&hex(file), bound)[id - 1].clone()
     }
 
-    /// [C1] Both clauses of an event and time stand together.
+    /// Decision 17: Both clauses of an event and time stand together.
     #[test]
     fn start_clauses_go_time_by_time() {
         let file = "02 01 00 01 00 00 00";
@@ -257,7 +257,7 @@ mod clause_order {
         assert_eq!(clause(file, None, 4), [1, -2, 4]);
     }
 
-    /// [C2] A counter's clauses go cell by cell, row by row.
+    /// Decision 18: A counter's clauses go cell by cell, row by row.
     #[test]
     fn counters_go_cell_by_cell() {
         let file = "02 01 00 02 00 00 00";
@@ -267,7 +267,7 @@ mod clause_order {
         assert_eq!(clause(FILE_A, Some(3), 14), [-4, 8]);
     }
 
-    /// [C3] Each time's list of a clash is complete before the next.
+    /// Decision 19: Each time's list of a clash is complete before the next.
     #[test]
     fn clash_units_follow_their_own_counter() {
         let file = "02 02 01 01 01 01 01 01 01 00 01 01 00 01";
@@ -276,7 +276,7 @@ mod clause_order {
         assert_eq!(clauses(&hex(file), None).len(), 64);
     }
 
-    /// [C4] A busy limit writes each v's clauses and unit before the next v.
+    /// Decision 20: A busy limit writes each v's clauses and unit before the next v.
     #[test]
     fn busy_limit_units_follow_their_own_clauses() {
         let file = "03 01 01 01 01 01 01 03 01 02 03 01 06 00 01 01 03 03";
@@ -284,7 +284,7 @@ mod clause_order {
         assert_eq!(clause(file, None, 65), [22, -26]);
     }
 
-    /// [C5] A busy limit with lo = 1 has no low part.
+    /// Decision 21: A busy limit with lo = 1 has no low part.
     #[test]
     fn a_busy_limit_of_one_has_no_low_unit() {
         let all = clauses(
@@ -295,7 +295,7 @@ mod clause_order {
         assert_eq!(all[8], [3, -5]);
     }
 
-    /// [C6] Idle gates G, H and I go member by member.
+    /// Decision 22: Idle gates G, H and I go member by member.
     #[test]
     fn idle_gates_go_member_by_member() {
         let file = "04 01 01 01 01 01 01 04 01 02 03 04 01 08 01 01 01 01 00 00";
@@ -327,13 +327,13 @@ mod clause_order {
         assert_eq!(all[first..first + 21], expected);
     }
 
-    /// [C7] The OR of an empty list is the unit (not o).
+    /// Decision 23: The OR of an empty list is the unit (not o).
     #[test]
     fn an_empty_or_is_a_negative_unit() {
         assert_eq!(clause("01 01 01 01 00 01 00 01 02 00 01 01", None, 3), [-3]);
     }
 
-    /// [C8] Counters without units are written; empty lists write nothing.
+    /// Decision 24: Counters without units are written; empty lists write nothing.
     #[test]
     fn nothing_is_left_out_to_save_room() {
         let file = "01 01 00 01 00 00 01 04 00 01 00 01";
@@ -343,7 +343,7 @@ mod clause_order {
         assert_eq!(sizes(&empty, None).unwrap().variables, 4);
     }
 
-    /// [C9] The tail counts the negated units.
+    /// Decision 25: The tail counts the negated units.
     #[test]
     fn the_tail_counts_falsified_units() {
         let file = hex("01 01 00 01 00 00 01 04 01 01 01 01");
@@ -352,7 +352,7 @@ mod clause_order {
         assert_eq!(tail, [vec![4, 5], vec![-4, -5], vec![-5]]);
     }
 
-    /// [C10] Without soft units the tail is empty; 7 is still given.
+    /// Decision 26: Without soft units the tail is empty; 7 is still given.
     #[test]
     fn an_empty_tail_has_no_unit() {
         let file = hex("01 01 00 01 00 00 00");
@@ -363,7 +363,7 @@ mod clause_order {
         assert_eq!(sizes(&file, Some(4_096)), refused(7, 4_096));
     }
 
-    /// [C11] The tail has B + 1 columns and keeps equal clauses.
+    /// Decision 27: The tail has B + 1 columns and keeps equal clauses.
     #[test]
     fn the_tail_is_not_shortened() {
         let all = clauses(&hex(FILE_A), Some(4));
@@ -375,7 +375,7 @@ mod clause_order {
 mod sizing {
     use super::*;
 
-    /// [Z1] 7, then 8, then 9, all after the instance.
+    /// Decision 29: 7, then 8, then 9, all after the instance.
     #[test]
     fn sizing_refusals_come_in_order() {
         let file = oversized();
@@ -385,7 +385,7 @@ mod sizing {
         assert_eq!(check(&hex("00"), 4_096, &[], 0, 0, 0), refused(2, 0));
     }
 
-    /// [Z2] Only proof checks count the tail for 8; 8,000,000 variables pass.
+    /// Decision 30: Only proof checks count the tail for 8; 8,000,000 variables pass.
     #[test]
     fn the_tail_counts_for_proof_checks_alone() {
         // 503 events of duration 124 and one of 115 make 63,999 × 125
@@ -410,7 +410,7 @@ mod sizing {
         assert_eq!(check(&file, 1, &[], 0, 0, 0), refused(8, 0));
     }
 
-    /// [Z3] Words, rows and variable bytes must each suffice for the formula.
+    /// Decision 31: Words, rows and variable bytes must each suffice for the formula.
     #[test]
     fn each_store_must_fit_the_formula() {
         let file = hex(FILE_A);
@@ -421,7 +421,7 @@ mod sizing {
         assert_eq!(run(30, 16, 7), refused(9, 0));
     }
 
-    /// [Z4] 9 exactly if the output is shorter than the text.
+    /// Decision 32: 9 exactly if the output is shorter than the text.
     #[test]
     fn the_text_needs_its_own_length() {
         let file = hex(FILE_A);
@@ -439,13 +439,13 @@ mod sizing {
 mod models {
     use super::*;
 
-    /// [M1] 8 comes before 10.
+    /// Decision 33: 8 comes before 10.
     #[test]
     fn an_oversized_formula_comes_before_the_model() {
         assert_eq!(decode(&oversized(), &[]), refused(8, 0));
     }
 
-    /// [M2] A model is never refused by 12; 10 wants the variables without the tail.
+    /// Decision 34: A model is never refused by 12; 10 wants the variables without the tail.
     #[test]
     fn a_model_without_timetable_breaks_a_clause() {
         let file = hex(FILE_A);
@@ -458,13 +458,13 @@ mod models {
 mod proofs {
     use super::*;
 
-    /// [P1] The literals of a step stand in any order.
+    /// Decision 36: The literals of a step stand in any order.
     #[test]
     fn literals_of_a_step_are_in_any_order() {
         assert_eq!(check_a("61 11 06 02 00 05 00"), refused(18, 1));
     }
 
-    /// [P2] Ids may have gaps; deletion frees none; 0 is no id.
+    /// Decision 37: Ids may have gaps; deletion frees none; 0 is no id.
     #[test]
     fn ids_ascend_with_gaps() {
         assert_eq!(check_a("61 63 02 06 00 05 00"), refused(18, 1));
@@ -476,7 +476,7 @@ mod proofs {
         assert_eq!(check_a("61 FF FF FF FF 0F 06 00 05 00"), refused(18, 1));
     }
 
-    /// [P3] A hint or deletion that never was a clause is not live.
+    /// Decision 38: A hint or deletion that never was a clause is not live.
     #[test]
     fn an_unknown_id_is_not_live() {
         assert_eq!(check_a("61 11 00 63 00"), refused(15, 1));
@@ -484,28 +484,28 @@ mod proofs {
         assert_eq!(check_a("61 11 06 00 11 00"), refused(15, 1));
     }
 
-    /// [P4] Hints are judged one by one, for each 15, then 16.
+    /// Decision 39: Hints are judged one by one, for each 15, then 16.
     #[test]
     fn an_earlier_hint_comes_before_a_later_one() {
         assert_eq!(check_a("61 11 00 07 63 00"), refused(16, 1));
         assert_eq!(check_a("61 11 06 00 05 63 00"), refused(16, 1));
     }
 
-    /// [P5] No hints, or a last hint with an open literal, is 16.
+    /// Decision 40: No hints, or a last hint with an open literal, is 16.
     #[test]
     fn the_hints_must_end_in_a_false_clause() {
         assert_eq!(check_a("61 11 00 00"), refused(16, 1));
         assert_eq!(check_a("61 11 00 05 00"), refused(16, 1));
     }
 
-    /// [P6] A deletion of nothing is a step.
+    /// Decision 41: A deletion of nothing is a step.
     #[test]
     fn a_deletion_without_ids_counts_one() {
         assert_eq!(check_a("64 00"), refused(18, 1));
         assert_eq!(check_a(&format!("64 00 {PROOF_A}")), Ok(2));
     }
 
-    /// [P7] Bytes after the empty clause are not read.
+    /// Decision 42: Bytes after the empty clause are not read.
     #[test]
     fn bytes_after_the_empty_clause_are_18() {
         for more in ["00", "61", "64 00", "FF"] {
@@ -513,14 +513,14 @@ mod proofs {
         }
     }
 
-    /// [P8] The tail's variables may stand in steps.
+    /// Decision 43: The tail's variables may stand in steps.
     #[test]
     fn the_last_variable_is_the_tails() {
         assert_eq!(check_a("61 11 06 10 00 05 00"), refused(18, 1));
         assert_eq!(check_a("61 11 06 12 00 05 00"), refused(14, 1));
     }
 
-    /// [P9] A clause needs a word for each literal and a row; deleted ones stay used.
+    /// Decision 44: A clause needs a word for each literal and a row; deleted ones stay used.
     #[test]
     fn a_clause_must_fit_unless_empty() {
         let file = hex(FILE_A);
@@ -533,7 +533,7 @@ mod proofs {
         assert_eq!(run(PROOF_A, 30, 16), Ok(1));
     }
 
-    /// [P10] A bad number in a proof is 14; a step's first byte is a byte.
+    /// Decision 45: A bad number in a proof is 14; a step's first byte is a byte.
     #[test]
     fn bad_numbers_in_proofs_are_14() {
         assert_eq!(check_a("61 11 86 00 00 05 00"), refused(14, 1));
@@ -542,14 +542,14 @@ mod proofs {
         assert_eq!(check_a("61 80 80 80 80 10 06 00 05 00"), refused(14, 1));
     }
 
-    /// [P11] A step is read whole first; an earlier step's refusal comes first.
+    /// Decision 46: A step is read whole first; an earlier step's refusal comes first.
     #[test]
     fn steps_are_judged_one_by_one() {
         assert_eq!(check_a("64 63 00 62"), refused(15, 1));
         assert_eq!(check_a("61 11 00 63 80 00"), refused(14, 1));
     }
 
-    /// [P12] One literal twice, both signs, and literal 1 are 14.
+    /// Decision 47: One literal twice, both signs, and literal 1 are 14.
     #[test]
     fn no_variable_stands_twice() {
         assert_eq!(check_a("61 11 06 06 00 05 00"), refused(14, 1));
@@ -557,14 +557,14 @@ mod proofs {
         assert_eq!(check_a("61 11 01 00 05 00"), refused(14, 1));
     }
 
-    /// [P13] The formula's own clauses may be deleted, each once.
+    /// Decision 48: The formula's own clauses may be deleted, each once.
     #[test]
     fn formula_clauses_can_be_deleted() {
         assert_eq!(check_a(&format!("64 05 00 {PROOF_A}")), refused(15, 2));
         assert_eq!(check_a("64 05 05 00"), refused(15, 1));
     }
 
-    /// [P14] A proof that stops inside a step is misformed there.
+    /// Decision 49: A proof that stops inside a step is misformed there.
     #[test]
     fn a_cut_step_is_14() {
         assert_eq!(check_a("61 11 06 00 05"), refused(14, 1));
@@ -572,7 +572,7 @@ mod proofs {
         assert_eq!(check_a("64"), refused(14, 1));
     }
 
-    /// [P15] After a missing 0 the bytes that follow are read as numbers.
+    /// Decision 50: After a missing 0 the bytes that follow are read as numbers.
     #[test]
     fn a_missing_0_joins_two_lists() {
         assert_eq!(check_a("61 11 06 05 00 61 12 00 05 00"), refused(15, 1));
@@ -582,14 +582,14 @@ mod proofs {
 mod text_for_solvers {
     use super::*;
 
-    /// [T1] A file longer than 65,536 bytes is not read.
+    /// Decision 53: A file longer than 65,536 bytes is not read.
     #[test]
     fn a_longer_file_is_9() {
         assert_eq!(text_program(&[0; 65_537]), b"9 0\n");
         assert_eq!(text_program(&[0; 65_536]), b"2 0\n");
     }
 
-    /// [T2] Without soft units top is 1.
+    /// Decision 54: Without soft units top is 1.
     #[test]
     fn without_soft_units_top_is_1() {
         assert_eq!(
