@@ -1,8 +1,7 @@
 -- Nodes: ORs and ANDs as they stand in a store of words, each a head word and its long clause.
-use mathlib.Core.Path.{_≡_, refl, ap, _∙_}
+use mathlib.Core.Path.{_≡_, ap}
 use mathlib.Core.List.{List, [], _∷_, _++_, map}
 use Prim.Native.Nat.{ℕ, suc, _+_, _*_}
-use native.Mathlib.Omega.{arith}
 use lib.ListN.{length}
 use Rattle.scope.specs.Cnf.{pos, neg, opp, Gate, or, and, cell}
 use Rattle.sink.specs.Block.{mark}
