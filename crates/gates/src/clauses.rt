@@ -3,13 +3,14 @@ ghost use mathlib.Core.Path.{_≡_};
 ghost use mathlib.Core.List.{[], _∷_, map};
 ghost use Prim.Native.Nat.{_+_, _*_, _≤_, _<_};
 ghost use lib.ListN.{length, take, set};
-ghost use Rattle.scope.specs.Cnf.{pos, opp, or, and, pairs, gate};
+ghost use Rattle.scope.specs.Cnf.{opp, or, and, gate};
 ghost use Rattle.sink.specs.Run.{Ran};
 ghost use Rattle.sink.specs.Lines.{clauseLine, lines};
 ghost use Rattle.sink.specs.World.{world, step};
-ghost use Rattle.counters.specs.Literals.{Literal, LiteralsTo, Literals};
+ghost use Rattle.counters.specs.Literals.{Literal, LiteralsTo};
 ghost use Rattle.gates.specs.Units.{startClauses};
 use super::LAST;
+use super::nodes::write_node;
 use sink::Job;
 use sink::Sink;
 
@@ -87,35 +88,6 @@ pub fn write_short(
     )
 }
 
-// The clauses (not l, o) of an OR.
-fn write_pairs(
-    job: Job,
-    model: &[u8],
-    text: &mut [u8],
-    words: &mut [u32],
-    s: Sink,
-    lits: &[u32],
-    o: u32,
-) -> Sink
-    requires { ⌜ Literals (now lits) × (o < 1073741824) ⌝ }
-    ensures { λ r. ⌜ Ran (step job (now (model .entry))) (map clauseLine (pairs (map opp (now (lits .entry))) (pos o)))
-        (world s (now (text .entry)) (now (words .entry))) (world r (now (text .exit)) (now (words .exit))) ⌝ }
-{
-    let yes = 2 * o + LAST;
-    let mut z = s;
-    for i in 0..lits.len() {
-        z = sink::emit(
-            job,
-            model,
-            text,
-            words,
-            z,
-            &[counters::opposite(lits[i]), yes],
-        );
-    }
-    z
-}
-
 // o is the OR of the first n literals of buf, which has room for one word more.
 pub fn write_or(
     job: Job,
@@ -132,10 +104,9 @@ pub fn write_or(
         (world s (now (text .entry)) (now (words .entry))) (world r (now (text .exit)) (now (words .exit))) ⌝ }
     ensures { λ r. ⌜ now (buf .exit) ≡ set (now (buf .entry)) n (2 * o + 1 + 2147483648) ⌝ }
 {
-    let z = write_pairs(job, model, text, words, s, &buf[..n], o);
     buf[n] = 2 * o + 1 + LAST;
     let m = n + 1;
-    sink::emit(job, model, text, words, z, &buf[..m])
+    write_node(job, model, text, words, s, &buf[..m])
 }
 
 // The two clauses of an event's start, where y and v are its variables Y and S at a time that is the first or not.

@@ -1,0 +1,143 @@
+-- A node's clauses read off its long clause: for each word m before the last the clause (opposite of m, opposite of the last), and
+-- then the long clause itself.
+use mathlib.Core.Path.{_≡_, refl, ap, _∙_, sym, subst}
+use mathlib.Core.List.{List, [], _∷_, _++_, map, append-nil}
+use Prim.Native.Nat.{ℕ, zero, suc, _+_, _-_, _*_, _≤_, _<_}
+use native.Mathlib.Numerals.{add-one}
+use native.Mathlib.Omega.{arith}
+use lib.ListN.{length, take, getD, set, length-append, List·getD-append}
+use lib.Seq.{take-at, getD-at, take-all, take-suc, take-suc-set}
+use Rattle.scope.specs.Cnf.{pos, neg, opp, pairs, Gate, or, and, cell, gate, gateClauses}
+use Rattle.sink.specs.Run.{Ran, then}
+use Rattle.sink.specs.Lines.{Line, clauseLine, lines, map-append}
+use Rattle.sink.specs.World.{World}
+use Rattle.sink.specs.Block.{mark, split, Small, Whole, Marks}
+use Rattle.counters.specs.Literals.{LiteralsTo, Literals, literal-opposite, small-all, literals-take}
+use Rattle.gates.specs.Blocks.{mark-append, long-block, opposite-twice}
+use Rattle.gates.specs.Nodes.{longClause, Node}
+
+-- the words before the last, and the literal of the last
+abbrev pub others : List ℕ → List ℕ
+others ws = take (length ws - 1) ws
+
+abbrev pub lastOf : List ℕ → ℕ
+lastOf ws = getD ws (length ws - 1) 0 - 2147483648
+
+-- the clauses
+unfoldable pub nodeClauses : List ℕ → List (List ℕ)
+nodeClauses ws = pairs (map opp (others ws)) (opp (lastOf ws)) ++ split ws
+
+-- what is a long clause: literals, and then a marked word
+pub record LongClause (ws : List ℕ) : Type 0 where
+  pub some : 1 ≤ length ws
+  pub literals : LiteralsTo (length ws - 1) ws
+  pub marked : 2147483648 ≤ getD ws (length ws - 1) 0
+
+-- literals and then a marked one
+module _ (ls : List ℕ) (p : ℕ) where
+  joined-length : length (ls ++ (p + 2147483648) ∷ []) - 1 ≡ length ls
+  joined-length = rw length-append (omega arith)
+
+  joined-others : others (ls ++ (p + 2147483648) ∷ []) ≡ ls
+  joined-others = rw joined-length (take-at ls ((p + 2147483648) ∷ []) (length ls) refl)
+
+  joined-last : getD (ls ++ (p + 2147483648) ∷ []) (length (ls ++ (p + 2147483648) ∷ []) - 1) 0 ≡ p + 2147483648
+  joined-last = rw joined-length (getD-at ls (p + 2147483648) [] 0 (length ls) refl)
+
+  joined-clauses : Small ls → p < 2147483648 → nodeClauses (ls ++ (p + 2147483648) ∷ []) ≡ pairs (map opp ls) (opp p) ++ (ls ++ p ∷ []) ∷ []
+  unfolding nodeClauses
+  joined-clauses h g =
+      let e : p + 2147483648 - 2147483648 ≡ p = omega arith in
+      rw (joined-others, joined-last, e, long-block ls p h g .clauses)
+
+  joined-long : Literals ls → LongClause (ls ++ (p + 2147483648) ∷ [])
+  joined-long h =
+      record {
+        some = rw length-append (omega arith);
+        literals = λ i g. let k : i < length ls = rw joined-length at g in rw (List·getD-append ls ((p + 2147483648) ∷ []) 0 i k) (h i k);
+        marked = rw joined-last (omega arith);
+      }
+
+-- the opposites of literals
+literals-opposites : (ls : List ℕ) → Literals ls → Literals (map opp ls)
+literals-opposites [] h i g = absurd (omega arith)
+literals-opposites (l ∷ ls) h zero g = literal-opposite l (h 0 (omega arith))
+literals-opposites (l ∷ ls) h (suc i) g = literals-opposites ls (λ j k. h (suc j) (omega arith)) i (omega arith)
+
+opposites-twice : (ls : List ℕ) → map opp (map opp ls) ≡ ls
+opposites-twice [] = refl
+opposites-twice (l ∷ ls) = rw (opposite-twice l) (ap (_∷_ l) (opposites-twice ls))
+
+-- a node's long clause is one, and its clauses are the node's
+pub node-long : (g : Gate) (o : ℕ) → Node g → LongClause (mark (longClause g o))
+unfolding longClause
+node-long (or ls) o h = rw (mark-append ls (neg o)) (joined-long ls (neg o) h)
+node-long (and ls) o h = rw (mark-append (map opp ls) (pos o)) (joined-long (map opp ls) (pos o) (literals-opposites ls h))
+node-long (cell x a b) o h = absurd h
+
+pub node-clauses : (g : Gate) (o : ℕ) → Node g → o < 1073741824 → nodeClauses (mark (longClause g o)) ≡ gateClauses g o
+unfolding longClause gateClauses
+node-clauses (or ls) o h s =
+    let e : opp (neg o) ≡ pos o = omega arith in
+    rw (mark-append ls (neg o), joined-clauses ls (neg o) (small-all ls h) (omega arith), e)
+node-clauses (and ls) o h s =
+    let e : opp (pos o) ≡ neg o = omega arith in
+    rw (mark-append (map opp ls) (pos o), joined-clauses (map opp ls) (pos o) (small-all (map opp ls) (literals-opposites ls h)) (omega arith), e, opposites-twice ls)
+node-clauses (cell x a b) o h s = absurd h
+
+-- a run over the clauses of a long clause is one over the lines of its node
+pub node-ran : {f : Line → World → World} (g : Gate) (o : ℕ) {ws : List ℕ} {w w′ : World} → Node g → o < 1073741824 → ws ≡ mark (longClause g o)
+    → Ran f (map clauseLine (nodeClauses ws)) w w′ → Ran f (lines o (gate g ∷ [])) w w′
+unfolding lines
+node-ran g o h s e r = rw (append-nil (map clauseLine (gateClauses g o)), ← (node-clauses g o h s), ← e) r
+
+-- an OR of the first n words of a list, stored with its output after them
+module _ (n : ℕ) (xs : List ℕ) (o : ℕ) (h : n < length xs) (f : LiteralsTo n xs) where
+  or-stored : take (n + 1) (set xs n (2 * o + 1 + 2147483648)) ≡ mark (longClause (or (take n xs)) o)
+  unfolding longClause
+  or-stored = rw (add-one n, take-suc-set xs n (2 * o + 1 + 2147483648) h) (sym (mark-append (take n xs) (neg o)))
+
+  or-literals : Literals (take n xs)
+  or-literals = literals-take n xs (omega arith) f
+
+  pub or-long : LongClause (take (n + 1) (set xs n (2 * o + 1 + 2147483648)))
+  or-long = subst LongClause (sym or-stored) (node-long (or (take n xs)) o or-literals)
+
+  pub or-ran : {s : Line → World → World} {w w′ : World} → o < 1073741824
+      → Ran s (map clauseLine (nodeClauses (take (n + 1) (set xs n (2 * o + 1 + 2147483648))))) w w′
+      → Ran s (lines o (gate (or (take n xs)) ∷ [])) w w′
+  or-ran g r = node-ran (or (take n xs)) o or-literals g or-stored r
+
+-- a long clause as a block
+module _ {ws : List ℕ} (h : LongClause ws) where
+  ends : ws ≡ others ws ++ getD ws (length ws - 1) 0 ∷ []
+  ends =
+      sym (take-all (suc (length ws - 1)) ws (omega (arith, h .some))) ∙ take-suc ws (length ws - 1) 0 (omega (arith, h .some))
+
+  pub long-others : Literals (others ws)
+  long-others = literals-take (length ws - 1) ws (omega arith) (h .literals)
+
+  long-marks : getD ws (length ws - 1) 0 < 4294967296 → Marks (others ws ++ getD ws (length ws - 1) 0 ∷ []) ((others ws ++ lastOf ws ∷ []) ∷ [])
+  long-marks s =
+      let e : lastOf ws + 2147483648 ≡ getD ws (length ws - 1) 0 = omega (arith, h .marked) in
+      rw e at (long-block (others ws) (lastOf ws) (small-all (others ws) long-others) (omega (arith, h .marked, s)))
+
+  pub long-whole : getD ws (length ws - 1) 0 < 4294967296 → Whole ws
+  long-whole s = subst Whole (sym ends) (long-marks s .whole)
+
+  pub long-split : getD ws (length ws - 1) 0 < 4294967296 → split ws ≡ (others ws ++ lastOf ws ∷ []) ∷ []
+  long-split s = ap split ends ∙ long-marks s .clauses
+
+  pub long-clauses : getD ws (length ws - 1) 0 < 4294967296
+      → nodeClauses ws ≡ pairs (map opp (others ws)) (opp (lastOf ws)) ++ (others ws ++ lastOf ws ∷ []) ∷ []
+  unfolding nodeClauses
+  long-clauses s = ap (λ (cs : List (List ℕ)). pairs (map opp (others ws)) (opp (lastOf ws)) ++ cs) (long-split s)
+
+-- the short clauses, and then the long one
+pub long-ran : {f : Line → World → World} (ws : List ℕ) {o : ℕ} {w₀ w₁ w₂ : World} → o ≡ opp (lastOf ws)
+    → Ran f (map clauseLine (pairs (map opp (others ws)) (o + 2147483648 - 2147483648))) w₀ w₁
+    → Ran f (map clauseLine (split ws)) w₁ w₂ → Ran f (map clauseLine (nodeClauses ws)) w₀ w₂
+unfolding nodeClauses
+long-ran ws {o} e p q =
+    let n : o + 2147483648 - 2147483648 ≡ opp (lastOf ws) = omega arith in
+    rw (map-append clauseLine (pairs (map opp (others ws)) (opp (lastOf ws))) (split ws)) (then (rw n at p) q)
