@@ -20,7 +20,7 @@ use Rattle.counts.specs.declared.Bounds.{Bounds}
 
 -- the rule of some bounds, without its list
 abbrev pub ruleOf : Bounds → Rule
-ruleOf b = record { lo = b .lo; hi = b .hi; zeroFree = b .free; list = [] }
+ruleOf b = record { lo = b .lo; hi = b .hi; zeroFree = b .free; list = record { nodes = []; members = [] } }
 
 -- the low part, from the variable v on
 unfoldable pub lowItems : ℕ → Bounds → (ℕ → ℕ) → ℕ → List Item
