@@ -6,7 +6,8 @@ use mathlib.Core.Option.{Option, none, some}
 use Prim.Native.Nat.{ℕ, _/_}
 use lib.Dec.{leb, eqb}
 use borrow.Author.Tests.{leb-true, eq-eqb, ne-eqb, eqb-false}
-use Rattle.scope.specs.Steps.{Marks, makeFalse, allFalse, literalsOk, falsified, oneOpen, standing, Live}
+use Rattle.scope.specs.Steps.{Live}
+use Rattle.theory.specs.Marked.{Marks, makeFalse, allFalse, literalsOk, falsified, oneOpen, standing}
 use Rattle.store.specs.Clauses.{inClause}
 use Rattle.store.specs.Holding.{All, Good, open-in}
 use Rattle.laws.specs.Booleans.{and-true, or-false}

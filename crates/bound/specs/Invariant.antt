@@ -5,8 +5,11 @@ use mathlib.Core.List.{List, _∷_}
 use Prim.Native.Nat.{ℕ, _+_, _-_, _≤_, _<_}
 use lib.ListN.{length}
 use Rattle.scope.specs.Parsed.{Answer, answered, refusal}
-use Rattle.scope.specs.Steps.{Tokens, upTo0, Live, allOpen, allFalse, literalsOk, follows, hintsShow, deleted}
-use Rattle.scope.specs.PlainRun.{State, Limits, Outcome, withClause, byShown, byDeleted, byOutcome, run}
+use Rattle.scope.specs.Steps.{Live, follows, deleted}
+use Rattle.theory.specs.StepTokens.{Tokens, upTo0}
+use Rattle.theory.specs.Marked.{allOpen, allFalse, literalsOk, hintsShow}
+use Rattle.scope.specs.PlainRun.{State, Limits, withClause}
+use Rattle.theory.specs.MarkedRun.{Outcome, byShown, byDeleted, byOutcome, run}
 use Rattle.store.specs.declared.directory.Row.{Row}
 use Rattle.store.specs.Marks.{marksOf}
 use Rattle.store.specs.Live.{liveRows}

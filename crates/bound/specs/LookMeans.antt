@@ -9,9 +9,10 @@ use lib.ListN.{length}
 use borrow.Author.Tests.{ne-eqb}
 use Rattle.scope.specs.Parsed.{Answer, refusal, got}
 use Rattle.scope.specs.Number.{number}
-use Rattle.scope.specs.Steps as steps
-use Rattle.scope.specs.Steps.{Marks, makeTrue, Standing, standing, byStanding, hintsShow}
-use Rattle.scope.specs.PlainRun.{Limits, byShown}
+use Rattle.theory.specs.Marked as steps
+use Rattle.theory.specs.Marked.{Marks, makeTrue, Standing, standing, byStanding, hintsShow}
+use Rattle.scope.specs.PlainRun.{Limits}
+use Rattle.theory.specs.MarkedRun.{byShown}
 use Rattle.number.specs.Laws.{number-got}
 use Rattle.store.specs.declared.directory.Row.{Row}
 use Rattle.store.specs.Marks.{marksOf, putMark, mark-put, put-length}

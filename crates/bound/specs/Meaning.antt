@@ -7,9 +7,12 @@ use native.Mathlib.Omega.{arith}
 use lib.ListN.{length}
 use borrow.Author.Tests.{eq-eqb, ne-eqb}
 use Rattle.scope.specs.Parsed.{Answer}
-use Rattle.scope.specs.Steps.{allOpen}
+use Rattle.theory.specs.Marked.{allOpen}
 use Rattle.scope.specs.Formula.{words}
-use Rattle.scope.specs.PlainRun.{Limits, byId, start, run, plainRun}
+use Rattle.scope.specs.PlainRun.{Limits, byId, start}
+use Rattle.scope.specs.PlainRun as scope
+use Rattle.theory.specs.MarkedRun.{run, plainRun}
+use Rattle.theory.specs.SameRun.{plain-marked}
 use Rattle.scope.specs.Answers.{checkMeans}
 use Rattle.scope.specs.declared.CheckAnswer.{CheckAnswer}
 use Rattle.store.specs.declared.directory.Row.{Row}
@@ -261,7 +264,8 @@ driven-means s last cap n used R ws ms r f d x =
 pub check-means : (s : List ℕ) (last n : ℕ) (ys₀ ys : List Row) (ws₀ ws ms : List ℕ) (r : CheckAnswer) (f : List (List ℕ)) (rest : List ℕ) {R′ : ℕ → Row} {ws′ ms′ : List ℕ}
     → Plain f → Each (Good last) f → ws₀ ≡ flatMap mark f ++ rest → length f ≤ length ys₀ → last ≤ length ms → marksOf ms ≡ allOpen
     → Built ws₀ ws ys₀ ys (words f) n → Driven s last (length ys₀) n (words f) (rowsOf ys) ws ms r R′ ws′ ms′
-    → checkMeans r ≡ plainRun (limits last (length ws) (length ys₀)) f s
+    → checkMeans r ≡ scope.plainRun (limits last (length ws) (length ys₀)) f s
 check-means s last n ys₀ ys ws₀ ws ms r f rest plain good e fits marked unmarked b d =
     driven-means s last (length ys₀) n (words f) (rowsOf ys) ws ms r f d
     (built-stands f rest last (length ys₀) n (rowsOf ys) ws ms (built-for f rest b plain e fits) good fits marked unmarked)
+    ∙ sym (plain-marked (limits last (length ws) (length ys₀)) f s)

@@ -10,9 +10,12 @@ use lib.Seq.{drop-cons}
 use borrow.Author.Tests.{ltb-true}
 use Rattle.scope.specs.Parsed.{Parsed, Answer, refusal, got, refused}
 use Rattle.scope.specs.Number.{Front, broken, whole, front, within, number}
-use Rattle.scope.specs.Steps as steps
-use Rattle.scope.specs.Steps.{Tokens, byFront, tokensAfter, StepRead, read, misread, readStep, wellFormed, allOpen, hintsShow, deleted}
-use Rattle.scope.specs.PlainRun.{State, Limits, perform, byShown, byDeleted, byRead, run}
+use Rattle.theory.specs.Marked as steps
+use Rattle.scope.specs.Steps.{deleted}
+use Rattle.theory.specs.StepTokens.{Tokens, byFront, tokensAfter, StepRead, read, misread, readStep}
+use Rattle.theory.specs.Marked.{wellFormed, allOpen, hintsShow}
+use Rattle.scope.specs.PlainRun.{State, Limits}
+use Rattle.theory.specs.MarkedRun.{perform, byShown, byDeleted, byRead, run}
 use Rattle.number.specs.Laws.{number-got}
 use Rattle.store.specs.declared.directory.Row.{Row}
 use Rattle.store.specs.Marks.{marksOf}

@@ -12,9 +12,12 @@ use lib.Seq.{sets, length-sets, drop-cons}
 use borrow.Author.Tests.{eq-eqb, ne-eqb, leb-true, ltb-true, ltb-false}
 use Rattle.scope.specs.Parsed.{Answer, refusal, got}
 use Rattle.scope.specs.Number.{Front, broken, whole, front, within, number}
-use Rattle.scope.specs.Steps.{byFront, tokensAfter, allOpen, Live, put, follows, deleted}
-use Rattle.scope.specs.PlainRun as plain
-use Rattle.scope.specs.PlainRun.{State, Limits, withClause, fits, byShown, byDeleted, atEnd}
+use Rattle.scope.specs.Steps.{Live, put, follows, deleted}
+use Rattle.theory.specs.StepTokens.{byFront, tokensAfter}
+use Rattle.theory.specs.Marked.{allOpen}
+use Rattle.theory.specs.MarkedRun as plain
+use Rattle.scope.specs.PlainRun.{State, Limits, withClause, fits}
+use Rattle.theory.specs.MarkedRun.{byShown, byDeleted, atEnd}
 use Rattle.number.specs.Laws.{number-got}
 use Rattle.store.specs.declared.directory.Row.{Row}
 use Rattle.store.specs.Marks.{marksOf}

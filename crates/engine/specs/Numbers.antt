@@ -6,7 +6,7 @@ use mathlib.Core.List.{List, [], _∷_}
 use native.Mathlib.Omega.{arith}
 use lib.Dec.{leb, eqb}
 use lib.ListN.{length}
-use Rattle.scope.specs.Parsed.{Answer, answered, then}
+use Rattle.scope.specs.Parsed.{Answer, answered}
 use Rattle.scope.specs.Cnf.{bit}
 use Rattle.scope.specs.Score.{firstAbove}
 use Rattle.scope.specs.Formula.{variables, hardOf, boundedVariables, boundedHard, mostBound, mostVariables}
@@ -14,7 +14,7 @@ use Rattle.scope.specs.Text.{text}
 use Rattle.scope.specs.Operations.{readOf, scoreOf, sameSheetOf, sizesOf, textSizeOf, textOf, decodeOf, lowestFalse, Lent, formulaFits, limitsOf, against, checkOf, checkHardOf, nothingBelow, bestOf}
 use Rattle.calls.specs.Call.{called}
 use Rattle.engine.specs.Within.{oneOf, Within, accepts, refuses, Reader, on-file, given-if, given-for, Timetables, on-timetable}
-use Rattle.engine.specs.RunWithin.{Proofs, a-plain-run}
+use Rattle.engine.specs.RunWithin.{Proofs, then-within, a-plain-run}
 
 -- an answer that is no refusal
 pub record Accepted {A : Type 0} (a : Answer A) : Type 0 where
@@ -135,11 +135,6 @@ check-hard-numbers file proof l =
 -- the best model: those of decoding, then those of a check
 abbrev pub bestNumbers : List ℕ
 bestNumbers = fromFile (7 ∷ 8 ∷ 9 ∷ 10 ∷ 11 ∷ 13 ∷ 14 ∷ 15 ∷ 16 ∷ 17 ∷ 18 ∷ [])
-
--- one operation after another
-then-within : {ns : List ℕ} {A B : Type 0} {a : Answer A} {f : A → Answer B} → Within ns a → ((x : A) → Within ns (f x)) → Within ns (then a f)
-then-within accepts h = h _
-then-within (refuses e) h = refuses e
 
 below-numbers : (file : List ℕ) (w : ℕ) (proof : List ℕ) (l : Lent) → Within bestNumbers (nothingBelow file w proof l)
 below-numbers file zero proof l = accepts

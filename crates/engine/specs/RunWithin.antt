@@ -1,14 +1,15 @@
 -- The plain run gives 14 to 18.
 use Prim.Native.Nat.{ℕ, zero, suc, _+_}
 use mathlib.Core.Path.{_≡_}
-use mathlib.Core.Bool.{Bool, true, false, cond}
+use mathlib.Core.Bool.{true}
 use mathlib.Core.List.{List, [], _∷_}
 use mathlib.Core.Option.{Option, none, some}
+use lib.Dec.{leb, ltb}
 use lib.ListN.{length}
-use Rattle.scope.specs.Parsed.{Answer}
-use Rattle.scope.specs.Steps.{Step, add, delete, Tokens, stop, bad, num, tokens, StepRead, read, misread, readStep, wellFormed, Live, deleted, Shown, follows, notLive, breaks, hintsShow, allFalse, allOpen}
-use Rattle.scope.specs.PlainRun.{State, Limits, Outcome, next, empty, refused, withClause, fits, byShown, byDeleted, perform, atEnd, byOutcome, byForm, byRead, run, start, plainRun}
-use Rattle.engine.specs.Within.{oneOf, Within, accepts, refuses}
+use Rattle.scope.specs.Parsed.{Parsed, got, refused, Answer, answered, refusal, then}
+use Rattle.scope.specs.Steps.{Step, add, delete, stepAt, wellFormed, Live, either, deleted, Shown, follows, notLive, breaks, hintsShow}
+use Rattle.scope.specs.PlainRun.{State, Limits, withLive, fits, byShown, perform, formed, after, run, start, plainRun}
+use Rattle.engine.specs.Within.{oneOf, Within, accepts, refuses, given-if}
 
 pub record Proofs (ns : List ℕ) : Type 0 where
   pub e14 : oneOf ns 14 ≡ true
@@ -17,63 +18,47 @@ pub record Proofs (ns : List ℕ) : Type 0 where
   pub e17 : oneOf ns 17 ≡ true
   pub e18 : oneOf ns 18 ≡ true
 
-data Steps (ns : List ℕ) : Outcome → Type 0 where
-  goes-on : {st : State} → Steps ns (next st)
-  ends : Steps ns empty
-  fails : {k : ℕ} → oneOf ns k ≡ true → Steps ns (refused k)
+-- one operation after another
+pub then-within : {ns : List ℕ} {A B : Type 0} {a : Answer A} {f : A → Answer B} → Within ns a → ((x : A) → Within ns (f x)) → Within ns (then a f)
+then-within accepts h = h _
+then-within (refuses e) h = refuses e
 
 module _ {ns : List ℕ} (p : Proofs ns) where
-  fitting : (b : Bool) (st : State) → Steps ns (cond b (next st) (refused 17))
-  fitting true st = goes-on
-  fitting false st = fails (p .e17)
+  shown : (s : Shown) (lim : Limits) (st : State) (n id : ℕ) (c : List ℕ) → Within ns (byShown s lim st n id c)
+  shown notLive lim st n id c = refuses (p .e15)
+  shown breaks lim st n id c = refuses (p .e16)
+  shown follows lim st n id [] = accepts
+  shown follows lim st n id (l ∷ ls) = given-if (fits lim st (l ∷ ls)) 17 n (p .e17) accepts
 
-  shown : (s : Shown) (lim : Limits) (st : State) (id : ℕ) (c : List ℕ) → Steps ns (byShown s lim st id c)
-  shown notLive lim st id c = fails (p .e15)
-  shown breaks lim st id c = fails (p .e16)
-  shown follows lim st id [] = ends
-  shown follows lim st id (l ∷ ls) = fitting (fits lim st (l ∷ ls)) (withClause st id (l ∷ ls))
-
-  dropped : (st : State) (o : Option Live) → Steps ns (byDeleted st o)
-  dropped st none = fails (p .e15)
-  dropped st (some L) = goes-on
-
-  performed : (lim : Limits) (st : State) (s : Step) → Steps ns (perform lim st s)
+  performed : (lim : Limits) (st : State) (n : ℕ) (x : Step) → Within ns (perform lim st n x)
   unfolding perform
-  performed lim st (add id c hs) = shown (hintsShow (st .live) (allFalse allOpen c) hs) lim st id c
-  performed lim st (delete ids) = dropped st (deleted (st .live) ids)
+  performed lim st n (add id c hs) = shown (hintsShow (st .live) c hs) lim st n id c
+  performed lim st n (delete ids) = go (deleted (st .live) ids)
+    where
+      go : (o : Option Live) → Within ns (either o (refusal 15 n) (λ L. answered (some (withLive st L))))
+      go none = refuses (p .e15)
+      go (some L) = accepts
 
-  at-end : (n : ℕ) (ts : Tokens) → Within ns (atEnd n ts)
-  at-end n stop = accepts
-  at-end n bad = refuses (p .e18)
-  at-end n (num k ts) = refuses (p .e18)
+  stepped : (n : ℕ) (s : List ℕ) (next : ℕ) (o : Option State) {go : State → Answer ℕ} → ((st : State) → Within ns (go st))
+      → Within ns (after n s next o go)
+  stepped n s next none h = given-if (leb (length s) next) 18 n (p .e18) accepts
+  stepped n s next (some st) h = h st
 
-  stepped : {o : Outcome} (n : ℕ) (ts : Tokens) {go : State → Answer ℕ}
-      → Steps ns o
-      → ((st : State) → Within ns (go st))
-      → Within ns (byOutcome o n ts go)
-  stepped n ts goes-on h = h _
-  stepped n ts ends h = at-end n ts
-  stepped n ts (fails e) h = refuses e
+  one-read : (lim : Limits) (st : State) (n : ℕ) (r : Parsed Step) {go : Step → ℕ → Answer ℕ}
+      → ((x : Step) (next : ℕ) → Within ns (go x next))
+      → Within ns (formed lim st n r go)
+  one-read lim st n (refused k v) h = refuses (p .e14)
+  one-read lim st n (got x next) h = given-if (wellFormed (lim .lastVariable) (st .highest) x) 14 n (p .e14) (h x next)
 
-  formed : (b : Bool) (lim : Limits) (st : State) (s : Step) (ts : Tokens) {go : State → Answer ℕ}
-      → ((st : State) → Within ns (go st))
-      → Within ns (byForm b lim st s ts go)
-  formed false lim st s ts h = refuses (p .e14)
-  formed true lim st s ts h = stepped (st .steps + 1) ts (performed lim st s) h
-
-  one-read : (r : StepRead) (lim : Limits) (st : State) {go : Tokens → State → Answer ℕ}
-      → ((ts : Tokens) (st : State) → Within ns (go ts st))
-      → Within ns (byRead r lim st go)
-  one-read misread lim st h = refuses (p .e14)
-  one-read (read s ts) lim st h = formed (wellFormed (lim .lastVariable) (st .highest) s) lim st s ts (h ts)
-
-  a-run : (k : ℕ) (lim : Limits) (st : State) (ts : Tokens) → Within ns (run k lim st ts)
+  a-run : (k : ℕ) (lim : Limits) (s : List ℕ) (at : ℕ) (st : State) → Within ns (run k lim s at st)
   unfolding run
-  a-run zero lim st ts = refuses (p .e18)
-  a-run (suc k) lim st stop = refuses (p .e18)
-  a-run (suc k) lim st bad = refuses (p .e14)
-  a-run (suc k) lim st (num n ts) = one-read (readStep (num n ts)) lim st (λ ts′ st′. a-run k lim st′ ts′)
+  a-run zero lim s at st = refuses (p .e18)
+  a-run (suc k) lim s at st =
+      let n = st .steps + 1 in
+      given-if (ltb at (length s)) 18 (st .steps) (p .e18)
+      (one-read lim st n (stepAt s at)
+      (λ x next. then-within (performed lim st n x) (λ o. stepped n s next o (a-run k lim s next))))
 
   pub a-plain-run : (lim : Limits) (f : List (List ℕ)) (proof : List ℕ) → Within ns (plainRun lim f proof)
   unfolding plainRun
-  a-plain-run lim f proof = a-run (suc (length proof)) lim (start f) (tokens proof)
+  a-plain-run lim f proof = a-run (length proof) lim proof 0 (start f)

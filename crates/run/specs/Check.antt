@@ -8,7 +8,7 @@ use lib.ListN.{length, set}
 use lib.Seq.{sets}
 use Rattle.scope.specs.Parsed.{Parsed, got, refused}
 use Rattle.scope.specs.Number.{number}
-use Rattle.scope.specs.Steps.{Tokens, upTo0, readStep}
+use Rattle.theory.specs.StepTokens.{Tokens, upTo0, readStep}
 use Rattle.store.specs.declared.directory.Row.{Row}
 use Rattle.steps.specs.declared.step.Read.{Read}
 use Rattle.steps.specs.declared.step.Read.the-variants.{Adds, Deletes, Misformed}

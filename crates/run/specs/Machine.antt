@@ -8,7 +8,7 @@ use lib.Dec.{eqb}
 use borrow.Author.Tests.{eqb-true, eqb-false}
 use Rattle.scope.specs.Parsed.{Parsed, got, refused}
 use Rattle.scope.specs.Number.{number}
-use Rattle.scope.specs.Steps.{Standing, falsified, oneOpen, other, standing}
+use Rattle.theory.specs.Marked.{Standing, falsified, oneOpen, other, standing}
 use Rattle.store.specs.declared.directory.Row.{Row}
 use Rattle.store.specs.Marks.{marksOf, putMark}
 use Rattle.store.specs.Clauses.{Wiped, inClause, wiped, wiped-opens}

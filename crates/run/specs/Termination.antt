@@ -9,7 +9,8 @@ use lib.Dec.{eqb, ltb, leb}
 use lib.ListN.{length}
 use Rattle.scope.specs.Parsed.{Parsed, got, refused}
 use Rattle.scope.specs.Number.{number}
-use Rattle.scope.specs.Steps.{StepRead, Standing, falsified, oneOpen, other}
+use Rattle.theory.specs.StepTokens.{StepRead}
+use Rattle.theory.specs.Marked.{Standing, falsified, oneOpen, other}
 use Rattle.number.specs.Laws.{number-got}
 use Rattle.store.specs.declared.directory.Row.{Row}
 use Rattle.run.specs.declared.machine.Phase.{Phase}

@@ -9,7 +9,7 @@ use store::clauses::wipe_clause;
 use store::directory::Row;
 use store::marks::put_mark;
 ghost use mathlib.Core.Path.{_≡_};
-ghost use Rattle.scope.specs.Steps.{standing, falsified};
+ghost use Rattle.theory.specs.Marked.{standing, falsified};
 ghost use Rattle.store.specs.Marks.{marksOf};
 ghost use Rattle.store.specs.Live.{rowClause};
 ghost use Rattle.run.specs.Machine.{turnOf, stopped, onward, walked, walkedMarks, advanced, advancedMarks};

@@ -14,7 +14,7 @@ use Rattle.scope.specs.Cnf.{Item, gate, byte, bit, lit, clause, clauses,
 use Rattle.scope.specs.Score.{trues, any, all, deviation, charged, valuesAfter, count, deviations, truth, eventRight, firstWrong, infeasibilityOf, objectiveOf, firstAbove}
 use Rattle.scope.specs.Formula.{noRow, ones, row, counter, lastRow, lowUnits, highUnits, shortUnits, boundItems, countInto, ruleItems, rulesItems, starts, uses, durationRules, constraintRules, formula, variables, hardOf, softOf, tail, bounded, boundedVariables, boundedHard, words}
 use Rattle.scope.specs.Text.{digits, literalText, line, sumWeights, top, headerLine, text}
-use Rattle.scope.specs.Steps.{tokensAfter, numbers, readStep, allFalse, literalsOk, wellFormed, standing, hintsShow, deleted}
+use Rattle.scope.specs.Steps.{numbers, stepAt, literalsOk, wellFormed, hintsShow, deleted}
 use Rattle.scope.specs.PlainRun.{perform, run, start, plainRun}
 use Rattle.scope.specs.Operations.{Lent, readOf, scoreOf, sameBytes, sameSheetOf, sizesOf, textSizeOf, textOf, programPrints, lowestFalse, decodeOf, formulaFits, checkOf, checkHardOf, bestOf}
 use Rattle.scope.specs.declared.Infeasibility.{Infeasibility}
@@ -206,5 +206,5 @@ cases =
 
 -- the definitions compute what the paper says
 pub examples : map (λ c. c .computed) cases ≡ map (λ c. c .expected) cases
-unfolding repeat group front within number limited reference references listed from member usersFrom outside gapsAfter gaps entriesNodes entriesMembers countedOf longest eventAt pairAt boundsAt clashAt unavailableAt preferredAt splitAt spreadAt busyAt overGroupsAt fieldsAt ended constraintAt sizesAt groupsAt constraintsAt parse bit lit clause clauses cube hasTrue withoutFalse tidy pairs gateClauses value hardClauses outputs softUnits falsified trues any all deviation charged valuesAfter count deviations truth eventRight firstWrong infeasibilityOf objectiveOf firstAbove row counter lastRow lowUnits highUnits shortUnits boundItems countInto ruleItems rulesItems starts uses durationRules constraintRules formula variables hardOf softOf tail bounded boundedVariables boundedHard words digits literalText line sumWeights top headerLine text tokensAfter numbers readStep allFalse literalsOk wellFormed standing hintsShow deleted perform run start plainRun readOf scoreOf sameBytes sameSheetOf sizesOf textSizeOf textOf programPrints lowestFalse decodeOf formulaFits checkOf checkHardOf bestOf fileA fileHardA fileFree proofA listingA numberSaid stepsSaid scoreSaid decodeSaid bestSaid sizeSaid ample checkA roomA bestA busyTimes startAt1 counter3 holds3 timesFile spelt listFile six idleSix cases flatMap
+unfolding repeat group front within number limited reference references listed from member usersFrom outside gapsAfter gaps entriesNodes entriesMembers countedOf longest eventAt pairAt boundsAt clashAt unavailableAt preferredAt splitAt spreadAt busyAt overGroupsAt fieldsAt ended constraintAt sizesAt groupsAt constraintsAt parse bit lit clause clauses cube hasTrue withoutFalse tidy pairs gateClauses value hardClauses outputs softUnits falsified trues any all deviation charged valuesAfter count deviations truth eventRight firstWrong infeasibilityOf objectiveOf firstAbove row counter lastRow lowUnits highUnits shortUnits boundItems countInto ruleItems rulesItems starts uses durationRules constraintRules formula variables hardOf softOf tail bounded boundedVariables boundedHard words digits literalText line sumWeights top headerLine text numbers stepAt literalsOk wellFormed hintsShow deleted perform run start plainRun readOf scoreOf sameBytes sameSheetOf sizesOf textSizeOf textOf programPrints lowestFalse decodeOf formulaFits checkOf checkHardOf bestOf fileA fileHardA fileFree proofA listingA numberSaid stepsSaid scoreSaid decodeSaid bestSaid sizeSaid ample checkA roomA bestA busyTimes startAt1 counter3 holds3 timesFile spelt listFile six idleSix cases flatMap
 examples = refl

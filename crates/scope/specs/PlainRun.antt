@@ -1,13 +1,13 @@
 -- The plain run: refusals 14 to 18, and the answer "no timetable" with the number of steps.
-use mathlib.Core.Bool.{Bool, true, false, cond, _&&_}
+use mathlib.Core.Bool.{Bool, _&&_}
 use mathlib.Core.List.{List, [], _∷_}
 use mathlib.Core.Option.{Option, none, some}
 use Prim.Native.Nat.{ℕ, zero, suc, _+_}
 use lib.ListN.{length, getElem?}
-use lib.Dec.{leb}
-use Rattle.scope.specs.Parsed.{Answer, answered, refusal}
+use lib.Dec.{leb, ltb}
+use Rattle.scope.specs.Parsed.{Parsed, got, refused, Answer, answered, refusal, then, provided}
 use Rattle.scope.specs.Formula.{words}
-use Rattle.scope.specs.Steps.{Step, add, delete, Tokens, stop, bad, num, tokens, StepRead, read, misread, readStep, wellFormed, put, allOpen, allFalse, Live, Shown, follows, notLive, breaks, hintsShow, deleted}
+use Rattle.scope.specs.Steps.{Step, add, delete, stepAt, wellFormed, Live, put, either, Shown, follows, notLive, breaks, hintsShow, deleted}
 
 -- "Its state: the live clauses with their ids, the highest id so far, words and rows used, steps counted."
 pub record State : Type 0 where
@@ -22,12 +22,6 @@ pub record Limits : Type 0 where
   pub lastVariable : ℕ
   pub wordsLent : ℕ
   pub rowsLent : ℕ
-
--- what a well-formed step does: it leaves a state, adds the empty clause, or earns a refusal
-pub data Outcome : Type 0 where
-  next : State → Outcome
-  empty : Outcome
-  refused : (number : ℕ) → Outcome
 
 abbrev pub withClause : State → ℕ → List ℕ → State
 withClause st id c =
@@ -47,45 +41,34 @@ withLive st L =
 abbrev pub fits : Limits → State → List ℕ → Bool
 fits lim st c = leb (st .wordsUsed + length c) (lim .wordsLent) && leb (st .rowsUsed + 1) (lim .rowsLent)
 
-abbrev pub byShown : Shown → Limits → State → ℕ → List ℕ → Outcome
-byShown notLive lim st id c = refused 15
-byShown breaks lim st id c = refused 16
-byShown follows lim st id [] = empty
-byShown follows lim st id (l ∷ ls) = cond (fits lim st (l ∷ ls)) (next (withClause st id (l ∷ ls))) (refused 17)
+-- what step n leaves where it is well formed: a state, none where it adds the empty clause
+abbrev pub byShown : Shown → Limits → State → ℕ → ℕ → List ℕ → Answer (Option State)
+byShown notLive lim st n id c = refusal 15 n
+byShown breaks lim st n id c = refusal 16 n
+byShown follows lim st n id [] = answered none
+byShown follows lim st n id (l ∷ ls) = provided (fits lim st (l ∷ ls)) 17 n (answered (some (withClause st id (l ∷ ls))))
 
-abbrev pub byDeleted : State → Option Live → Outcome
-byDeleted st none = refused 15
-byDeleted st (some L) = next (withLive st L)
+-- "set each literal of the new clause false"
+unfoldable pub perform : Limits → State → ℕ → Step → Answer (Option State)
+perform lim st n (add id c hs) = byShown (hintsShow (st .live) c hs) lim st n id c
+perform lim st n (delete ids) = either (deleted (st .live) ids) (refusal 15 n) (λ L. answered (some (withLive st L)))
 
-unfoldable pub perform : Limits → State → Step → Outcome
-perform lim st (add id c hs) = byShown (hintsShow (st .live) (allFalse allOpen c) hs) lim st id c
-perform lim st (delete ids) = byDeleted st (deleted (st .live) ids)
+-- step n is read: 14 where it is misformed
+abbrev pub formed : Limits → State → ℕ → Parsed Step → (Step → ℕ → Answer ℕ) → Answer ℕ
+formed lim st n (refused k v) go = refusal 14 n
+formed lim st n (got x next) go = provided (wellFormed (lim .lastVariable) (st .highest) x) 14 n (go x next)
 
--- after the empty clause, in step n, nothing may follow
-abbrev pub atEnd : ℕ → Tokens → Answer ℕ
-atEnd n stop = answered n
-atEnd n bad = refusal 18 n
-atEnd n (num k ts) = refusal 18 n
+-- after step n, before an offset: the state goes on; after the empty clause nothing may follow
+abbrev pub after : ℕ → List ℕ → ℕ → Option State → (State → Answer ℕ) → Answer ℕ
+after n s next o go = either o (provided (leb (length s) next) 18 n (answered n)) go
 
-abbrev pub byOutcome : Outcome → ℕ → Tokens → (State → Answer ℕ) → Answer ℕ
-byOutcome (next st) n ts go = go st
-byOutcome empty n ts go = atEnd n ts
-byOutcome (refused k) n ts go = refusal k n
-
-abbrev pub byForm : Bool → Limits → State → Step → Tokens → (State → Answer ℕ) → Answer ℕ
-byForm false lim st s ts go = refusal 14 (st .steps + 1)
-byForm true lim st s ts go = byOutcome (perform lim st s) (st .steps + 1) ts go
-
-abbrev pub byRead : StepRead → Limits → State → (Tokens → State → Answer ℕ) → Answer ℕ
-byRead misread lim st go = refusal 14 (st .steps + 1)
-byRead (read s ts) lim st go = byForm (wellFormed (lim .lastVariable) (st .highest) s) lim st s ts (go ts)
-
--- steps one by one; k bounds their number
-unfoldable pub run : ℕ → Limits → State → Tokens → Answer ℕ
-run zero lim st ts = refusal 18 (st .steps)
-run (suc k) lim st stop = refusal 18 (st .steps)
-run (suc k) lim st bad = refusal 14 (st .steps + 1)
-run (suc k) lim st (num n ts) = byRead (readStep (num n ts)) lim st (λ ts′ st′. run k lim st′ ts′)
+-- the steps from an offset on, one by one; k bounds their number
+unfoldable pub run : ℕ → Limits → List ℕ → ℕ → State → Answer ℕ
+run zero lim s at st = refusal 18 (st .steps)
+run (suc k) lim s at st =
+    let n = st .steps + 1 in
+    provided (ltb at (length s)) 18 (st .steps)
+    (formed lim st n (stepAt s at) (λ x next. then (perform lim st n x) (λ o. after n s next o (run k lim s next))))
 
 -- clause n of a formula has the id n
 abbrev pub byId : List (List ℕ) → Live
@@ -98,4 +81,4 @@ start f = record { live = byId f; highest = length f; wordsUsed = words f; rowsU
 
 -- each step takes a byte at least, so there are no more steps than bytes
 unfoldable pub plainRun : Limits → List (List ℕ) → List ℕ → Answer ℕ
-plainRun lim f proof = run (suc (length proof)) lim (start f) (tokens proof)
+plainRun lim f proof = run (length proof) lim proof 0 (start f)

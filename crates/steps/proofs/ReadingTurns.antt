@@ -9,7 +9,8 @@ use lib.ListN.{length}
 use borrow.Author.Tests.{leb-true}
 use Rattle.scope.specs.Parsed.{got, refused}
 use Rattle.scope.specs.Number.{number}
-use Rattle.scope.specs.Steps.{before, makeFalse, allFalse, literalsOk}
+use Rattle.theory.specs.StepTokens.{before}
+use Rattle.theory.specs.Marked.{makeFalse, allFalse, literalsOk}
 use Rattle.store.specs.Marks.{marksOf, putMark, mark-put, put-length}
 use Rattle.laws.specs.Booleans.{impossible, and-true}
 use Rattle.theory.specs.Tokens.{tokens-got}

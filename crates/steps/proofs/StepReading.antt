@@ -9,8 +9,10 @@ use lib.ListN.{length, getD}
 use borrow.Author.Tests.{lt-ltb, le-ltb, eq-eqb, ne-eqb, ltb-true, ltb-false, leb-true, leb-false, eqb-true, eqb-false}
 use Rattle.scope.specs.Parsed.{Parsed, got, refused}
 use Rattle.scope.specs.Number.{number}
-use Rattle.scope.specs.Steps as steps
-use Rattle.scope.specs.Steps.{Tokens, stop, bad, upTo0, numbers, Step, add, StepRead, read, misread, readHints, readLiterals, readAdd, readDelete, readStep, allFalse, literalsOk, wellFormed}
+use Rattle.theory.specs.StepTokens as steps
+use Rattle.scope.specs.Steps.{Step, add}
+use Rattle.theory.specs.StepTokens.{Tokens, stop, bad, upTo0, numbers, StepRead, read, misread, readHints, readLiterals, readAdd, readDelete, readStep}
+use Rattle.theory.specs.Marked.{allFalse, literalsOk, wellFormed}
 use Rattle.store.specs.Marks.{marksOf}
 use Rattle.laws.specs.Booleans.{impossible}
 use Rattle.theory.specs.Tokens.{tokens-got, tokens-bad, tokens-stop}

@@ -9,8 +9,8 @@ use lib.ListN.{length, drop}
 use borrow.Author.Tests.{ltb-true, ltb-false}
 use Rattle.scope.specs.Parsed.{got, refused}
 use Rattle.scope.specs.Number.{number}
-use Rattle.scope.specs.Steps as steps
-use Rattle.scope.specs.Steps.{Tokens, num, tokens, upTo0, numbers, before}
+use Rattle.theory.specs.StepTokens as steps
+use Rattle.theory.specs.StepTokens.{Tokens, num, tokens, upTo0, numbers, before}
 use Rattle.number.specs.Answers.{said}
 use Rattle.number.specs.declared.Number.{Number}
 use Rattle.number.specs.declared.Number.the-variants.{Value, Refused}

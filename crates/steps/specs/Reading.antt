@@ -4,8 +4,10 @@ use mathlib.Core.Bool.{true, false}
 use mathlib.Core.List.{List}
 use Prim.Native.Nat.{ℕ, _+_, _≤_, _<_}
 use lib.ListN.{length, drop}
-use Rattle.scope.specs.Steps as steps
-use Rattle.scope.specs.Steps.{Tokens, tokens, upTo0, numbers, Step, add, delete, read, allOpen, allFalse, literalsOk, wellFormed}
+use Rattle.theory.specs.StepTokens as steps
+use Rattle.scope.specs.Steps.{Step, add, delete}
+use Rattle.theory.specs.StepTokens.{Tokens, tokens, upTo0, numbers, read}
+use Rattle.theory.specs.Marked.{allOpen, allFalse, literalsOk, wellFormed}
 use Rattle.store.specs.Marks.{marksOf}
 use Rattle.steps.specs.declared.step.Numbers.{Numbers}
 use Rattle.steps.specs.declared.step.Numbers.the-variants.{End, Cut}

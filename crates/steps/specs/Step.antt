@@ -7,7 +7,7 @@ use lib.Dec.{leb, eqb}
 use lib.ListN.{length, getD}
 use Rattle.scope.specs.Parsed.{Parsed, got, refused}
 use Rattle.scope.specs.Number.{number}
-use Rattle.scope.specs.Steps.{Marks}
+use Rattle.theory.specs.Marked.{Marks}
 use Rattle.store.specs.Marks.{marksOf, putMark}
 use Rattle.steps.specs.declared.step.Numbers.{Numbers}
 use Rattle.steps.specs.declared.step.Numbers.the-variants.{End, Cut}

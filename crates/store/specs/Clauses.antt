@@ -9,8 +9,8 @@ use lib.Dec.{eqb, leb}
 use lib.ListN.{length, getD, take, drop, length-take, drop-of-length-le}
 use lib.Seq.{slice, slice-cons, take-all, take-length}
 use borrow.Author.Tests.{leb-true, leb-false}
-use Rattle.scope.specs.Steps as steps
-use Rattle.scope.specs.Steps.{Marks, alsoLiteral, standing}
+use Rattle.theory.specs.Marked as steps
+use Rattle.theory.specs.Marked.{Marks, alsoLiteral, standing}
 use Rattle.store.specs.declared.clauses.Standing.{Standing}
 use Rattle.store.specs.declared.clauses.Standing.the-variants.{Falsified, OneOpen, Other}
 use Rattle.store.specs.Marks.{marksOf, putMark, mark-opened}

@@ -9,8 +9,9 @@ use lib.Dec.{eqb, ltb}
 use lib.ListN.{length, getD, set, take, drop, List·getD-append}
 use lib.Seq.{sets, sets-eq, length-sets, length-take-le, drop-cons, take-at, drop-at, take-set-le, getD-set-other, getD-append-add}
 use borrow.Author.Tests.{eqb-true, eqb-false, ltb-true, ltb-false}
-use Rattle.scope.specs.Steps as steps
-use Rattle.scope.specs.Steps.{Marks, put, Standing, alsoOpen, alsoLiteral, standing}
+use Rattle.theory.specs.Marked as steps
+use Rattle.scope.specs.Steps.{put}
+use Rattle.theory.specs.Marked.{Marks, Standing, alsoOpen, alsoLiteral, standing}
 use Rattle.store.specs.declared.directory.Row.{Row}
 use Rattle.store.specs.declared.directory.Probe.{Probe}
 use Rattle.store.specs.Clauses.{part, drop-take}

@@ -8,7 +8,8 @@ use lib.ListN.{length, getD, set, length-set, replicate, List·getD-eq-default}
 use lib.Dec.{eqb, ltb}
 use lib.Seq.{set-out, getD-set-same, getD-set-other}
 use borrow.Author.Tests.{eqb-true, eqb-false, ne-eqb, ltb-true, ltb-false}
-use Rattle.scope.specs.Steps.{Marks, allOpen, put}
+use Rattle.scope.specs.Steps.{put}
+use Rattle.theory.specs.Marked.{Marks, allOpen}
 
 cond-same : (b : Bool) (x : ℕ) → cond b x x ≡ x
 cond-same true x = refl

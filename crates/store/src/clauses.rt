@@ -4,7 +4,7 @@ use crate::marks::put_mark;
 ghost use mathlib.Core.Path.{_≡_};
 ghost use Prim.Native.Nat.{_+_, min};
 ghost use lib.ListN.{length, replicate};
-ghost use Rattle.scope.specs.Steps.{alsoOpen, alsoLiteral, standing, falsified};
+ghost use Rattle.theory.specs.Marked.{alsoOpen, alsoLiteral, standing, falsified};
 ghost use Rattle.store.specs.Marks.{marksOf};
 ghost use Rattle.store.specs.Clauses.{part, stands, wiped};
 

@@ -9,10 +9,12 @@ use Prim.Native.Nat.{ℕ, zero, suc, _+_, _≤_}
 use native.Mathlib.Omega.{arith}
 use lib.ListN.{length}
 use Rattle.scope.specs.Parsed.{Answer, answered, refusal}
-use Rattle.scope.specs.Steps.{Step, add, delete, Tokens, stop, bad, num, tokens, StepRead, read, misread, readStep, wellFormed}
-use Rattle.scope.specs.Steps.{allOpen, allFalse, Live, Shown, follows, notLive, breaks, hintsShow, deleted}
-use Rattle.scope.specs.PlainRun.{State, Limits, Outcome, next, empty, refused, withClause, fits, byShown, byDeleted, perform}
-use Rattle.scope.specs.PlainRun.{atEnd, byOutcome, byForm, byRead, run, start, plainRun}
+use Rattle.scope.specs.Steps.{Step, add, delete, Live, Shown, follows, notLive, breaks, deleted}
+use Rattle.theory.specs.StepTokens.{Tokens, stop, bad, num, tokens, StepRead, read, misread, readStep}
+use Rattle.theory.specs.Marked.{wellFormed, allOpen, allFalse, hintsShow}
+use Rattle.scope.specs.PlainRun.{State, Limits, withClause, fits, start}
+use Rattle.theory.specs.MarkedRun.{Outcome, next, empty, refused, byShown, byDeleted, perform}
+use Rattle.theory.specs.MarkedRun.{atEnd, byOutcome, byForm, byRead, run, plainRun}
 use Rattle.scope.specs.Spelling.{SpellsProof}
 use Rattle.theory.specs.Performed.{Taken, ends, goes-on}
 use Rattle.laws.specs.Booleans.{impossible}

@@ -8,7 +8,8 @@ use Prim.Native.Nat.{ℕ, _-_, _/_, _%_}
 use native.Mathlib.Omega.{arith}
 use lib.Dec.{leb, ltb, eqb}
 use borrow.Author.Tests.{le-leb, lt-ltb, eq-eqb, ne-eqb, leb-true, ltb-true, eqb-true, eqb-false}
-use Rattle.scope.specs.Steps.{Step, add, delete, Marks, allOpen, makeFalse, literalsOk, wellFormed}
+use Rattle.scope.specs.Steps.{Step, add, delete}
+use Rattle.theory.specs.Marked.{Marks, allOpen, makeFalse, literalsOk, wellFormed}
 use Rattle.laws.specs.Booleans.{and-true}
 use Rattle.scope.specs.Refutation.{Fresh, Literals, no-literal, literal, WellFormed, add-form, delete-form}
 
@@ -31,7 +32,7 @@ pub open-before : (m : Marks) (l : ℕ) (ls : List ℕ) → AllOpen m ls → Fre
 open-before m l ls h f k i = rw (ne-eqb (k / 2) (l / 2) (f k i)) (h k i)
 
 -- the literals of a clause whose variables are all open, both ways
-literals-formed : (last : ℕ) (m : Marks) (ls : List ℕ) → literalsOk last m ls ≡ true → Literals last ls × AllOpen m ls
+pub literals-formed : (last : ℕ) (m : Marks) (ls : List ℕ) → literalsOk last m ls ≡ true → Literals last ls × AllOpen m ls
 unfolding literalsOk
 literals-formed last m [] e = (no-literal, λ k i. absurd (List·Memᴰ·not-nil i))
 literals-formed last m (l ∷ ls) e =
@@ -48,7 +49,7 @@ literals-formed last m (l ∷ ls) e =
       λ k i. ⊎-elim (λ e. ap (λ j. m (j / 2)) e ∙ z) (o .0 k) (List·Memᴰ·cases-cons i),
     )
 
-formed-literals : (last : ℕ) (m : Marks) (ls : List ℕ) → Literals last ls → AllOpen m ls → literalsOk last m ls ≡ true
+pub formed-literals : (last : ℕ) (m : Marks) (ls : List ℕ) → Literals last ls → AllOpen m ls → literalsOk last m ls ≡ true
 unfolding literalsOk
 formed-literals last m [] no-literal h = refl
 formed-literals last m (l ∷ ls) (literal a b f k) h =

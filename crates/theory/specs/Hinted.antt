@@ -11,18 +11,19 @@ use native.Mathlib.Omega.{arith}
 use lib.Dec.{eqb}
 use borrow.Author.Tests.{eq-eqb, ne-eqb, eqb-true, eqb-false}
 use Rattle.scope.specs.Cnf.{opp}
-use Rattle.scope.specs.Steps.{Marks, allOpen, makeTrue, makeFalse, allFalse, Standing, falsified, oneOpen, other, standing}
-use Rattle.scope.specs.Steps.{Live, hintOf, byStanding, byHint, ifLast, follows, hintsShow}
+use Rattle.theory.specs.Marked.{Marks, allOpen, makeTrue, makeFalse, allFalse, Standing, falsified, oneOpen, other, standing}
+use Rattle.scope.specs.Steps.{Live, follows}
+use Rattle.theory.specs.Marked.{hintOf, byStanding, byHint, ifLast, hintsShow}
 use Rattle.laws.specs.Booleans.{impossible}
 use Rattle.scope.specs.Refutation.{AllFalse, Open, Hinted, conflict, implied, Follows, Literals, no-literal, literal}
 use Rattle.theory.specs.Formed.{AllOpen, open-before}
 use Rattle.theory.specs.Standing.{False, Falses, OneOpen, standing-falsified, all-false, standing-open, open-standing}
 
 -- the opposite literal has the same variable and the other last bit
-opp-variable : (l : ℕ) → opp l / 2 ≡ l / 2
+pub opp-variable : (l : ℕ) → opp l / 2 ≡ l / 2
 opp-variable l = omega arith
 
-opp-bit : (l : ℕ) → opp l % 2 ≡ 1 - l % 2
+pub opp-bit : (l : ℕ) → opp l % 2 ≡ 1 - l % 2
 opp-bit l = omega arith
 
 -- the marks of a list of literals that are set true
@@ -97,7 +98,7 @@ module _ {m : Marks} {τ : List ℕ} (d : Marked m τ) where
           go false t e = List·Memᴰ·tail (d .mark-true l e)
 
 -- to set a literal false is to set its opposite true
-false-true : (m : Marks) (l : ℕ) → makeFalse m l ≡ makeTrue m (opp l)
+pub false-true : (m : Marks) (l : ℕ) → makeFalse m l ≡ makeTrue m (opp l)
 false-true m l =
     let e : 1 + opp l % 2 ≡ 2 - l % 2 = omega (arith, opp-bit l) in
     rw (opp-variable l, e)

@@ -24,6 +24,9 @@ pub mod Match
 pub mod Tail
 pub mod Bounded
 pub mod Literals
+pub mod StepTokens
+pub mod Marked
+pub mod MarkedRun
 pub mod Tokens
 pub mod Front
 pub mod Spelt
@@ -33,6 +36,9 @@ pub mod Exact
 pub mod Formed
 pub mod Standing
 pub mod Hinted
+pub mod SameHints
+pub mod SameSteps
+pub mod SameRun
 pub mod Taken
 pub mod InWords
 pub mod Check

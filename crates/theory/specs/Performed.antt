@@ -2,8 +2,10 @@
 use mathlib.Core.Path.{_≡_}
 use mathlib.Core.Bool.{true}
 use mathlib.Core.List.{List, [], _∷_}
-use Rattle.scope.specs.Steps.{Step, wellFormed}
-use Rattle.scope.specs.PlainRun.{State, Limits, next, empty, perform}
+use Rattle.scope.specs.Steps.{Step}
+use Rattle.theory.specs.Marked.{wellFormed}
+use Rattle.scope.specs.PlainRun.{State, Limits}
+use Rattle.theory.specs.MarkedRun.{next, empty, perform}
 
 -- each step is well formed and performed on what the one before it left; the last, and no earlier one, adds the empty clause
 pub data Taken (lim : Limits) : State → List Step → Type 0 where

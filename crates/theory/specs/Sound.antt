@@ -11,13 +11,14 @@ use lib.ListN.{length, getElem?}
 use borrow.Author.Tests.{eqb-true, eqb-false}
 use Rattle.scope.specs.Parsed.{Answer, answered, refusal}
 use Rattle.scope.specs.Cnf.{Assignment, lit, clause, clauses}
-use Rattle.scope.specs.Steps.{Step, add, delete, Tokens, stop, bad, num, tokens, StepRead, read, misread, readStep, wellFormed}
-use Rattle.scope.specs.Steps.{put, Marks, allOpen, makeTrue, makeFalse, allFalse}
-use Rattle.scope.specs.Steps.{Standing, falsified, oneOpen, other, alsoOpen, alsoLiteral, standing}
-use Rattle.scope.specs.Steps.{Live, hintOf, byStanding, byHint, ifLast, ifLive, deleted}
-use Rattle.scope.specs.Steps.{Shown, follows, notLive, breaks, hintsShow}
-use Rattle.scope.specs.PlainRun.{State, Limits, Outcome, next, empty, refused, withClause, fits, byShown, byDeleted, perform}
-use Rattle.scope.specs.PlainRun.{byOutcome, byForm, byRead, run, byId, start, plainRun}
+use Rattle.scope.specs.Steps.{Step, add, delete, put, Live, either, deleted, Shown, follows, notLive, breaks}
+use Rattle.theory.specs.StepTokens.{Tokens, stop, bad, num, tokens, StepRead, read, misread, readStep}
+use Rattle.theory.specs.Marked.{wellFormed, Marks, allOpen, makeTrue, makeFalse, allFalse, hintsShow}
+use Rattle.theory.specs.Marked.{Standing, falsified, oneOpen, other, alsoOpen, alsoLiteral, standing}
+use Rattle.theory.specs.Marked.{hintOf, byStanding, byHint, ifLast}
+use Rattle.scope.specs.PlainRun.{State, Limits, withClause, fits, byId, start}
+use Rattle.theory.specs.MarkedRun.{Outcome, next, empty, refused, byShown, byDeleted, perform}
+use Rattle.theory.specs.MarkedRun.{byOutcome, byForm, byRead, run, plainRun}
 use Rattle.laws.specs.Booleans.{impossible, never-true, and-true, or-false}
 
 -- the mark of a variable with this value
@@ -174,7 +175,7 @@ module _ (ν : Assignment) where
       go (holds-deleted (put L d none) (holds-put L k d none (λ c e. impossible (cc))) ds L′) (L d) e
     where
       go : (deleted (put L d none) ds ≡ some L′ → Holds L′) → (o : Option (List ℕ))
-          → ifLive o (deleted (put L d none) ds) ≡ some L′ → Holds L′
+          → either o none (λ c. deleted (put L d none) ds) ≡ some L′ → Holds L′
       go ih none e = impossible (cc)
       go ih (some c) e = ih e
 

@@ -10,9 +10,10 @@ use lib.ListN.{length, drop, length-append}
 use lib.Seq.{drop-append-seam, drop-at}
 use borrow.Author.Tests.{le-leb, leb-true, eqb-true}
 use Rattle.scope.specs.Number.{Front, broken, whole, front, most, within}
-use Rattle.scope.specs.Steps.{Step, add, delete, Tokens, stop, bad, num, byFront, tokensAfter, tokens}
-use Rattle.scope.specs.Steps.{Numbers, upTo0, cut, before, numbers}
-use Rattle.scope.specs.Steps.{StepRead, read, misread, readHints, readLiterals, readAdd, readDelete, readStep}
+use Rattle.scope.specs.Steps.{Step, add, delete}
+use Rattle.theory.specs.StepTokens.{Tokens, stop, bad, num, byFront, tokensAfter, tokens}
+use Rattle.theory.specs.StepTokens.{Numbers, upTo0, cut, before, numbers}
+use Rattle.theory.specs.StepTokens.{StepRead, read, misread, readHints, readLiterals, readAdd, readDelete, readStep}
 use Rattle.scope.specs.Spelling.{Spells, last, more, SpellsList, closing, item, SpellsStep, adds, deletes}
 use Rattle.scope.specs.Spelling.{SpellsProof, nothing, step}
 use Rattle.laws.specs.Booleans.{impossible}

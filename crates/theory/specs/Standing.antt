@@ -6,7 +6,7 @@ use mathlib.Core.List.{List, [], _∷_, _++_, append-nil}
 use mathlib.Core.List.{List·Memᴰ, List·Memᴰ·head, List·Memᴰ·tail, List·Memᴰ·cases-cons, List·Memᴰ·not-nil}
 use Prim.Native.Nat.{ℕ, _+_, _/_, _%_}
 use lib.Dec.{eqb}
-use Rattle.scope.specs.Steps.{Marks, Standing, falsified, oneOpen, other, alsoOpen, alsoLiteral, standing}
+use Rattle.theory.specs.Marked.{Marks, Standing, falsified, oneOpen, other, alsoOpen, alsoLiteral, standing}
 use Rattle.laws.specs.Booleans.{impossible}
 
 -- a literal is false under marks, and all literals of a clause are
@@ -33,7 +33,7 @@ module _ (m : Marks) where
       go false e false f = c (e, f)
 
   -- a clause that stands otherwise stays so
-  other-stays : (c : List ℕ) → standing m other c ≡ other
+  pub other-stays : (c : List ℕ) → standing m other c ≡ other
   unfolding standing
   other-stays [] = refl
   other-stays (l ∷ ls) =

@@ -8,9 +8,10 @@ use Prim.Native.Nat.{ℕ, _+_, _≤_}
 use lib.Dec.{leb, eqb}
 use lib.ListN.{length}
 use borrow.Author.Tests.{eq-eqb, ne-eqb, eqb-true, eqb-false, le-leb, leb-true}
-use Rattle.scope.specs.Steps.{Step, add, delete, put, Live, allOpen, allFalse}
-use Rattle.scope.specs.Steps.{Shown, follows, notLive, breaks, hintsShow, ifLive, deleted}
-use Rattle.scope.specs.PlainRun.{State, Limits, next, empty, refused, withClause, withLive, fits, byShown, byDeleted, perform}
+use Rattle.scope.specs.Steps.{Step, add, delete, put, Live, Shown, follows, notLive, breaks, either, deleted}
+use Rattle.theory.specs.Marked.{allOpen, allFalse, hintsShow}
+use Rattle.scope.specs.PlainRun.{State, Limits, withClause, withLive, fits}
+use Rattle.theory.specs.MarkedRun.{next, empty, refused, byShown, byDeleted, perform}
 use Rattle.theory.specs.Performed.{Taken, ends, goes-on}
 use Rattle.laws.specs.Booleans.{impossible, and-true}
 use Rattle.theory.specs.Formed.{formed-exact}
@@ -39,7 +40,7 @@ deleted-in-words L [] L″ e = let p : L ≡ L″ = cc in rw (← p) no-id
 deleted-in-words L (d ∷ ds) L″ e = go (L d) refl (deleted-in-words (put L d none) ds L″) e
   where
     go : (o : Option (List ℕ)) → L d ≡ o → (deleted (put L d none) ds ≡ some L″ → Deletes (put L d none) ds L″)
-        → ifLive o (deleted (put L d none) ds) ≡ some L″ → Deletes L (d ∷ ds) L″
+        → either o none (λ c. deleted (put L d none) ds) ≡ some L″ → Deletes L (d ∷ ds) L″
     go none t ih e = impossible (cc)
     go (some c) t ih e = one-id t (put-at L d none) (put-differs L d none) (ih e)
 

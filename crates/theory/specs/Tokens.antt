@@ -9,7 +9,7 @@ use lib.ListN.{length, drop, length-drop, drop-of-length-le}
 use lib.Seq.{drop-drop}
 use Rattle.scope.specs.Parsed.{got, refused}
 use Rattle.scope.specs.Number.{Front, broken, whole, group, front, most, within, numberFrom, number}
-use Rattle.scope.specs.Steps.{stop, bad, num, tokensAfter, tokens}
+use Rattle.theory.specs.StepTokens.{stop, bad, num, tokensAfter, tokens}
 use Rattle.laws.specs.Booleans.{impossible}
 
 -- the bytes of a number that was read are passed over

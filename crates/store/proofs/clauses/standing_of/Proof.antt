@@ -2,7 +2,7 @@ use mathlib.Core.Path.{_≡_, refl, sym, ap, _∙_}
 use Prim.Native.Nat.{_-_}
 use native.Mathlib.Omega.{arith}
 use lib.Seq.{slice}
-use Rattle.scope.specs.Steps.{standing, falsified}
+use Rattle.theory.specs.Marked.{standing, falsified}
 use Rattle.store.specs.Marks.{marksOf}
 use Rattle.store.specs.Clauses.{stands, part-slice, standing-next, standing-end}
 use borrow.Author.Needs.{needs}
