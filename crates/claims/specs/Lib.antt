@@ -1,5 +1,4 @@
 pub mod NonEmpty
 pub mod Storable
-pub mod Tails
-pub mod Written
+pub mod Standing
 pub mod Prepared

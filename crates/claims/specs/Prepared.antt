@@ -29,19 +29,13 @@ use Rattle.bound.specs.Meaning.{limits}
 use Rattle.claims.specs.declared.claim.Claim.{Claim}
 use Rattle.claims.specs.declared.prepare.Ready.{Ready}
 use Rattle.claims.specs.Storable.{Storable, hard-storable, bounded-storable}
-use Rattle.claims.specs.Written.{stands}
+use Rattle.claims.specs.Standing.{stands}
+pub use Rattle.lent.specs.Room.{lent, sizeFits}
 
 -- what is answered for a claim and a proof
 abbrev pub asked : List ℕ → Claim → Lent → List ℕ → Answer ℕ
 asked file (Claim.Bound B) l proof = checkOf file B proof l
 asked file Claim.AnyCost l proof = checkHardOf file proof l
-
-abbrev pub lent : ℕ → ℕ → ℕ → Lent
-lent w r b = record { words = w; rows = r; bytes = b }
-
--- whether stores are long enough for a formula of a size
-abbrev pub sizeFits : FormulaSize → Lent → Bool
-sizeFits z l = leb (z .words) (l .words) && leb (z .clauses) (l .rows) && leb (z .variables) (l .bytes)
 
 -- clauses stand in the words with their last words marked, and a proof is judged by the plain run over them
 pub record FormulaIn (s : List ℕ) (c : Claim) (l : Lent) (ws : List ℕ) (used last : ℕ) : Type 0 where

@@ -1,4 +1,3 @@
 // What a proof is to show, and the formula of such a claim in the lent words: its sizes (7 to 9), its clauses, its tail.
 pub mod claim;
 pub mod prepare;
-mod write;

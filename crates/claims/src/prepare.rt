@@ -1,7 +1,8 @@
 // What comes before a proof's first step: refusals 1 to 9, and in the lent words the formula that the claim is about.
 use crate::claim::Claim;
-use crate::write::write_bounded;
-use crate::write::write_hard;
+use claim_words::write_bounded;
+use claim_words::write_hard;
+use lent::fits;
 use scope::FormulaSize;
 use scope::Refusal;
 use sizes::Bounded;
@@ -12,7 +13,7 @@ use sizing::blocks::stored_size;
 use store::marks::clear_bytes;
 ghost use mathlib.Core.Path.{_≡_};
 ghost use lib.ListN.{length, replicate};
-ghost use Rattle.claims.specs.Prepared.{lent, sizeFits, tooShort, Prepared};
+ghost use Rattle.claims.specs.Prepared.{lent, tooShort, Prepared};
 ghost use Rattle.claims.specs.declared.claim.Claim.{Claim};
 ghost use Rattle.claims.specs.declared.prepare.Ready.{Ready};
 
@@ -23,19 +24,6 @@ const STORE_TOO_SHORT: u8 = 9;
 pub enum Ready {
     Formula(usize, usize),
     Refused(Refusal),
-}
-
-// Whether the stores are long enough.
-fn fits(z: FormulaSize, words: usize, rows: usize, bytes: usize) -> bool
-    ensures { λ r. ⌜ r ≡ sizeFits z (lent words rows bytes) ⌝ }
-{
-    if (words as u64) < z.words {
-        return false;
-    }
-    if (rows as u64) < z.clauses {
-        return false;
-    }
-    z.variables <= bytes as u64
 }
 
 // A formula of a size that was written.

@@ -9,69 +9,18 @@ ghost use Rattle.scope.specs.Formula.{noRow, ones, row, counter};
 ghost use Rattle.sink.specs.Run.{Ran};
 ghost use Rattle.sink.specs.Lines.{lines};
 ghost use Rattle.sink.specs.World.{world, step, rowOver};
-ghost use Rattle.counters.specs.Literals.{Literal, Literals};
-ghost use Rattle.counters.specs.Cells.{cellAt, StoredAt};
-use super::LAST;
-use super::evaluate;
-use super::row_size::row_size;
-use super::row_text::row_text;
-use super::row_text::spellable;
-use super::row_words::row_words;
+ghost use Rattle.row_words.specs.Literals.{Literal, Literals};
+ghost use Rattle.row_words.specs.Cells.{cellAt, StoredAt};
+use row_size::row_size;
+use row_text::row_text;
+use row_text::spellable;
+use row_value::row_clauses;
+use row_value::row_right;
+use row_words::cell_words;
+use row_words::row_words;
 use sink::Job;
 use sink::Mode;
 use sink::Sink;
-
-// The words of the cell in column j of the row at first, over the row at prev, stored from a place on.
-pub fn cell_words(
-    words: &mut [u32],
-    at: usize,
-    x: u32,
-    w: u32,
-    prev: u32,
-    first: u32,
-    j: u32,
-) -> usize
-    requires { ⌜ Literal x × (1 ≤ first) × (first + j < 1073741824) × (prev + j < 1073741824) × (at + 11 ≤ length (now words)) ⌝ }
-    ensures { λ r. ⌜ StoredAt at r (now (words .entry)) (now (words .exit)) (gateClauses (cellAt x w prev j) (first + j)) ⌝ }
-{
-    let c = 2 * (first + j);
-    let yes = c + LAST;
-    let no = c + 1 + LAST;
-    if prev == 0 {
-        if j < w {
-            words[at] = super::opposite(x);
-            words[at + 1] = yes;
-            words[at + 2] = x;
-            words[at + 3] = no;
-            return at + 4;
-        }
-        words[at] = x;
-        words[at + 1] = no;
-        words[at + 2] = no;
-        return at + 3;
-    }
-    let a = 2 * (prev + j);
-    words[at] = a + 1;
-    words[at + 1] = yes;
-    words[at + 2] = super::opposite(x);
-    if j < w {
-        words[at + 3] = yes;
-        words[at + 4] = x;
-        words[at + 5] = a;
-        words[at + 6] = no;
-        return at + 7;
-    }
-    let b = 2 * (prev + (j - w));
-    words[at + 3] = b + 1;
-    words[at + 4] = yes;
-    words[at + 5] = x;
-    words[at + 6] = a;
-    words[at + 7] = no;
-    words[at + 8] = b;
-    words[at + 9] = a;
-    words[at + 10] = no;
-    at + 11
-}
 
 // One cell of a counter.
 pub fn write_cell(
@@ -178,8 +127,8 @@ pub fn write_row(
             }
         }
         Mode::Evaluate => {
-            if evaluate::row_right(model, x, w, prev, first, cols) {
-                return sink::passed(s, evaluate::row_clauses(w, prev, cols));
+            if row_right(model, x, w, prev, first, cols) {
+                return sink::passed(s, row_clauses(w, prev, cols));
             }
         }
         Mode::Tail => {

@@ -1,21 +1,4 @@
 // Counters: their cells and rows as clauses, by mode.
-ghost use mathlib.Core.Path.{_≡_};
-ghost use Prim.Native.Nat.{_<_};
-ghost use Rattle.scope.specs.Cnf.{opp};
-
 pub mod cells;
-mod evaluate;
-mod row_size;
-mod row_text;
-mod row_words;
 
-// What marks the last word of a clause.
-const LAST: u32 = 2147483648;
-
-// The opposite literal.
-pub fn opposite(l: u32) -> u32
-    requires { ⌜ l < 2147483648 ⌝ }
-    ensures { λ r. ⌜ r ≡ opp l ⌝ }
-{
-    l + 1 - 2 * (l % 2)
-}
+pub use row_words::opposite;

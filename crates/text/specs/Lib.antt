@@ -1,4 +1,3 @@
-pub mod Header
 pub mod Lines
 pub mod Length
 pub mod Ready

@@ -15,7 +15,7 @@ use Rattle.sink.specs.Run.{Out, out, put, further, Ran, then, run-at}
 use Rattle.sink.specs.Meaning.{hardText, softText}
 use Rattle.sink.specs.declared.Mode.the-variants.{Measure, Text, SoftText}
 use Rattle.clauses.specs.Writable.{Writable}
-use Rattle.text.specs.Header.{headerText, header-line}
+use Rattle.header.specs.Header.{headerText, header-line}
 use Rattle.text.specs.Lines.{LinesRan, hard-ran, soft-ran, lines-measured}
 use Rattle.text.specs.Length.{text-length, lines-few}
 

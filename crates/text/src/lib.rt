@@ -1,5 +1,4 @@
 // The text for solvers, in the older "p wcnf" form.
-mod header;
 mod lines;
 mod size;
 mod write;

@@ -1,7 +1,7 @@
 // The length of the text, with no byte of it written.
-use crate::header::header_size;
 use crate::lines::run_lines;
 use constraint::Head;
+use header::header_size;
 use scope::TextAnswer;
 use sink::Mode;
 use sizes::Measured;

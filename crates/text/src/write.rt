@@ -1,8 +1,8 @@
 // The text, written into a lent output.
-use crate::header::write_header;
 use crate::lines::run_lines;
 use crate::size::text_length;
 use constraint::Head;
+use header::write_header;
 use scope::Refusal;
 use scope::TextAnswer;
 use scope::refusals::TOO_SHORT;

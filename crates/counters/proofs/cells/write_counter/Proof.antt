@@ -9,7 +9,7 @@ use Rattle.sink.specs.Lines.{gatesClauses, lines-gates}
 use Rattle.sink.specs.Skipped.{skipped}
 use Rattle.scope.specs.Formula.{noRow, ones, counter}
 use Rattle.sink.specs.World.{world, step}
-use Rattle.counters.specs.Rows.{counterFrom, counter-turn, counter-end, rows-left}
+use Rattle.row_words.specs.Rows.{counterFrom, counter-turn, counter-end, rows-left}
 use Rattle.counters.proofs.cells.write_counter.Statement.{statement}
 use Rattle.counters.proofs.cells.write_counter.Tie as tie
 

@@ -7,7 +7,7 @@ use Rattle.sink.specs.World.{rowOver}
 use Rattle.sink.specs.AllTrue.{evaluating}
 use Rattle.sink.specs.Skipped.{skipping, skipped}
 use Rattle.sink.proofs.AtOnce.{text-at-once, words-at-once, measure-at-once}
-use Rattle.counters.specs.Evaluate.{row-passed}
+use Rattle.row_value.specs.Evaluate.{row-passed}
 use borrow.Author.Needs.{needs}
 use Rattle.counters.proofs.cells.write_row.Statement.{statement}
 use Rattle.counters.proofs.cells.write_row.Tie as tie

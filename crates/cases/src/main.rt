@@ -1,0 +1,80 @@
+// Cases of the operations. Each line of the input is a name, a letter for the operation and fields of hexadecimal digits; for each a
+// line with the name and the answer is printed. The answers in stdout come from a reading of document 01 that knows nothing of this
+// code.
+mod checked;
+mod decoded;
+mod fields;
+mod scored;
+mod show;
+
+use fields::colon;
+use fields::past;
+use libc::STDIN_FILENO;
+use show::put;
+ghost use Prim.Native.Nat.{_≤_};
+ghost use lib.ListN.{length};
+
+// The operation that a letter stands for, on the fields from a place on; where the next line begins.
+fn answer(letter: u8, text: &mut [u8], at: usize) -> usize
+    requires { ⌜ at ≤ length (now text) ⌝ }
+    ensures { λ r. ⌜ r ≤ length (now (text .exit)) ⌝ }
+{
+    if letter == b'r' {
+        return scored::read_line(text, at);
+    }
+    if letter == b's' {
+        return scored::score_line(text, at);
+    }
+    if letter == b'e' {
+        return scored::sheet_line(text, at);
+    }
+    if letter == b't' {
+        return scored::text_line(text, at);
+    }
+    if letter == b'd' {
+        return decoded::decode_line(text, at);
+    }
+    if letter == b'c' {
+        return checked::check_line(text, at);
+    }
+    if letter == b'h' {
+        return checked::hard_line(text, at);
+    }
+    put(b"no such operation\n");
+    text.len()
+}
+
+// The line at a place; where the next one begins.
+fn line(text: &mut [u8], at: usize) -> usize
+    requires { ⌜ at ≤ length (now text) ⌝ }
+    ensures { λ r. ⌜ r ≤ length (now (text .exit)) ⌝ }
+{
+    let end = colon(text, at);
+    put(&text[at..end]);
+    put(b": ");
+    let place = past(end, 2, text.len());
+    if place == text.len() {
+        return place;
+    }
+    let letter = text[place];
+    let start = past(place, 2, text.len());
+    answer(letter, text, start)
+}
+
+// Every line.
+fn lines(text: &mut [u8]) {
+    let mut at: usize = 0;
+    while at < text.len() {
+        let next = line(text, at);
+        if next <= at {
+            return;
+        }
+        at = next;
+    }
+}
+
+fn main() {
+    let mut text = io::large_buffer();
+    let n = io::read_full(STDIN_FILENO, &mut text);
+    lines(&mut text[..n]);
+}

@@ -1,0 +1,148 @@
+// The formula with its tail, as words from the start on: each clause's last word is marked by 2^31.
+use clauses::write_formula;
+use constraint::Head;
+use sink::Job;
+use sink::Mode;
+use sink::Sink;
+use sink::store::words_block;
+use sizing::Size;
+ghost use mathlib.Core.List.{flatMap};
+ghost use Prim.Native.Nat.{_+_, _*_, _≤_, _<_};
+ghost use lib.ListN.{length};
+ghost use Rattle.scope.specs.Formula.{hardOf, softOf, boundedHard};
+ghost use Rattle.instance.specs.Answers.{instanceOf};
+ghost use Rattle.sink.specs.Run.{Ran, out, put};
+ghost use Rattle.sink.specs.Block.{mark};
+ghost use Rattle.clauses.specs.Writable.{Writable};
+ghost use Rattle.claim_words.specs.Written.{RowsPut, Bounding};
+
+// The hard clauses; the position after them.
+pub fn write_hard(
+    words: &mut [u32],
+    file: &[u8],
+    head: Head,
+    durations: &[u8],
+    resources: &[u8],
+    groups: &[u8],
+    list: &mut [u16],
+) -> usize
+    requires { ⌜ Writable (now file) (now durations) (now resources) (now groups) (now list) head ⌝ }
+    ensures { λ r. ⌜ Ran put (flatMap mark (hardOf (instanceOf (now (file .entry)) (now (durations .entry)) (now (resources .entry)) (now (groups .entry)) head)))
+        (out 0 (now (words .entry))) (out r (now (words .exit))) ⌝ }
+{
+    let model = [0; 1];
+    let mut text = [0; 1];
+    let job = Job {
+        mode: Mode::Words,
+        top: 0,
+        cols: 0,
+    };
+    let start = Sink {
+        at: 0,
+        bad: 0,
+        lost: 0,
+        prev: 0,
+        row: 0,
+    };
+    let s = write_formula(
+        job,
+        &model,
+        &mut text,
+        words,
+        start,
+        file,
+        head,
+        durations,
+        resources,
+        groups,
+        list,
+    );
+    s.at
+}
+
+// The rows of the tail's counter, from a variable on.
+fn write_rows(
+    words: &mut [u32],
+    at: usize,
+    cols: u32,
+    first: u32,
+    file: &[u8],
+    head: Head,
+    durations: &[u8],
+    resources: &[u8],
+    groups: &[u8],
+    list: &mut [u16],
+) -> Sink
+    requires { ⌜ Writable (now file) (now durations) (now resources) (now groups) (now list) head × (at ≤ 9223372036854775807) ⌝ }
+    requires { ⌜ (0 < first) × (first + length (softOf (instanceOf (now file) (now durations) (now resources) (now groups) head)) * cols ≤ 1073741824) ⌝ }
+    ensures { λ r. ⌜ RowsPut (softOf (instanceOf (now (file .entry)) (now (durations .entry)) (now (resources .entry)) (now (groups .entry)) head)) cols first at
+        (now (words .entry)) r (now (words .exit)) ⌝ }
+{
+    let model = [0; 1];
+    let mut text = [0; 1];
+    let job = Job {
+        mode: Mode::Tail,
+        top: 0,
+        cols,
+    };
+    let start = Sink {
+        at,
+        bad: 0,
+        lost: 0,
+        prev: 0,
+        row: first,
+    };
+    write_formula(
+        job,
+        &model,
+        &mut text,
+        words,
+        start,
+        file,
+        head,
+        durations,
+        resources,
+        groups,
+        list,
+    )
+}
+
+// The formula with its tail, which is empty without soft units.
+pub fn write_bounded(
+    words: &mut [u32],
+    bound: u64,
+    z: Size,
+    file: &[u8],
+    head: Head,
+    durations: &[u8],
+    resources: &[u8],
+    groups: &[u8],
+    list: &mut [u16],
+) -> usize
+    requires { ⌜ Bounding (now file) bound (now durations) (now resources) (now groups) (now list) head z ⌝ }
+    ensures { λ r. ⌜ Ran put (flatMap mark (boundedHard (instanceOf (now (file .entry)) (now (durations .entry))
+        (now (resources .entry)) (now (groups .entry)) head) bound))
+        (out 0 (now (words .entry))) (out r (now (words .exit))) ⌝ }
+{
+    let at = write_hard(words, file, head, durations, resources, groups, list);
+    if z.units == 0 {
+        return at;
+    }
+    let cols = (bound + 1) as u32;
+    let first = (z.variables + 1) as u32;
+    let s = write_rows(
+        words,
+        at,
+        cols,
+        first,
+        file,
+        head,
+        durations,
+        resources,
+        groups,
+        list,
+    );
+    let last = s.prev + (cols - 1);
+    let unit = [2 * last + 1 + 2147483648];
+    words_block(words, s.at, &unit)
+}
