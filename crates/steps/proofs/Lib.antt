@@ -2,5 +2,4 @@ pub mod ReadingTurns
 pub mod Loops
 pub mod StepParts
 pub mod StepReading
-pub mod Readers
 pub mod StepBytes

@@ -1,10 +1,10 @@
 // The steps of a proof are read whole: their form, and where their parts stand.
-use crate::reader::moved;
-use crate::reader::number_in;
-use crate::reader::over;
-use crate::reader::read_number;
-use crate::reader::step_byte_in;
 use number::Number;
+use reader::moved;
+use reader::number_in;
+use reader::over;
+use reader::read_number;
+use reader::step_byte_in;
 use store::marks::mark_of;
 use store::marks::put_mark;
 ghost use mathlib.Core.Path.{_≡_};
