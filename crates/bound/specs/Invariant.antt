@@ -16,7 +16,7 @@ use Rattle.hints.specs.declared.machine.Phase.the-variants.{Next, Walk, Followe
 use Rattle.hints.specs.declared.machine.Machine.{Machine}
 use Rattle.turns.specs.declared.check.Tally.{Tally}
 use Rattle.steps.specs.declared.step.Clause.{Clause}
-use Rattle.steps.specs.Reading.{tokensAt, numbersAt}
+use Rattle.reading.specs.Reading.{tokensAt, numbersAt}
 use Rattle.run.specs.Run.{World}
 use Rattle.bound.specs.Hints.{inHints, AllLive}
 

@@ -26,7 +26,7 @@ use Rattle.hints.specs.declared.machine.Phase.{Phase}
 use Rattle.hints.specs.declared.machine.Phase.the-variants.{Next, Walk, Followed, Keep, Wipe, Delete, Proved, Refused}
 use Rattle.hints.specs.declared.machine.Machine.{Machine}
 use Rattle.turns.specs.declared.check.Check.{Check}
-use Rattle.steps.specs.Listing.{list-cut}
+use Rattle.reading.specs.Listing.{list-cut}
 use Rattle.hints.specs.Machine as machine
 use Rattle.hints.specs.Machine.{turnOf, turn-phase, Advances, gone, broken, walks, wipes, idle}
 use Rattle.turns.specs.Check.{largest, answerOf}

@@ -23,8 +23,8 @@ use Rattle.steps.specs.declared.step.Read.{Read}
 use Rattle.steps.specs.declared.step.Read.the-variants.{Adds, Deletes}
 use Rattle.hints.specs.declared.machine.Phase.the-variants.{Next, Walk, Delete, Refused}
 use Rattle.turns.specs.declared.check.Check.{Check}
-use Rattle.steps.specs.Reading.{tokensAt, AddsAt, DeletesAt, MisformedAt, Open, ReadsStep, adds, deletes, misformed}
-use Rattle.steps.specs.Listing.{Ahead, last-id, more-ids, ids-ahead, list-cut}
+use Rattle.reading.specs.Reading.{tokensAt, AddsAt, DeletesAt, MisformedAt, Open, ReadsStep, adds, deletes, misformed}
+use Rattle.reading.specs.Listing.{Ahead, last-id, more-ids, ids-ahead, list-cut}
 use Rattle.hints.specs.Machine.{onward, onward-end, onward-more}
 use Rattle.turns.specs.Check.{largest, firstId, entered, counted, stepped, TakesStep, over, takes}
 use Rattle.bound.specs.Invariant.{Base, InStep, ending, Adding, before, liveIn, stateOf, Reading, InvariantAt}

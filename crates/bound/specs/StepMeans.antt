@@ -28,8 +28,8 @@ use Rattle.hints.specs.declared.machine.Phase.{Phase}
 use Rattle.hints.specs.declared.machine.Phase.the-variants.{Next, Keep, Delete, Proved, Refused}
 use Rattle.turns.specs.declared.check.Check.{Check}
 use Rattle.turns.specs.declared.check.Tally.{Tally}
-use Rattle.steps.specs.Reading.{tokensAt}
-use Rattle.steps.specs.Listing.{Ahead, last-id, more-ids, ids-ahead}
+use Rattle.reading.specs.Reading.{tokensAt}
+use Rattle.reading.specs.Listing.{Ahead, last-id, more-ids, ids-ahead}
 use Rattle.hints.specs.Machine.{onward, onward-end, onward-more}
 use Rattle.turns.specs.Check.{withPhase, verdict, rowOf, largest, keptAs, entered}
 use Rattle.bound.specs.Hints.{inHint, inHints, IsLive, outside-false, literals-good, hints-same, live-same}

@@ -1,17 +1,13 @@
 -- The literals of a clause, copied from a proof into the words.
-use mathlib.Core.Path.{_≡_}
 use mathlib.Core.Bool.{true, false, cond}
 use mathlib.Core.List.{List}
 use Prim.Native.Nat.{ℕ, suc, _+_}
 use lib.Dec.{eqb, leb}
 use lib.ListN.{length, set}
-use lib.Seq.{sets}
 use Rattle.scope.specs.Parsed.{Parsed, got, refused}
 use Rattle.scope.specs.Number.{number}
-use Rattle.scope.specs.Steps.{Tokens, upTo0}
 use Rattle.copying.specs.declared.literals.Copying.{Copying}
 use Rattle.steps.specs.Step.{whileMore}
-use Rattle.steps.specs.Reading.{numbersAt}
 
 -- Literals are copied up to a 0, as far as there are words: at an offset, into the words from one on, and after a number
 abbrev pub copying : ℕ → ℕ → Copying
@@ -46,7 +42,3 @@ copiedFrom s k x = whileMore (λ x. x .state .more) (copyTurn s) k x
 
 unfoldable pub copiedAt : List ℕ → ℕ → List ℕ → ℕ → List ℕ
 copiedAt s at ws first = copiedFrom s (suc (length s)) (record { state = copying at first; words = ws }) .words
-
--- what is copied where literals stand
-pub record Copies (s : List ℕ) (at : ℕ) (ws : List ℕ) (first : ℕ) (ws′ : List ℕ) : Type 0 where
-  pub copies : (ls : List ℕ) (ts : Tokens) → numbersAt s at ≡ upTo0 ls ts → ws′ ≡ sets ws first ls

@@ -7,7 +7,7 @@ use lib.Dec.{leb}
 use lib.ListN.{length}
 use borrow.Author.Tests.{leb-true, leb-false}
 use Rattle.steps.specs.Step.{stepAt}
-use Rattle.steps.proofs.StepReading.{step-reads}
+use Rattle.reading.specs.StepReading.{step-reads}
 use Rattle.hints.specs.declared.machine.Phase.the-variants.{Refused}
 use Rattle.turns.specs.declared.check.Check.{Check}
 use Rattle.turns.specs.Check.{withPhase, stepped, StepTaken, stepTaken, TakesStep, over, takes}

@@ -11,7 +11,7 @@ use Rattle.hints.specs.declared.machine.Phase.the-variants.{Next}
 use Rattle.hints.specs.declared.machine.Machine.{Machine}
 use Rattle.turns.specs.declared.check.Check.{Check}
 use Rattle.hints.specs.Machine.{turnOf, stopped, Advances}
-use Rattle.copying.specs.Copies.{Copies}
+use Rattle.reading.specs.Copying.{Copies}
 use Rattle.turns.specs.Check.{begun, judged, rowOf, largest, keptAs, entered, TakesStep, answerOf}
 
 pub record World : Type 0 where

@@ -17,7 +17,7 @@ use Rattle.hints.specs.declared.machine.Phase.the-variants.{Next, Walk, Followe
 use Rattle.hints.specs.declared.machine.Machine.{Machine}
 use Rattle.steps.specs.declared.step.Read.{Read}
 use Rattle.turns.specs.declared.check.Check.{Check}
-use Rattle.steps.specs.Reading.{ReadsStep, adds, deletes, misformed}
+use Rattle.reading.specs.Reading.{ReadsStep, adds, deletes, misformed}
 use Rattle.hints.specs.Machine as machine
 use Rattle.hints.specs.Machine.{turnOf, turn-phase, stopped, onward, walked, Advances, gone, broken, walks, wipes, idle}
 use Rattle.turns.specs.Check.{verdict, firstId, enteredAt, entered, stepped, TakesStep, over, takes}

@@ -1,5 +1,3 @@
-pub mod ReadingTurns
 pub mod Loops
-pub mod StepParts
-pub mod StepReading
+mod StepParts
 pub mod StepBytes

@@ -18,7 +18,7 @@ use Rattle.hints.specs.declared.machine.Machine.{Machine}
 use Rattle.turns.specs.declared.check.Tally.{Tally}
 use Rattle.turns.specs.declared.check.Check.{Check}
 use Rattle.steps.specs.Step.{stepAt}
-use Rattle.steps.specs.Reading.{tokensAt, ReadsStep}
+use Rattle.reading.specs.Reading.{tokensAt, ReadsStep}
 use Rattle.hints.specs.Machine.{stopped, onward}
 
 -- before the first step, with a formula of so many rows and words

@@ -3,7 +3,7 @@ use borrow.Author.Tests.{eq-eqb, ne-eqb}
 use Rattle.scope.specs.Parsed.{got}
 use Rattle.scope.specs.Number.{number}
 use Rattle.hints.specs.Machine.{advanced, advancedMarks}
-use Rattle.steps.specs.Listing.{value-at, no-value-at}
+use Rattle.reader.proofs.NumberTold.{value-at, no-value-at}
 use borrow.Author.Needs.{needs}
 use Rattle.hints.proofs.machine.advance.Statement.{statement}
 use Rattle.hints.proofs.machine.advance.Tie as tie

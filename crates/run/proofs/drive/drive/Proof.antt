@@ -69,7 +69,7 @@ use Rattle.hints.specs.Machine.{turnOf, stopped, advanced, advancedMarks, Advan
 use Rattle.turns.specs.Check.{begun, judged, rowOf, keptAs, entered, stepTaken, answerOf}
 use Rattle.copying.specs.Copies.{copiedAt}
 use Rattle.run.proofs.Taking.{takes-step}
-use Rattle.copying.proofs.Copying.{copies-at}
+use Rattle.reading.specs.Copying.{copies-at}
 use Rattle.run.specs.Run.{World, world, ready as at-start, Ran, none as no-turn, more, Turn, looks, keeps, judges, reads, Driven}
 use Rattle.run.specs.Termination.{left, Past, Falls, turn-falls}
 use Rattle.hints.proofs.machine.Machine as N

@@ -1,4 +1,4 @@
-use Rattle.steps.specs.Listing.{value-at, no-value-at}
+use Rattle.reader.proofs.NumberTold.{value-at, no-value-at}
 use borrow.Author.Needs.{needs}
 use Rattle.turns.proofs.check.first_id.Statement.{statement}
 use Rattle.turns.proofs.check.first_id.Tie as tie

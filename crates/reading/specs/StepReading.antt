@@ -14,17 +14,17 @@ use Rattle.scope.specs.Steps.{Tokens, stop, bad, upTo0, numbers, Step, add, Ste
 use Rattle.store.specs.Marks.{marksOf}
 use Rattle.laws.specs.Booleans.{impossible}
 use Rattle.theory.specs.Tokens.{tokens-got, tokens-bad, tokens-stop}
 use Rattle.steps.specs.declared.step.Numbers.{Numbers}
 use Rattle.steps.specs.declared.step.Literals.{Literals}
 use Rattle.steps.specs.declared.step.Numbers.the-variants.{End, Cut}
 use Rattle.steps.specs.declared.step.Literals.the-variants as found
 use Rattle.steps.specs.declared.step.Read.{Read}
 use Rattle.steps.specs.declared.step.Read.the-variants.{Adds, Deletes, Misformed}
-use Rattle.steps.specs.Reading.{tokensAt, numbersAt, Listed, Passes, ends, cut, LiteralsAt, ReadsLiterals, reads, bad-literals}
+use Rattle.reading.specs.Reading.{tokensAt, numbersAt, Listed, Passes, ends, cut, LiteralsAt, ReadsLiterals, reads, bad-literals}
 use Rattle.steps.specs.Step.{passedAt, literalsAt, StepAt, stepIs, byHints, byLiterals, byId, addAt, byIds, stepAt}
-use Rattle.steps.proofs.Loops.{passes-at, literals-read}
+use Rattle.reading.specs.ReadingLoops.{passes-at, literals-read}
 use Rattle.steps.proofs.StepBytes.{byte-inside, byte-number, Other, no-number, another, other-byte}
-use Rattle.steps.specs.Reading.{MisformedAt, Open, ReadsStep, adds, deletes, misformed}
+use Rattle.reading.specs.Reading.{MisformedAt, Open, ReadsStep, adds, deletes, misformed}
 
 -- the tokens at an offset with no number begin no step, nor the rest of one
 data Empty : Tokens → Type 0 where

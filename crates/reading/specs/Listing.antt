@@ -11,21 +11,9 @@ use Rattle.scope.specs.Parsed.{got, refused}
 use Rattle.scope.specs.Number.{number}
 use Rattle.scope.specs.Steps as steps
 use Rattle.scope.specs.Steps.{Tokens, num, tokens, upTo0, numbers, before}
-use Rattle.number.specs.Answers.{said}
-use Rattle.number.specs.declared.Number.{Number}
-use Rattle.number.specs.declared.Number.the-variants.{Value, Refused}
 use Rattle.laws.specs.Booleans.{impossible}
 use Rattle.theory.specs.Tokens.{tokens-got, tokens-bad, tokens-stop}
-use Rattle.steps.specs.Reading.{tokensAt, numbersAt, Listed}
-
--- what a call of the number reader tells
-pub value-at : (s : List ℕ) (at : ℕ) (x : Number) {v next : ℕ} → said x ≡ number s at → x ≡ Value v next
-    → number s at ≡ got v next
-value-at s at x e h = sym e ∙ ap said h
-
-pub no-value-at : (s : List ℕ) (at : ℕ) (x : Number) {f : _} → said x ≡ number s at → x ≡ Refused f
-    → number s at ≡ refused (f .number) (f .value)
-no-value-at s at x e h = sym e ∙ ap said h
+use Rattle.reading.specs.Reading.{tokensAt, numbersAt, Listed}
 
 numbers-more : (n : ℕ) (ts : Tokens) → (n ≡ 0 → ⊥) → numbers (num n ts) ≡ before n (numbers ts)
 unfolding numbers
