@@ -8,7 +8,7 @@ use native.Mathlib.Omega.{arith}
 use lib.ListN.{length}
 use Rattle.scope.specs.Parsed.{Parsed, got, refused}
 use Rattle.scope.specs.Number.{number}
-use Rattle.steps.proofs.Loops.{either, nearer}
+use Rattle.reader.proofs.Loops.{either, nearer}
 use Rattle.copying.specs.declared.literals.Copying.{Copying}
 use Rattle.copying.specs.Copies.{copying, copiedBy, Copied, copyTurn}
 

@@ -7,7 +7,7 @@ use lib.ListN.{length, set}
 use Rattle.scope.specs.Parsed.{Parsed, got, refused}
 use Rattle.scope.specs.Number.{number}
 use Rattle.copying.specs.declared.literals.Copying.{Copying}
-use Rattle.steps.specs.Step.{whileMore}
+use Rattle.reader.specs.Loop.{whileMore}
 
 -- Literals are copied up to a 0, as far as there are words: at an offset, into the words from one on, and after a number
 abbrev pub copying : ℕ → ℕ → Copying

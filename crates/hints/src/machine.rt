@@ -2,7 +2,7 @@
 // row that was found. The next number of the proof is read at one place.
 use number::Number;
 use reader::number_in;
-use steps::step::wide;
+use reader::wide;
 use store::clauses::Standing;
 use store::clauses::standing_of;
 use store::clauses::wipe_clause;

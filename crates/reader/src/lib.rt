@@ -62,3 +62,10 @@ pub fn number_in(proof: &[u8], at: usize) -> Number
 {
     read_number(over(proof, at))
 }
+
+// A number of a proof, as a place or an id.
+pub fn wide(x: u32) -> usize
+    ensures { λ r. ⌜ r ≡ x ⌝ }
+{
+    x as usize
+}

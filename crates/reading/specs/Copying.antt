@@ -13,8 +13,8 @@ use Rattle.scope.specs.Parsed.{Parsed, got, refused}
 use Rattle.scope.specs.Number.{number}
 use Rattle.scope.specs.Steps.{Tokens, upTo0}
 use Rattle.laws.specs.Booleans.{impossible}
-use Rattle.steps.specs.Step.{whileMore}
-use Rattle.steps.proofs.Loops.{closed-same, nearer}
+use Rattle.reader.specs.Loop.{whileMore}
+use Rattle.reader.proofs.Loops.{closed-same, nearer}
 use Rattle.copying.specs.declared.literals.Copying.{Copying}
 use Rattle.copying.specs.Copies.{copying, copied, copiedBy, copiedWords, copyTurn, copiedFrom, copiedAt}
 use Rattle.reading.specs.Reading.{numbersAt}

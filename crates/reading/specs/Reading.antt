@@ -7,10 +7,10 @@ use lib.ListN.{length, drop}
 use Rattle.scope.specs.Steps as steps
 use Rattle.scope.specs.Steps.{Tokens, tokens, upTo0, numbers, Step, add, delete, read, allOpen, allFalse, literalsOk, wellFormed}
 use Rattle.store.specs.Marks.{marksOf}
-use Rattle.steps.specs.declared.step.Numbers.{Numbers}
-use Rattle.steps.specs.declared.step.Numbers.the-variants.{End, Cut}
-use Rattle.steps.specs.declared.step.Literals.{Literals}
-use Rattle.steps.specs.declared.step.Literals.the-variants as found
+use Rattle.passing.specs.declared.numbers.Numbers.{Numbers}
+use Rattle.passing.specs.declared.numbers.Numbers.the-variants.{End, Cut}
+use Rattle.spelling.specs.declared.literals.Literals.{Literals}
+use Rattle.spelling.specs.declared.literals.Literals.the-variants as found
 use Rattle.steps.specs.declared.step.Clause.{Clause}
 use Rattle.steps.specs.declared.step.Read.{Read}
 use Rattle.steps.specs.declared.step.Read.the-variants.{Adds, Deletes, Misformed}

@@ -10,12 +10,15 @@ use borrow.Author.Tests.{eqb-true, eqb-false}
 use Rattle.scope.specs.Parsed.{Parsed, got, refused}
 use Rattle.scope.specs.Number.{number}
 use Rattle.store.specs.Marks.{marksOf, putMark}
-use Rattle.steps.specs.declared.step.Numbers.the-variants.{End, Cut}
-use Rattle.steps.specs.declared.step.Passing.{Passing}
-use Rattle.steps.specs.declared.step.Spelling.{Spelling}
-use Rattle.steps.specs.declared.step.Literals.the-variants as literals
-use Rattle.steps.specs.Step.{whileMore, passing, passedBy, passedFrom, passedAt, literalOk, spelling, spelt, speltBy, speltMarks, Spelled, spellTurn, speltFrom, literalsAt}
-use Rattle.steps.proofs.Loops.{closed-same, nearer, passTurn}
+use Rattle.passing.specs.declared.numbers.Numbers.the-variants.{End, Cut}
+use Rattle.passing.specs.declared.numbers.Passing.{Passing}
+use Rattle.spelling.specs.declared.literals.Spelling.{Spelling}
+use Rattle.spelling.specs.declared.literals.Literals.the-variants as literals
+use Rattle.reader.specs.Loop.{whileMore}
+use Rattle.passing.specs.Passed.{passing, passedBy, passedFrom, passedAt}
+use Rattle.spelling.specs.Spelt.{literalOk, spelling, spelt, speltBy, speltMarks, Spelled, spellTurn, speltFrom, literalsAt}
+use Rattle.reader.proofs.Loops.{closed-same, nearer}
+use Rattle.passing.proofs.Turns.{passTurn}
 use Rattle.reading.specs.Reading.{Passes, ReadsLiterals}
 use Rattle.reading.specs.ReadingTurns.{passes-cut, passes-end, passes-more, literals-cut, literals-end, literals-bad, literals-more}
 

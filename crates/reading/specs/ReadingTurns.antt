@@ -13,12 +13,12 @@ use Rattle.scope.specs.Steps.{before, makeFalse, allFalse, literalsOk}
 use Rattle.store.specs.Marks.{marksOf, putMark, mark-put, put-length}
 use Rattle.laws.specs.Booleans.{impossible, and-true}
 use Rattle.theory.specs.Tokens.{tokens-got}
-use Rattle.steps.specs.declared.step.Numbers.{Numbers}
-use Rattle.steps.specs.declared.step.Numbers.the-variants.{End, Cut}
-use Rattle.steps.specs.declared.step.Literals.{Literals}
-use Rattle.steps.specs.declared.step.Literals.the-variants as found
+use Rattle.passing.specs.declared.numbers.Numbers.{Numbers}
+use Rattle.passing.specs.declared.numbers.Numbers.the-variants.{End, Cut}
+use Rattle.spelling.specs.declared.literals.Literals.{Literals}
+use Rattle.spelling.specs.declared.literals.Literals.the-variants as found
 use Rattle.reading.specs.Reading.{numbersAt, Passes, ends, cut, ReadsLiterals, reads, bad-literals}
-use Rattle.steps.specs.Step.{literalOk}
+use Rattle.spelling.specs.Spelt.{literalOk}
 use Rattle.reading.specs.Listing.{list-cut, list-more, list-end, listed-more, consed}
 
 module _ (s : List ℕ) (at n next : ℕ) (e : number s at ≡ got n next) where

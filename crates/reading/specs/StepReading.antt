@@ -14,14 +14,16 @@ use Rattle.scope.specs.Steps.{Tokens, stop, bad, upTo0, numbers, Step, add, Ste
 use Rattle.store.specs.Marks.{marksOf}
 use Rattle.laws.specs.Booleans.{impossible}
 use Rattle.theory.specs.Tokens.{tokens-got, tokens-bad, tokens-stop}
-use Rattle.steps.specs.declared.step.Numbers.{Numbers}
-use Rattle.steps.specs.declared.step.Literals.{Literals}
-use Rattle.steps.specs.declared.step.Numbers.the-variants.{End, Cut}
-use Rattle.steps.specs.declared.step.Literals.the-variants as found
+use Rattle.passing.specs.declared.numbers.Numbers.{Numbers}
+use Rattle.spelling.specs.declared.literals.Literals.{Literals}
+use Rattle.passing.specs.declared.numbers.Numbers.the-variants.{End, Cut}
+use Rattle.spelling.specs.declared.literals.Literals.the-variants as found
 use Rattle.steps.specs.declared.step.Read.{Read}
 use Rattle.steps.specs.declared.step.Read.the-variants.{Adds, Deletes, Misformed}
 use Rattle.reading.specs.Reading.{tokensAt, numbersAt, Listed, Passes, ends, cut, LiteralsAt, ReadsLiterals, reads, bad-literals}
-use Rattle.steps.specs.Step.{passedAt, literalsAt, StepAt, stepIs, byHints, byLiterals, byId, addAt, byIds, stepAt}
+use Rattle.passing.specs.Passed.{passedAt}
+use Rattle.spelling.specs.Spelt.{literalsAt}
+use Rattle.steps.specs.Step.{StepAt, stepIs, byHints, byLiterals, byId, addAt, byIds, stepAt}
 use Rattle.reading.specs.ReadingLoops.{passes-at, literals-read}
 use Rattle.steps.proofs.StepBytes.{byte-inside, byte-number, Other, no-number, another, other-byte}
 use Rattle.reading.specs.Reading.{MisformedAt, Open, ReadsStep, adds, deletes, misformed}

@@ -52,7 +52,7 @@ use Rattle.store.proofs.Calls.{both-said, calls-to, calls-to-last}
 use Rattle.reader.specs.declared.Reader.{Reader}
 use Rattle.copying.specs.declared.literals.Copying.{Copying}
 use Rattle.copying.specs.Copies.{copying, copiedBy, copiedWords, Copied, copyTurn, copiedFrom, copiedAt}
-use Rattle.steps.proofs.Loops.{Left, left-over, left-more}
+use Rattle.reader.proofs.Loops.{Left, left-over, left-more}
 use Rattle.copying.proofs.Copying.{toCopy, copy-falls}
 use Rattle.reader.proofs.Readers.{reader-same, reader-typed, at-place, placed, Held, together, IsNumber, number-same, number-typed, is-true, is-false}
 use Rattle.reader.proofs.Reader as D

@@ -3,8 +3,8 @@ use Prim.Native.Nat.{_/_}
 use Rattle.store.specs.Marks.{marksOf}
 use borrow.Author.Tests.{lt-leb, le-leb, eq-eqb, ne-eqb}
 use borrow.Author.Needs.{needs}
-use Rattle.steps.proofs.step.deny.Statement.{statement}
-use Rattle.steps.proofs.step.deny.Tie as tie
+use Rattle.spelling.proofs.literals.deny.Statement.{statement}
+use Rattle.spelling.proofs.literals.deny.Tie as tie
 
 returns : tie.Need-returns
 returns c = (rw (lt-leb 2 (c .before .before .args .l) (c .if1 .taken)), refl)

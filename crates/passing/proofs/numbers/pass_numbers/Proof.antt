@@ -50,17 +50,18 @@ use Rattle.store.proofs.Walk.{rest, ty-at, Addrs, addr-at, env-of, laid, rotate
 use Rattle.store.proofs.Slices.{at-list, Bytes}
 use Rattle.store.proofs.Calls.{calls-to, calls-to-last}
 use Rattle.reader.specs.declared.Reader.{Reader}
-use Rattle.steps.specs.declared.step.Numbers.{Numbers}
-use Rattle.steps.specs.declared.step.Passing.{Passing}
-use Rattle.steps.specs.Step.{passing, passedBy, passedFrom, passedAt}
-use Rattle.steps.proofs.Loops.{Left, left-over, left-more, toPass, passTurn, pass-falls}
+use Rattle.passing.specs.declared.numbers.Numbers.{Numbers}
+use Rattle.passing.specs.declared.numbers.Passing.{Passing}
+use Rattle.passing.specs.Passed.{passing, passedBy, passedFrom, passedAt}
+use Rattle.reader.proofs.Loops.{Left, left-over, left-more}
+use Rattle.passing.proofs.Turns.{toPass, passTurn, pass-falls}
 use Rattle.reader.proofs.Readers.{reader-same, reader-typed, at-place, placed, Held, together, IsNumber, number-same, number-typed, is-true, is-false}
 use Rattle.reader.proofs.Reader as D
 use Rattle.reader.proofs.Reader.Laws as D′
-use Rattle.steps.proofs.step.Numbers as N
-use Rattle.steps.proofs.step.Numbers.Laws as N′
-use Rattle.steps.proofs.step.Passing as P
-use Rattle.steps.proofs.step.Passing.Laws as P′
+use Rattle.passing.proofs.numbers.Numbers as N
+use Rattle.passing.proofs.numbers.Numbers.Laws as N′
+use Rattle.passing.proofs.numbers.Passing as P
+use Rattle.passing.proofs.numbers.Passing.Laws as P′
 use Rattle.reader.proofs.over as over
 use Rattle.reader.proofs.over.Symbol as over-def
 use Rattle.reader.proofs.over.Symbol.{name as #over}
@@ -73,19 +74,19 @@ use Rattle.reader.proofs.moved as moved
 use Rattle.reader.proofs.moved.Symbol as moved-def
 use Rattle.reader.proofs.moved.Symbol.{name as #moved}
 use Rattle.reader.proofs.moved.Met as moved-thm
-use Rattle.steps.proofs.step.begin_passing as begin
-use Rattle.steps.proofs.step.begin_passing.Symbol as begin-def
-use Rattle.steps.proofs.step.begin_passing.Symbol.{name as #begin}
-use Rattle.steps.proofs.step.begin_passing.Met as begin-thm
-use Rattle.steps.proofs.step.pass_on as pass-on
-use Rattle.steps.proofs.step.pass_on.Symbol as pass-on-def
-use Rattle.steps.proofs.step.pass_on.Symbol.{name as #pass-on}
-use Rattle.steps.proofs.step.pass_on.Met as pass-on-thm
-use Rattle.steps.proofs.step.pass_numbers.Key.{name as #pass-numbers}
-use Rattle.steps.proofs.step.pass_numbers as f
-use Rattle.steps.proofs.step.pass_numbers.Statement as stated
-use Rattle.steps.proofs.step.pass_numbers.Code as code
-use Rattle.steps.proofs.step.pass_numbers.Code.Mir as body
+use Rattle.passing.proofs.numbers.begin_passing as begin
+use Rattle.passing.proofs.numbers.begin_passing.Symbol as begin-def
+use Rattle.passing.proofs.numbers.begin_passing.Symbol.{name as #begin}
+use Rattle.passing.proofs.numbers.begin_passing.Met as begin-thm
+use Rattle.passing.proofs.numbers.pass_on as pass-on
+use Rattle.passing.proofs.numbers.pass_on.Symbol as pass-on-def
+use Rattle.passing.proofs.numbers.pass_on.Symbol.{name as #pass-on}
+use Rattle.passing.proofs.numbers.pass_on.Met as pass-on-thm
+use Rattle.passing.proofs.numbers.pass_numbers.Key.{name as #pass-numbers}
+use Rattle.passing.proofs.numbers.pass_numbers as f
+use Rattle.passing.proofs.numbers.pass_numbers.Statement as stated
+use Rattle.passing.proofs.numbers.pass_numbers.Code as code
+use Rattle.passing.proofs.numbers.pass_numbers.Code.Mir as body
 
 abbrev stayed : Stays (f.ended .signature .params) (f.ended .kept)
 stayed = (stay-dropped (shrSliceOf (0 ∷ []) tt (plain (λ _. u8))) yes, (stay-dropped (plain (λ _. usize)) yes, tt))
@@ -323,6 +324,6 @@ pass-numbers-spec 𝓤 H 𝓜 𝓖 𝓡 =
       over = cited 𝓤 H (over-to 𝓤 H (𝓖 .A) (𝓜 .mem) (𝓡 .run)) 𝓜 𝓡 code.env #over over-def.routine code.calls-reader·over (over-thm.met 𝓤 H 𝓜 𝓖 𝓡);
       read-number = cited 𝓤 H (read-number-to 𝓤 H (𝓖 .A) (𝓜 .mem) (𝓡 .run)) 𝓜 𝓡 code.env #read-number read-number-def.routine code.calls-reader·read-number (read-number-thm.met 𝓤 H 𝓜 𝓖 𝓡);
       moved = cited 𝓤 H (moved-to 𝓤 H (𝓖 .A) (𝓜 .mem) (𝓡 .run)) 𝓜 𝓡 code.env #moved moved-def.routine code.calls-reader·moved (moved-thm.met 𝓤 H 𝓜 𝓖 𝓡);
-      begin = cited 𝓤 H (begin-to 𝓤 H (𝓖 .A) (𝓜 .mem) (𝓡 .run)) 𝓜 𝓡 code.env #begin begin-def.routine code.calls-steps·step·begin-passing (begin-thm.met 𝓤 H 𝓜 𝓖 𝓡);
-      pass-on = cited 𝓤 H (pass-on-to 𝓤 H (𝓖 .A) (𝓜 .mem) (𝓡 .run)) 𝓜 𝓡 code.env #pass-on pass-on-def.routine code.calls-steps·step·pass-on (pass-on-thm.met 𝓤 H 𝓜 𝓖 𝓡);
+      begin = cited 𝓤 H (begin-to 𝓤 H (𝓖 .A) (𝓜 .mem) (𝓡 .run)) 𝓜 𝓡 code.env #begin begin-def.routine code.calls-passing·numbers·begin-passing (begin-thm.met 𝓤 H 𝓜 𝓖 𝓡);
+      pass-on = cited 𝓤 H (pass-on-to 𝓤 H (𝓖 .A) (𝓜 .mem) (𝓡 .run)) 𝓜 𝓡 code.env #pass-on pass-on-def.routine code.calls-passing·numbers·pass-on (pass-on-thm.met 𝓤 H 𝓜 𝓖 𝓡);
     }))

@@ -1,8 +1,8 @@
 use mathlib.Core.Path.{_∙_}
 use borrow.Author.Tests.{eq-eqb, ne-eqb}
 use borrow.Author.Needs.{needs}
-use Rattle.steps.proofs.step.pass_on.Statement.{statement}
-use Rattle.steps.proofs.step.pass_on.Tie as tie
+use Rattle.passing.proofs.numbers.pass_on.Statement.{statement}
+use Rattle.passing.proofs.numbers.pass_on.Tie as tie
 
 enum-known-t : tie.Need-enum-known-t
 enum-known-t c = search needs

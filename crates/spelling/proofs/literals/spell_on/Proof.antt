@@ -2,8 +2,8 @@ use mathlib.Core.Path.{_≡_, sym, _∙_}
 use mathlib.Core.Bool.{true, false}
 use borrow.Author.Tests.{eq-eqb, ne-eqb, not-true, not-false}
 use borrow.Author.Needs.{needs}
-use Rattle.steps.proofs.step.spell_on.Statement.{statement}
-use Rattle.steps.proofs.step.spell_on.Tie as tie
+use Rattle.spelling.proofs.literals.spell_on.Statement.{statement}
+use Rattle.spelling.proofs.literals.spell_on.Tie as tie
 
 enum-known-t : tie.Need-enum-known-t
 enum-known-t c = search needs

@@ -51,17 +51,18 @@ use Rattle.store.proofs.Walk.{rest, ty-at, Addrs, addr-at, env-of, laid, rotate
 use Rattle.store.proofs.Slices.{at-list, Bytes, Whole, lent, back}
 use Rattle.store.proofs.Calls.{both-said, told, says-all, calls-to, calls-to-last}
 use Rattle.reader.specs.declared.Reader.{Reader}
-use Rattle.steps.specs.declared.step.Literals.{Literals}
-use Rattle.steps.specs.declared.step.Spelling.{Spelling}
-use Rattle.steps.specs.Step.{spelling, speltBy, speltMarks, Spelled, spellTurn, speltFrom, LiteralsRead, literalsOf, literalsAt}
-use Rattle.steps.proofs.Loops.{Left, left-over, left-more, toSpell, spell-falls, spell-sizes}
+use Rattle.spelling.specs.declared.literals.Literals.{Literals}
+use Rattle.spelling.specs.declared.literals.Spelling.{Spelling}
+use Rattle.spelling.specs.Spelt.{spelling, speltBy, speltMarks, Spelled, spellTurn, speltFrom, LiteralsRead, literalsOf, literalsAt}
+use Rattle.reader.proofs.Loops.{Left, left-over, left-more}
+use Rattle.spelling.proofs.Turns.{toSpell, spell-falls, spell-sizes}
 use Rattle.reader.proofs.Readers.{reader-same, reader-typed, at-place, placed, Held, together, IsNumber, number-same, number-typed, is-true, is-false}
 use Rattle.reader.proofs.Reader as D
 use Rattle.reader.proofs.Reader.Laws as D′
-use Rattle.steps.proofs.step.Literals as N
-use Rattle.steps.proofs.step.Literals.Laws as N′
-use Rattle.steps.proofs.step.Spelling as P
-use Rattle.steps.proofs.step.Spelling.Laws as P′
+use Rattle.spelling.proofs.literals.Literals as N
+use Rattle.spelling.proofs.literals.Literals.Laws as N′
+use Rattle.spelling.proofs.literals.Spelling as P
+use Rattle.spelling.proofs.literals.Spelling.Laws as P′
 use Rattle.reader.proofs.over as over
 use Rattle.reader.proofs.over.Symbol as over-def
 use Rattle.reader.proofs.over.Symbol.{name as #over}
@@ -74,19 +75,19 @@ use Rattle.reader.proofs.moved as moved
 use Rattle.reader.proofs.moved.Symbol as moved-def
 use Rattle.reader.proofs.moved.Symbol.{name as #moved}
 use Rattle.reader.proofs.moved.Met as moved-thm
-use Rattle.steps.proofs.step.begin_spelling as begin
-use Rattle.steps.proofs.step.begin_spelling.Symbol as begin-def
-use Rattle.steps.proofs.step.begin_spelling.Symbol.{name as #begin}
-use Rattle.steps.proofs.step.begin_spelling.Met as begin-thm
-use Rattle.steps.proofs.step.spell_on as spell-on
-use Rattle.steps.proofs.step.spell_on.Symbol as spell-on-def
-use Rattle.steps.proofs.step.spell_on.Symbol.{name as #spell-on}
-use Rattle.steps.proofs.step.spell_on.Met as spell-on-thm
-use Rattle.steps.proofs.step.read_literals.Key.{name as #read-literals}
-use Rattle.steps.proofs.step.read_literals as f
-use Rattle.steps.proofs.step.read_literals.Statement as stated
-use Rattle.steps.proofs.step.read_literals.Code as code
-use Rattle.steps.proofs.step.read_literals.Code.Mir as body
+use Rattle.spelling.proofs.literals.begin_spelling as begin
+use Rattle.spelling.proofs.literals.begin_spelling.Symbol as begin-def
+use Rattle.spelling.proofs.literals.begin_spelling.Symbol.{name as #begin}
+use Rattle.spelling.proofs.literals.begin_spelling.Met as begin-thm
+use Rattle.spelling.proofs.literals.spell_on as spell-on
+use Rattle.spelling.proofs.literals.spell_on.Symbol as spell-on-def
+use Rattle.spelling.proofs.literals.spell_on.Symbol.{name as #spell-on}
+use Rattle.spelling.proofs.literals.spell_on.Met as spell-on-thm
+use Rattle.spelling.proofs.literals.read_literals.Key.{name as #read-literals}
+use Rattle.spelling.proofs.literals.read_literals as f
+use Rattle.spelling.proofs.literals.read_literals.Statement as stated
+use Rattle.spelling.proofs.literals.read_literals.Code as code
+use Rattle.spelling.proofs.literals.read_literals.Code.Mir as body
 
 abbrev stayed : Stays (f.ended .signature .params) (f.ended .kept)
 stayed = (stay-dropped (shrSliceOf (0 ∷ []) tt (plain (λ _. u8))) yes, (stay-dropped (plain (λ _. usize)) yes, (stay-dropped (plain (λ _. usize)) yes, (stay-slice (1 ∷ []) tt (plain (λ _. u8)), tt))))
@@ -396,6 +397,6 @@ read-literals-spec 𝓤 H 𝓜 𝓖 𝓡 =
       over = cited 𝓤 H (over-to 𝓤 H (𝓖 .A) (𝓜 .mem) (𝓡 .run)) 𝓜 𝓡 code.env #over over-def.routine code.calls-reader·over (over-thm.met 𝓤 H 𝓜 𝓖 𝓡);
       read-number = cited 𝓤 H (read-number-to 𝓤 H (𝓖 .A) (𝓜 .mem) (𝓡 .run)) 𝓜 𝓡 code.env #read-number read-number-def.routine code.calls-reader·read-number (read-number-thm.met 𝓤 H 𝓜 𝓖 𝓡);
       moved = cited 𝓤 H (moved-to 𝓤 H (𝓖 .A) (𝓜 .mem) (𝓡 .run)) 𝓜 𝓡 code.env #moved moved-def.routine code.calls-reader·moved (moved-thm.met 𝓤 H 𝓜 𝓖 𝓡);
-      begin = cited 𝓤 H (begin-to 𝓤 H (𝓖 .A) (𝓜 .mem) (𝓡 .run)) 𝓜 𝓡 code.env #begin begin-def.routine code.calls-steps·step·begin-spelling (begin-thm.met 𝓤 H 𝓜 𝓖 𝓡);
-      spell-on = cited 𝓤 H (spell-on-to 𝓤 H (𝓖 .A) (𝓜 .mem) (𝓡 .run)) 𝓜 𝓡 code.env #spell-on spell-on-def.routine code.calls-steps·step·spell-on (spell-on-thm.met 𝓤 H 𝓜 𝓖 𝓡);
+      begin = cited 𝓤 H (begin-to 𝓤 H (𝓖 .A) (𝓜 .mem) (𝓡 .run)) 𝓜 𝓡 code.env #begin begin-def.routine code.calls-spelling·literals·begin-spelling (begin-thm.met 𝓤 H 𝓜 𝓖 𝓡);
+      spell-on = cited 𝓤 H (spell-on-to 𝓤 H (𝓖 .A) (𝓜 .mem) (𝓡 .run)) 𝓜 𝓡 code.env #spell-on spell-on-def.routine code.calls-spelling·literals·spell-on (spell-on-thm.met 𝓤 H 𝓜 𝓖 𝓡);
     }))
