@@ -3,6 +3,9 @@
 use number::Number;
 use reader::number_in;
 use reader::wide;
+use scope::refusals::BAD_HINT;
+use scope::refusals::BAD_STEP;
+use scope::refusals::NOT_LIVE;
 use store::clauses::Standing;
 use store::clauses::standing_of;
 use store::clauses::wipe_clause;
@@ -103,15 +106,15 @@ fn take_hint(row: Row, id: u32, next: usize, words: &[u32], marks: &mut [u8]) ->
             if id == 0 {
                 return stop(Phase::Followed, next);
             }
-            stop(Phase::Refused(16), next)
+            stop(Phase::Refused(BAD_HINT), next)
         }
         Standing::OneOpen(l) => {
             let v = wide(l / 2);
             let mark = (1 + l % 2) as u8;
             put_mark(marks, v, mark);
-            step_on(Phase::Walk, Phase::Refused(16), id, next)
+            step_on(Phase::Walk, Phase::Refused(BAD_HINT), id, next)
         }
-        Standing::Other => stop(Phase::Refused(16), next),
+        Standing::Other => stop(Phase::Refused(BAD_HINT), next),
     }
 }
 
@@ -122,11 +125,11 @@ pub fn advance(m: Machine, row: Row, proof: &[u8], words: &[u32], marks: &mut [u
 {
     let at = m.at;
     if row.live == 0 {
-        return stop(Phase::Refused(15), at);
+        return stop(Phase::Refused(NOT_LIVE), at);
     }
     let t = number_in(proof, at);
     let Number::Value(id, next) = t else {
-        return stop(Phase::Refused(14), at);
+        return stop(Phase::Refused(BAD_STEP), at);
     };
     let phase = m.phase;
     match phase {

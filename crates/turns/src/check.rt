@@ -8,6 +8,10 @@ use number::Number;
 use reader::number_in;
 use scope::CheckAnswer;
 use scope::Refusal;
+use scope::refusals::BAD_END;
+use scope::refusals::BAD_HINT;
+use scope::refusals::BAD_STEP;
+use scope::refusals::CLAUSE_TOO_LONG;
 use steps::step::Clause;
 use steps::step::Read;
 use steps::step::read_step;
@@ -96,18 +100,18 @@ pub fn judge(c: Check, at: usize, bytes: usize, words: usize, rows: usize) -> Ch
     let tally = c.tally;
     if clause.size == 0 {
         if at < bytes {
-            return in_phase(c, Phase::Refused(18));
+            return in_phase(c, Phase::Refused(BAD_END));
         }
         return in_phase(c, Phase::Proved);
     }
     if words < tally.words {
-        return in_phase(c, Phase::Refused(17));
+        return in_phase(c, Phase::Refused(CLAUSE_TOO_LONG));
     }
     if words - tally.words < clause.size {
-        return in_phase(c, Phase::Refused(17));
+        return in_phase(c, Phase::Refused(CLAUSE_TOO_LONG));
     }
     if rows <= tally.rows {
-        return in_phase(c, Phase::Refused(17));
+        return in_phase(c, Phase::Refused(CLAUSE_TOO_LONG));
     }
     in_phase(c, Phase::Keep)
 }
@@ -153,7 +157,7 @@ fn first_id(phase: Phase, over: Phase, proof: &[u8], at: usize) -> Machine
 {
     let t = number_in(proof, at);
     let Number::Value(id, next) = t else {
-        return stop(Phase::Refused(14), at);
+        return stop(Phase::Refused(BAD_STEP), at);
     };
     step_on(phase, over, id, next)
 }
@@ -166,7 +170,7 @@ pub fn enter(c: Check, proof: &[u8]) -> Machine
     let at = clause.hints;
     let phase = c.phase;
     match phase {
-        Phase::Walk => first_id(Phase::Walk, Phase::Refused(16), proof, at),
+        Phase::Walk => first_id(Phase::Walk, Phase::Refused(BAD_HINT), proof, at),
         Phase::Delete => first_id(Phase::Delete, Phase::Next, proof, at),
         Phase::Wipe => Machine {
             phase,
@@ -187,7 +191,7 @@ pub fn next_step(c: Check, at: usize, proof: &[u8], last: usize, marks: &mut [u8
     ensures { λ _. ⌜ now (marks .exit) ≡ stepTaken (now (proof .entry)) c at last (now (marks .entry)) .marks ⌝ }
 {
     if proof.len() <= at {
-        return in_phase(c, Phase::Refused(18));
+        return in_phase(c, Phase::Refused(BAD_END));
     }
     let old = c.tally;
     let tally = Tally {
@@ -200,7 +204,7 @@ pub fn next_step(c: Check, at: usize, proof: &[u8], last: usize, marks: &mut [u8
     let read = read_step(proof, at, old.highest, last, marks);
     match read {
         Read::Misformed => Check {
-            phase: Phase::Refused(14),
+            phase: Phase::Refused(BAD_STEP),
             tally,
             clause: none,
         },
@@ -232,7 +236,7 @@ pub fn answer(c: Check, m: Machine) -> CheckAnswer
     let tally = c.tally;
     let steps = tally.steps;
     let unread = Refusal {
-        number: 14,
+        number: BAD_STEP,
         value: steps,
     };
     let phase = m.phase;
