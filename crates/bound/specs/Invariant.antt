@@ -14,12 +14,12 @@ use Rattle.store.specs.declared.directory.Row.{Row}
 use Rattle.store.specs.Marks.{marksOf}
 use Rattle.store.specs.Live.{liveRows}
 use Rattle.store.specs.Holding.{Holding}
-use Rattle.run.specs.declared.machine.Phase.{Phase}
-use Rattle.run.specs.declared.machine.Phase.the-variants.{Next, Walk, Followed, Keep, Wipe, Delete, Proved, Refused}
-use Rattle.run.specs.declared.machine.Machine.{Machine}
-use Rattle.run.specs.declared.check.Tally.{Tally}
+use Rattle.hints.specs.declared.machine.Phase.{Phase}
+use Rattle.hints.specs.declared.machine.Phase.the-variants.{Next, Walk, Followed, Keep, Wipe, Delete, Proved, Refused}
+use Rattle.hints.specs.declared.machine.Machine.{Machine}
+use Rattle.turns.specs.declared.check.Tally.{Tally}
 use Rattle.steps.specs.declared.step.Clause.{Clause}
-use Rattle.steps.specs.Reading.{tokensAt, numbersAt}
+use Rattle.reading.specs.Reading.{tokensAt, numbersAt}
 use Rattle.run.specs.Run.{World}
 use Rattle.bound.specs.Hints.{inHints, AllLive}
 

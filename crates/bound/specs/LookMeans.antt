@@ -19,10 +19,10 @@ use Rattle.store.specs.Marks.{marksOf, putMark, mark-put, put-length}
 use Rattle.store.specs.Clauses.{inClause, Wiped}
 use Rattle.store.specs.Holding.{All, Good, open-in}
 use Rattle.laws.specs.Booleans.{impossible, or-false}
-use Rattle.run.specs.declared.machine.Phase.the-variants.{Next, Walk, Wipe, Refused}
-use Rattle.run.specs.declared.check.Check.{Check}
-use Rattle.steps.specs.Listing.{Ahead, last-id, more-ids, ids-ahead}
-use Rattle.run.specs.Machine.{onward, onward-end, onward-more, walked, walked-last, walked-early, walkedMarks}
+use Rattle.hints.specs.declared.machine.Phase.the-variants.{Next, Walk, Wipe, Refused}
+use Rattle.turns.specs.declared.check.Check.{Check}
+use Rattle.reading.specs.Listing.{Ahead, last-id, more-ids, ids-ahead}
+use Rattle.hints.specs.Machine.{onward, onward-end, onward-more, walked, walked-last, walked-early, walkedMarks}
 use Rattle.bound.specs.Hints.{inHint, inHints, IsLive, open-inside}
 use Rattle.bound.specs.Invariant.{Base, ending, Adding, before, liveIn, Walking, Wiping, InvariantAt}
 

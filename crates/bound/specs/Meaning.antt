@@ -25,16 +25,16 @@ use Rattle.store.specs.Marked.{mark, Plain, BuiltFor, Built}
 use Rattle.store.specs.Built.{Each, built-for, built-holding, built-live}
 use Rattle.store.specs.Directory.{rowsOf}
 use Rattle.laws.specs.Booleans.{impossible}
-use Rattle.run.specs.declared.machine.Phase.{Phase}
-use Rattle.run.specs.declared.machine.Phase.the-variants.{Next, Walk, Followed, Keep, Wipe, Delete, Proved, Refused}
-use Rattle.run.specs.declared.machine.Machine.{Machine}
-use Rattle.run.specs.declared.check.Check.{Check}
-use Rattle.steps.specs.Listing.{list-cut}
-use Rattle.run.specs.Machine as machine
-use Rattle.run.specs.Machine.{turnOf, turn-phase, Advances, gone, broken, walks, wipes, idle}
-use Rattle.run.specs.Check.{largest}
+use Rattle.hints.specs.declared.machine.Phase.{Phase}
+use Rattle.hints.specs.declared.machine.Phase.the-variants.{Next, Walk, Followed, Keep, Wipe, Delete, Proved, Refused}
+use Rattle.hints.specs.declared.machine.Machine.{Machine}
+use Rattle.turns.specs.declared.check.Check.{Check}
+use Rattle.reading.specs.Listing.{list-cut}
+use Rattle.hints.specs.Machine as machine
+use Rattle.hints.specs.Machine.{turnOf, turn-phase, Advances, gone, broken, walks, wipes, idle}
+use Rattle.turns.specs.Check.{largest, answerOf}
 use Rattle.run.specs.Run as run
-use Rattle.run.specs.Run.{World, Turn, looks, keeps, judges, reads, Ran, answerOf, Driven}
+use Rattle.run.specs.Run.{World, Turn, looks, keeps, judges, reads, Ran, Driven}
 use Rattle.run.specs.Termination.{Past, turn-falls}
 use Rattle.bound.specs.Invariant.{Base, liveIn, Walking, Wiping, Deleting, InvariantIn, InvariantAt, Invariant}
 use Rattle.bound.specs.LookMeans.{hint-gone, hint-judged, clause-wiped}

@@ -24,12 +24,12 @@ use Rattle.theory.specs.Tokens.{tokens-stop}
 use Rattle.steps.specs.declared.step.Clause.{Clause}
 use Rattle.steps.specs.declared.step.Read.{Read}
 use Rattle.steps.specs.declared.step.Read.the-variants.{Adds, Deletes}
-use Rattle.run.specs.declared.machine.Phase.the-variants.{Next, Walk, Delete, Refused}
-use Rattle.run.specs.declared.check.Check.{Check}
-use Rattle.steps.specs.Reading.{tokensAt, AddsAt, DeletesAt, MisformedAt, Open, ReadsStep, adds, deletes, misformed}
-use Rattle.steps.specs.Listing.{Ahead, last-id, more-ids, ids-ahead, list-cut}
-use Rattle.run.specs.Machine.{onward, onward-end, onward-more}
-use Rattle.run.specs.Check.{largest, firstId, entered, counted, stepped, TakesStep, over, takes}
+use Rattle.hints.specs.declared.machine.Phase.the-variants.{Next, Walk, Delete, Refused}
+use Rattle.turns.specs.declared.check.Check.{Check}
+use Rattle.reading.specs.Reading.{tokensAt, AddsAt, DeletesAt, MisformedAt, Open, ReadsStep, adds, deletes, misformed}
+use Rattle.reading.specs.Listing.{Ahead, last-id, more-ids, ids-ahead, list-cut}
+use Rattle.hints.specs.Machine.{onward, onward-end, onward-more}
+use Rattle.turns.specs.Check.{largest, firstId, entered, counted, stepped, TakesStep, over, takes}
 use Rattle.bound.specs.Invariant.{Base, InStep, ending, Adding, before, liveIn, stateOf, Reading, InvariantAt}
 
 -- where bytes are left, the run takes the step that is read

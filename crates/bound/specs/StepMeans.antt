@@ -27,14 +27,14 @@ use Rattle.store.specs.Live.{liveRows, live-dead, put-same, put-other}
 use Rattle.store.specs.Holding.{All, Good, Holding, holding-kept, live-kept, id-free, holding-dead}
 use Rattle.laws.specs.Booleans.{impossible, and-true, or-false}
 use Rattle.theory.specs.Tokens.{tokens-stop}
-use Rattle.run.specs.declared.machine.Phase.{Phase}
-use Rattle.run.specs.declared.machine.Phase.the-variants.{Next, Keep, Delete, Proved, Refused}
-use Rattle.run.specs.declared.check.Check.{Check}
-use Rattle.run.specs.declared.check.Tally.{Tally}
-use Rattle.steps.specs.Reading.{tokensAt}
-use Rattle.steps.specs.Listing.{Ahead, last-id, more-ids, ids-ahead}
-use Rattle.run.specs.Machine.{onward, onward-end, onward-more}
-use Rattle.run.specs.Check.{withPhase, verdict, rowOf, largest, keptAs, entered}
+use Rattle.hints.specs.declared.machine.Phase.{Phase}
+use Rattle.hints.specs.declared.machine.Phase.the-variants.{Next, Keep, Delete, Proved, Refused}
+use Rattle.turns.specs.declared.check.Check.{Check}
+use Rattle.turns.specs.declared.check.Tally.{Tally}
+use Rattle.reading.specs.Reading.{tokensAt}
+use Rattle.reading.specs.Listing.{Ahead, last-id, more-ids, ids-ahead}
+use Rattle.hints.specs.Machine.{onward, onward-end, onward-more}
+use Rattle.turns.specs.Check.{withPhase, verdict, rowOf, largest, keptAs, entered}
 use Rattle.bound.specs.Hints.{inHint, inHints, IsLive, outside-false, literals-good, hints-same, live-same}
 use Rattle.bound.specs.Invariant.{Base, ending, before, liveIn, stateOf, Following, Keeping, Deleting, InvariantAt}
 

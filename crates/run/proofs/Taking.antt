@@ -7,10 +7,10 @@ use lib.Dec.{leb}
 use lib.ListN.{length}
 use borrow.Author.Tests.{leb-true, leb-false}
 use Rattle.steps.specs.Step.{stepAt}
-use Rattle.steps.proofs.StepReading.{step-reads}
-use Rattle.run.specs.declared.machine.Phase.the-variants.{Refused}
-use Rattle.run.specs.declared.check.Check.{Check}
-use Rattle.run.specs.Check.{withPhase, stepped, StepTaken, stepTaken, TakesStep, over, takes}
+use Rattle.reading.specs.StepReading.{step-reads}
+use Rattle.hints.specs.declared.machine.Phase.the-variants.{Refused}
+use Rattle.turns.specs.declared.check.Check.{Check}
+use Rattle.turns.specs.Check.{withPhase, stepped, StepTaken, stepTaken, TakesStep, over, takes}
 
 pub takes-step : (s : List ℕ) (c : Check) (at last : ℕ) (ms : List ℕ)
     → TakesStep s c at last ms (stepTaken s c at last ms .check) (stepTaken s c at last ms .marks)

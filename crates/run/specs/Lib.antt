@@ -1,4 +1,2 @@
-pub mod Machine
-pub mod Check
 pub mod Run
 pub mod Termination

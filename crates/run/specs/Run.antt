@@ -7,23 +7,12 @@ use Rattle.scope.specs.declared.CheckAnswer.{CheckAnswer}
 use Rattle.store.specs.declared.directory.Row.{Row}
 use Rattle.store.specs.declared.directory.Probe.{Probe}
 use Rattle.store.specs.Rows.{Finds, Dies, Appends}
-use Rattle.run.specs.declared.machine.Phase.{Phase}
-use Rattle.run.specs.declared.machine.Phase.the-variants.{Next, Walk, Followed, Keep, Wipe, Delete, Proved, Refused}
-use Rattle.run.specs.declared.machine.Machine.{Machine}
-use Rattle.run.specs.declared.check.Check.{Check}
-use Rattle.run.specs.Machine.{turnOf, stopped, Advances}
-use Rattle.run.specs.Check.{begun, judged, rowOf, largest, keptAs, Copies, entered, TakesStep}
-
--- the answer of a check that has ended, after so many steps
-abbrev pub answerOf : ℕ → Phase → CheckAnswer
-answerOf n Next = CheckAnswer.Refused (record { number = 14; value = n })
-answerOf n Walk = CheckAnswer.Refused (record { number = 14; value = n })
-answerOf n Followed = CheckAnswer.Refused (record { number = 14; value = n })
-answerOf n Keep = CheckAnswer.Refused (record { number = 14; value = n })
-answerOf n Wipe = CheckAnswer.Refused (record { number = 14; value = n })
-answerOf n Delete = CheckAnswer.Refused (record { number = 14; value = n })
-answerOf n Proved = CheckAnswer.NoTimetable n
-answerOf n (Refused k) = CheckAnswer.Refused (record { number = k; value = n })
+use Rattle.hints.specs.declared.machine.Phase.the-variants.{Next}
+use Rattle.hints.specs.declared.machine.Machine.{Machine}
+use Rattle.turns.specs.declared.check.Check.{Check}
+use Rattle.hints.specs.Machine.{turnOf, stopped, Advances}
+use Rattle.reading.specs.Copying.{Copies}
+use Rattle.turns.specs.Check.{begun, judged, rowOf, largest, keptAs, entered, TakesStep, answerOf}
 
 pub record World : Type 0 where
   pub check : Check

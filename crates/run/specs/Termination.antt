@@ -13,15 +13,15 @@ use Rattle.theory.specs.StepTokens.{StepRead}
 use Rattle.theory.specs.Marked.{Standing, falsified, oneOpen, other}
 use Rattle.number.specs.Laws.{number-got}
 use Rattle.store.specs.declared.directory.Row.{Row}
-use Rattle.run.specs.declared.machine.Phase.{Phase}
-use Rattle.run.specs.declared.machine.Phase.the-variants.{Next, Walk, Followed, Keep, Wipe, Delete, Proved, Refused}
-use Rattle.run.specs.declared.machine.Machine.{Machine}
+use Rattle.hints.specs.declared.machine.Phase.{Phase}
+use Rattle.hints.specs.declared.machine.Phase.the-variants.{Next, Walk, Followed, Keep, Wipe, Delete, Proved, Refused}
+use Rattle.hints.specs.declared.machine.Machine.{Machine}
 use Rattle.steps.specs.declared.step.Read.{Read}
-use Rattle.run.specs.declared.check.Check.{Check}
-use Rattle.steps.specs.Reading.{ReadsStep, adds, deletes, misformed}
-use Rattle.run.specs.Machine as machine
-use Rattle.run.specs.Machine.{turnOf, turn-phase, stopped, onward, walked, Advances, gone, broken, walks, wipes, idle}
-use Rattle.run.specs.Check.{verdict, firstId, enteredAt, entered, stepped, TakesStep, over, takes}
+use Rattle.turns.specs.declared.check.Check.{Check}
+use Rattle.reading.specs.Reading.{ReadsStep, adds, deletes, misformed}
+use Rattle.hints.specs.Machine as machine
+use Rattle.hints.specs.Machine.{turnOf, turn-phase, stopped, onward, walked, Advances, gone, broken, walks, wipes, idle}
+use Rattle.turns.specs.Check.{verdict, firstId, enteredAt, entered, stepped, TakesStep, over, takes}
 use Rattle.run.specs.Run.{World, Turn, looks, keeps, judges, reads}
 
 -- what is left: of a proof of P bytes and a step whose hints stand at h, by stages and by the offset in each

@@ -1,68 +1,38 @@
 // The loop that drives a check. It alone lends the directory: to look up the ids that the machine wants, to mark those dead
 // that are deleted, and to append the clauses that are kept.
-use crate::check::Check;
-use crate::check::begin;
-use crate::check::enter;
-use crate::check::judge;
-use crate::check::keep;
-use crate::check::next_step;
-use crate::check::row_of;
-use crate::machine::DELETE;
-use crate::machine::JUDGE;
-use crate::machine::KEEP;
-use crate::machine::Machine;
-use crate::machine::Phase;
-use crate::machine::READ;
-use crate::machine::advance;
-use crate::machine::stop;
-use crate::machine::turn_of;
+use hints::machine::DELETE;
+use hints::machine::JUDGE;
+use hints::machine::KEEP;
+use hints::machine::Machine;
+use hints::machine::Phase;
+use hints::machine::READ;
+use hints::machine::advance;
+use hints::machine::stop;
+use hints::machine::turn_of;
 use scope::CheckAnswer;
-use scope::Refusal;
 use store::directory::Row;
 use store::directory::append;
 use store::directory::find;
 use store::directory::mark_dead;
+use turns::check::answer;
+use turns::check::begin;
+use turns::check::enter;
+use turns::check::judge;
+use turns::check::keep;
+use turns::check::next_step;
+use turns::check::row_of;
 ghost use mathlib.Core.Path.{_≡_};
 ghost use lib.ListN.{length};
 ghost use Rattle.store.specs.Directory.{rowsOf};
-ghost use Rattle.run.specs.declared.machine.Phase.the-variants.{Next};
-ghost use Rattle.run.specs.Machine.{stopped};
-ghost use Rattle.run.specs.Run.{answerOf, Driven};
+ghost use Rattle.hints.specs.declared.machine.Phase.the-variants.{Next};
+ghost use Rattle.hints.specs.Machine.{stopped};
+ghost use Rattle.run.specs.Run.{Driven};
 
 // The machine before the first step.
 fn ready() -> Machine
     ensures { λ r. ⌜ r ≡ stopped Next 0 ⌝ }
 {
     stop(Phase::Next, 0)
-}
-
-// The answer of a check that has ended; one that has not is never asked.
-fn answer(c: Check, m: Machine) -> CheckAnswer
-    ensures { λ r. ⌜ r ≡ answerOf (c .tally .steps) (m .phase) ⌝ }
-{
-    let tally = c.tally;
-    let steps = tally.steps;
-    let unread = Refusal {
-        number: 14,
-        value: steps,
-    };
-    let phase = m.phase;
-    match phase {
-        Phase::Proved => CheckAnswer::NoTimetable(steps),
-        Phase::Refused(number) => {
-            let refusal = Refusal {
-                number,
-                value: steps,
-            };
-            CheckAnswer::Refused(refusal)
-        }
-        Phase::Next => CheckAnswer::Refused(unread),
-        Phase::Walk => CheckAnswer::Refused(unread),
-        Phase::Followed => CheckAnswer::Refused(unread),
-        Phase::Keep => CheckAnswer::Refused(unread),
-        Phase::Wipe => CheckAnswer::Refused(unread),
-        Phase::Delete => CheckAnswer::Refused(unread),
-    }
 }
 
 // The proof is judged, where the stores hold a formula of n clauses and used words: its clauses are the first n rows and have

@@ -1,6 +1,2 @@
-pub mod ReadingTurns
-pub mod Loops
-pub mod StepParts
-pub mod StepReading
-pub mod Readers
+mod StepParts
 pub mod StepBytes

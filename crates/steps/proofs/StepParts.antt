@@ -6,11 +6,13 @@ use lib.ListN.{getD}
 use borrow.Author.Tests.{eq-eqb, ne-eqb, le-leb, lt-leb}
 use Rattle.scope.specs.Parsed.{got, refused}
 use Rattle.scope.specs.Number.{number}
-use Rattle.steps.specs.declared.step.Numbers.the-variants.{End, Cut}
-use Rattle.steps.specs.declared.step.Literals.the-variants as literals
+use Rattle.passing.specs.declared.numbers.Numbers.the-variants.{End, Cut}
+use Rattle.spelling.specs.declared.literals.Literals.the-variants as literals
 use Rattle.steps.specs.declared.step.Read.{Read}
 use Rattle.steps.specs.declared.step.Read.the-variants.{Adds, Deletes, Misformed}
-use Rattle.steps.specs.Step.{passedAt, literalsAt, StepAt, stepIs, addAt, stepAt}
+use Rattle.passing.specs.Passed.{passedAt}
+use Rattle.spelling.specs.Spelt.{literalsAt}
+use Rattle.steps.specs.Step.{StepAt, stepIs, addAt, stepAt}
 
 pub both : {z : StepAt} {r : Read} {ms : List ℕ} → z ≡ stepIs r ms → (r ≡ z .read) × (ms ≡ z .marks)
 both e = (ap (λ z. z .read) (sym e), ap (λ z. z .marks) (sym e))

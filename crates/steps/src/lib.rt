@@ -1,3 +1,2 @@
-// The steps of a proof, as they stand in its bytes: a reader over the bytes, and steps that are read whole. specs/ says what is read.
-pub mod reader;
+// The steps of a proof, as they stand in its bytes: each is read whole. specs/ says what is read.
 pub mod step;

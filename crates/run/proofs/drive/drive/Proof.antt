@@ -62,73 +62,74 @@ use Rattle.store.proofs.directory.Row as R
 use Rattle.store.proofs.directory.Row.Laws as R′
 use Rattle.store.proofs.directory.Probe as P
 use Rattle.store.proofs.directory.Probe.Laws as P′
-use Rattle.run.specs.declared.machine.Machine.{Machine}
-use Rattle.run.specs.declared.machine.Phase.the-variants.{Next}
-use Rattle.run.specs.declared.check.Check.{Check}
-use Rattle.run.specs.Machine.{turnOf, stopped, advanced, advancedMarks, Advances, advances}
-use Rattle.run.specs.Check.{begun, judged, rowOf, keptAs, copiedAt, entered, stepTaken}
+use Rattle.hints.specs.declared.machine.Machine.{Machine}
+use Rattle.hints.specs.declared.machine.Phase.the-variants.{Next}
+use Rattle.turns.specs.declared.check.Check.{Check}
+use Rattle.hints.specs.Machine.{turnOf, stopped, advanced, advancedMarks, Advances, advances}
+use Rattle.turns.specs.Check.{begun, judged, rowOf, keptAs, entered, stepTaken, answerOf}
+use Rattle.copying.specs.Copies.{copiedAt}
 use Rattle.run.proofs.Taking.{takes-step}
-use Rattle.run.proofs.Copying.{copies-at}
-use Rattle.run.specs.Run.{answerOf, World, world, ready as at-start, Ran, none as no-turn, more, Turn, looks, keeps, judges, reads, Driven}
+use Rattle.reading.specs.Copying.{copies-at}
+use Rattle.run.specs.Run.{World, world, ready as at-start, Ran, none as no-turn, more, Turn, looks, keeps, judges, reads, Driven}
 use Rattle.run.specs.Termination.{left, Past, Falls, turn-falls}
-use Rattle.run.proofs.machine.Machine as N
-use Rattle.run.proofs.machine.Machine.Laws as N′
-use Rattle.run.proofs.check.Check as K
-use Rattle.run.proofs.check.Check.Laws as K′
-use Rattle.run.proofs.check.Tally as Y
-use Rattle.run.proofs.check.Tally.Laws as Y′
-use Rattle.run.proofs.check.begin as begin
-use Rattle.run.proofs.check.begin.Symbol as begin-def
-use Rattle.run.proofs.check.begin.Symbol.{name as #begin}
-use Rattle.run.proofs.check.begin.Met as begin-thm
+use Rattle.hints.proofs.machine.Machine as N
+use Rattle.hints.proofs.machine.Machine.Laws as N′
+use Rattle.turns.proofs.check.Check as K
+use Rattle.turns.proofs.check.Check.Laws as K′
+use Rattle.turns.proofs.check.Tally as Y
+use Rattle.turns.proofs.check.Tally.Laws as Y′
+use Rattle.turns.proofs.check.begin as begin
+use Rattle.turns.proofs.check.begin.Symbol as begin-def
+use Rattle.turns.proofs.check.begin.Symbol.{name as #begin}
+use Rattle.turns.proofs.check.begin.Met as begin-thm
 use Rattle.run.proofs.drive.ready as ready
 use Rattle.run.proofs.drive.ready.Symbol as ready-def
 use Rattle.run.proofs.drive.ready.Symbol.{name as #ready}
 use Rattle.run.proofs.drive.ready.Met as ready-thm
-use Rattle.run.proofs.machine.turn_of as turn-of
-use Rattle.run.proofs.machine.turn_of.Symbol as turn-of-def
-use Rattle.run.proofs.machine.turn_of.Symbol.{name as #turn-of}
-use Rattle.run.proofs.machine.turn_of.Met as turn-of-thm
+use Rattle.hints.proofs.machine.turn_of as turn-of
+use Rattle.hints.proofs.machine.turn_of.Symbol as turn-of-def
+use Rattle.hints.proofs.machine.turn_of.Symbol.{name as #turn-of}
+use Rattle.hints.proofs.machine.turn_of.Met as turn-of-thm
 use Rattle.store.proofs.directory.find as find
 use Rattle.store.proofs.directory.find.Symbol as find-def
 use Rattle.store.proofs.directory.find.Symbol.{name as #find}
 use Rattle.store.proofs.directory.find.Met as find-thm
-use Rattle.run.proofs.machine.advance as advance
-use Rattle.run.proofs.machine.advance.Symbol as advance-def
-use Rattle.run.proofs.machine.advance.Symbol.{name as #advance}
-use Rattle.run.proofs.machine.advance.Met as advance-thm
+use Rattle.hints.proofs.machine.advance as advance
+use Rattle.hints.proofs.machine.advance.Symbol as advance-def
+use Rattle.hints.proofs.machine.advance.Symbol.{name as #advance}
+use Rattle.hints.proofs.machine.advance.Met as advance-thm
 use Rattle.store.proofs.directory.mark_dead as mark-dead
 use Rattle.store.proofs.directory.mark_dead.Symbol as mark-dead-def
 use Rattle.store.proofs.directory.mark_dead.Symbol.{name as #mark-dead}
 use Rattle.store.proofs.directory.mark_dead.Met as mark-dead-thm
-use Rattle.run.proofs.check.row_of as row-of
-use Rattle.run.proofs.check.row_of.Symbol as row-of-def
-use Rattle.run.proofs.check.row_of.Symbol.{name as #row-of}
-use Rattle.run.proofs.check.row_of.Met as row-of-thm
+use Rattle.turns.proofs.check.row_of as row-of
+use Rattle.turns.proofs.check.row_of.Symbol as row-of-def
+use Rattle.turns.proofs.check.row_of.Symbol.{name as #row-of}
+use Rattle.turns.proofs.check.row_of.Met as row-of-thm
 use Rattle.store.proofs.directory.append as append
 use Rattle.store.proofs.directory.append.Symbol as append-def
 use Rattle.store.proofs.directory.append.Symbol.{name as #append}
 use Rattle.store.proofs.directory.append.Met as append-thm
-use Rattle.run.proofs.check.keep as keep
-use Rattle.run.proofs.check.keep.Symbol as keep-def
-use Rattle.run.proofs.check.keep.Symbol.{name as #keep}
-use Rattle.run.proofs.check.keep.Met as keep-thm
-use Rattle.run.proofs.check.enter as enter
-use Rattle.run.proofs.check.enter.Symbol as enter-def
-use Rattle.run.proofs.check.enter.Symbol.{name as #enter}
-use Rattle.run.proofs.check.enter.Met as enter-thm
-use Rattle.run.proofs.check.judge as judge
-use Rattle.run.proofs.check.judge.Symbol as judge-def
-use Rattle.run.proofs.check.judge.Symbol.{name as #judge}
-use Rattle.run.proofs.check.judge.Met as judge-thm
-use Rattle.run.proofs.check.next_step as next-step
-use Rattle.run.proofs.check.next_step.Symbol as next-step-def
-use Rattle.run.proofs.check.next_step.Symbol.{name as #next-step}
-use Rattle.run.proofs.check.next_step.Met as next-step-thm
-use Rattle.run.proofs.drive.answer as answer
-use Rattle.run.proofs.drive.answer.Symbol as answer-def
-use Rattle.run.proofs.drive.answer.Symbol.{name as #answer}
-use Rattle.run.proofs.drive.answer.Met as answer-thm
+use Rattle.turns.proofs.check.keep as keep
+use Rattle.turns.proofs.check.keep.Symbol as keep-def
+use Rattle.turns.proofs.check.keep.Symbol.{name as #keep}
+use Rattle.turns.proofs.check.keep.Met as keep-thm
+use Rattle.turns.proofs.check.enter as enter
+use Rattle.turns.proofs.check.enter.Symbol as enter-def
+use Rattle.turns.proofs.check.enter.Symbol.{name as #enter}
+use Rattle.turns.proofs.check.enter.Met as enter-thm
+use Rattle.turns.proofs.check.judge as judge
+use Rattle.turns.proofs.check.judge.Symbol as judge-def
+use Rattle.turns.proofs.check.judge.Symbol.{name as #judge}
+use Rattle.turns.proofs.check.judge.Met as judge-thm
+use Rattle.turns.proofs.check.next_step as next-step
+use Rattle.turns.proofs.check.next_step.Symbol as next-step-def
+use Rattle.turns.proofs.check.next_step.Symbol.{name as #next-step}
+use Rattle.turns.proofs.check.next_step.Met as next-step-thm
+use Rattle.turns.proofs.check.answer as answer
+use Rattle.turns.proofs.check.answer.Symbol as answer-def
+use Rattle.turns.proofs.check.answer.Symbol.{name as #answer}
+use Rattle.turns.proofs.check.answer.Met as answer-thm
 use Rattle.run.proofs.drive.drive.Key.{name as #drive}
 use Rattle.run.proofs.drive.drive as f
 use Rattle.run.proofs.drive.drive.Statement as stated
@@ -781,17 +782,17 @@ drive-spec 𝓤 H 𝓜 𝓖 𝓡 =
     (tables 𝓤 H 𝓜 𝓡 code.env .C) (tables 𝓤 H 𝓜 𝓡 code.env .Λ) #drive code.function (code.unfolded 𝓤 H 𝓜 𝓡)
     (meets 𝓤 H (𝓖 .A) (givenOf 𝓤 H 𝓜 𝓖) (𝓜 .mem) (𝓡 .run) (tablesOf 𝓤 H 𝓜 (tables 𝓤 H 𝓜 𝓡 code.env))
     (record {
-      begin = cited 𝓤 H (begin-to 𝓤 H (𝓖 .A) (𝓜 .mem) (𝓡 .run)) 𝓜 𝓡 code.env #begin begin-def.routine code.calls-run·check·begin (begin-thm.met 𝓤 H 𝓜 𝓖 𝓡);
+      begin = cited 𝓤 H (begin-to 𝓤 H (𝓖 .A) (𝓜 .mem) (𝓡 .run)) 𝓜 𝓡 code.env #begin begin-def.routine code.calls-turns·check·begin (begin-thm.met 𝓤 H 𝓜 𝓖 𝓡);
       ready = cited 𝓤 H (ready-to 𝓤 H (𝓖 .A) (𝓜 .mem) (𝓡 .run)) 𝓜 𝓡 code.env #ready ready-def.routine code.calls-run·drive·ready (ready-thm.met 𝓤 H 𝓜 𝓖 𝓡);
-      turn-of = cited 𝓤 H (turn-of-to 𝓤 H (𝓖 .A) (𝓜 .mem) (𝓡 .run)) 𝓜 𝓡 code.env #turn-of turn-of-def.routine code.calls-run·machine·turn-of (turn-of-thm.met 𝓤 H 𝓜 𝓖 𝓡);
+      turn-of = cited 𝓤 H (turn-of-to 𝓤 H (𝓖 .A) (𝓜 .mem) (𝓡 .run)) 𝓜 𝓡 code.env #turn-of turn-of-def.routine code.calls-hints·machine·turn-of (turn-of-thm.met 𝓤 H 𝓜 𝓖 𝓡);
       find = cited 𝓤 H (find-to 𝓤 H (𝓖 .A) (𝓜 .mem) (𝓡 .run)) 𝓜 𝓡 code.env #find find-def.routine code.calls-store·directory·find (find-thm.met 𝓤 H 𝓜 𝓖 𝓡);
-      advance = cited 𝓤 H (advance-to 𝓤 H (𝓖 .A) (𝓜 .mem) (𝓡 .run)) 𝓜 𝓡 code.env #advance advance-def.routine code.calls-run·machine·advance (advance-thm.met 𝓤 H 𝓜 𝓖 𝓡);
+      advance = cited 𝓤 H (advance-to 𝓤 H (𝓖 .A) (𝓜 .mem) (𝓡 .run)) 𝓜 𝓡 code.env #advance advance-def.routine code.calls-hints·machine·advance (advance-thm.met 𝓤 H 𝓜 𝓖 𝓡);
       mark-dead = cited 𝓤 H (mark-dead-to 𝓤 H (𝓖 .A) (𝓜 .mem) (𝓡 .run)) 𝓜 𝓡 code.env #mark-dead mark-dead-def.routine code.calls-store·directory·mark-dead (mark-dead-thm.met 𝓤 H 𝓜 𝓖 𝓡);
-      row-of = cited 𝓤 H (row-of-to 𝓤 H (𝓖 .A) (𝓜 .mem) (𝓡 .run)) 𝓜 𝓡 code.env #row-of row-of-def.routine code.calls-run·check·row-of (row-of-thm.met 𝓤 H 𝓜 𝓖 𝓡);
+      row-of = cited 𝓤 H (row-of-to 𝓤 H (𝓖 .A) (𝓜 .mem) (𝓡 .run)) 𝓜 𝓡 code.env #row-of row-of-def.routine code.calls-turns·check·row-of (row-of-thm.met 𝓤 H 𝓜 𝓖 𝓡);
       append = cited 𝓤 H (append-to 𝓤 H (𝓖 .A) (𝓜 .mem) (𝓡 .run)) 𝓜 𝓡 code.env #append append-def.routine code.calls-store·directory·append (append-thm.met 𝓤 H 𝓜 𝓖 𝓡);
-      keep = cited 𝓤 H (keep-to 𝓤 H (𝓖 .A) (𝓜 .mem) (𝓡 .run)) 𝓜 𝓡 code.env #keep keep-def.routine code.calls-run·check·keep (keep-thm.met 𝓤 H 𝓜 𝓖 𝓡);
-      enter = cited 𝓤 H (enter-to 𝓤 H (𝓖 .A) (𝓜 .mem) (𝓡 .run)) 𝓜 𝓡 code.env #enter enter-def.routine code.calls-run·check·enter (enter-thm.met 𝓤 H 𝓜 𝓖 𝓡);
-      judge = cited 𝓤 H (judge-to 𝓤 H (𝓖 .A) (𝓜 .mem) (𝓡 .run)) 𝓜 𝓡 code.env #judge judge-def.routine code.calls-run·check·judge (judge-thm.met 𝓤 H 𝓜 𝓖 𝓡);
-      next-step = cited 𝓤 H (next-step-to 𝓤 H (𝓖 .A) (𝓜 .mem) (𝓡 .run)) 𝓜 𝓡 code.env #next-step next-step-def.routine code.calls-run·check·next-step (next-step-thm.met 𝓤 H 𝓜 𝓖 𝓡);
-      answer = cited 𝓤 H (answer-to 𝓤 H (𝓖 .A) (𝓜 .mem) (𝓡 .run)) 𝓜 𝓡 code.env #answer answer-def.routine code.calls-run·drive·answer (answer-thm.met 𝓤 H 𝓜 𝓖 𝓡);
+      keep = cited 𝓤 H (keep-to 𝓤 H (𝓖 .A) (𝓜 .mem) (𝓡 .run)) 𝓜 𝓡 code.env #keep keep-def.routine code.calls-turns·check·keep (keep-thm.met 𝓤 H 𝓜 𝓖 𝓡);
+      enter = cited 𝓤 H (enter-to 𝓤 H (𝓖 .A) (𝓜 .mem) (𝓡 .run)) 𝓜 𝓡 code.env #enter enter-def.routine code.calls-turns·check·enter (enter-thm.met 𝓤 H 𝓜 𝓖 𝓡);
+      judge = cited 𝓤 H (judge-to 𝓤 H (𝓖 .A) (𝓜 .mem) (𝓡 .run)) 𝓜 𝓡 code.env #judge judge-def.routine code.calls-turns·check·judge (judge-thm.met 𝓤 H 𝓜 𝓖 𝓡);
+      next-step = cited 𝓤 H (next-step-to 𝓤 H (𝓖 .A) (𝓜 .mem) (𝓡 .run)) 𝓜 𝓡 code.env #next-step next-step-def.routine code.calls-turns·check·next-step (next-step-thm.met 𝓤 H 𝓜 𝓖 𝓡);
+      answer = cited 𝓤 H (answer-to 𝓤 H (𝓖 .A) (𝓜 .mem) (𝓡 .run)) 𝓜 𝓡 code.env #answer answer-def.routine code.calls-turns·check·answer (answer-thm.met 𝓤 H 𝓜 𝓖 𝓡);
     }))

@@ -1,7 +1,7 @@
 use mathlib.Core.Path.{_≡_, sym, _∙_}
 use Rattle.scope.specs.Parsed.{got}
 use Rattle.scope.specs.Number.{number}
-use Rattle.steps.specs.Listing.{value-at, no-value-at}
+use Rattle.reader.proofs.NumberTold.{value-at, no-value-at}
 use Rattle.steps.proofs.StepParts.{both, add-none, add-low, add-misformed, add-cut, add-done}
 use borrow.Author.Needs.{needs}
 use Rattle.steps.proofs.step.read_add.Statement.{statement}

@@ -1,0 +1,148 @@
+// The machine that judges a proof, id by id. It never sees the directory: it names the id that it wants, and is handed the
+// row that was found. The next number of the proof is read at one place.
+use number::Number;
+use reader::number_in;
+use reader::wide;
+use scope::refusals::BAD_HINT;
+use scope::refusals::BAD_STEP;
+use scope::refusals::NOT_LIVE;
+use store::clauses::Standing;
+use store::clauses::standing_of;
+use store::clauses::wipe_clause;
+use store::directory::Row;
+use store::marks::put_mark;
+ghost use mathlib.Core.Path.{_≡_};
+ghost use Rattle.theory.specs.Marked.{standing, falsified};
+ghost use Rattle.store.specs.Marks.{marksOf};
+ghost use Rattle.store.specs.Live.{rowClause};
+ghost use Rattle.hints.specs.Machine.{turnOf, stopped, onward, walked, walkedMarks, advanced, advancedMarks};
+
+// What is to be done next.
+pub enum Phase {
+    // A step is to be read.
+    Next,
+    // A hint is wanted: the clause that it names is to be judged.
+    Walk,
+    // The clause of the step follows by its hints.
+    Followed,
+    // It fits, and is to be stored.
+    Keep,
+    // An id is wanted: the variables of the clause that it names are to be opened again.
+    Wipe,
+    // An id is wanted: the clause that it names is to be deleted.
+    Delete,
+    // The empty clause was added, and nothing follows.
+    Proved,
+    // A refusal, with its number.
+    Refused(u8),
+}
+
+// The turns of a check: a clause is looked at; one is deleted; one is kept; one is judged; a step is read; none is left.
+pub const LOOK: u8 = 0;
+
+pub const DELETE: u8 = 1;
+
+pub const KEEP: u8 = 2;
+
+pub const JUDGE: u8 = 3;
+
+pub const READ: u8 = 4;
+
+pub const END: u8 = 5;
+
+// A phase, where the next number of the proof stands, and the id that is wanted.
+pub struct Machine {
+    pub phase: Phase,
+    pub at: usize,
+    pub want: usize,
+}
+
+// The turn that a machine waits for.
+pub fn turn_of(m: Machine) -> u8
+    ensures { λ r. ⌜ r ≡ turnOf (m .phase) ⌝ }
+{
+    let phase = m.phase;
+    match phase {
+        Phase::Walk => LOOK,
+        Phase::Wipe => LOOK,
+        Phase::Delete => DELETE,
+        Phase::Keep => KEEP,
+        Phase::Followed => JUDGE,
+        Phase::Next => READ,
+        Phase::Proved => END,
+        Phase::Refused(_) => END,
+    }
+}
+
+// No id is wanted.
+pub fn stop(phase: Phase, at: usize) -> Machine
+    ensures { λ r. ⌜ r ≡ stopped phase at ⌝ }
+{
+    Machine { phase, at, want: 0 }
+}
+
+// An id was read, before the offset next: it is wanted, or a 0 ends the ids.
+pub fn step_on(phase: Phase, over: Phase, id: u32, next: usize) -> Machine
+    ensures { λ r. ⌜ r ≡ onward phase over id next ⌝ }
+{
+    if id == 0 {
+        return stop(over, next);
+    }
+    Machine {
+        phase,
+        at: next,
+        want: wide(id),
+    }
+}
+
+// A hint's clause has exactly one open literal, which is then set true; or all its literals are false, and it is the last hint.
+fn take_hint(row: Row, id: u32, next: usize, words: &[u32], marks: &mut [u8]) -> Machine
+    ensures { λ r. ⌜ r ≡ walked (standing (marksOf (now (marks .entry))) falsified (rowClause row (now (words .entry)))) id next ⌝ }
+    ensures { λ r. ⌜ now (marks .exit) ≡ walkedMarks (standing (marksOf (now (marks .entry))) falsified (rowClause row (now (words .entry)))) (now (marks .entry)) ⌝ }
+{
+    let s = standing_of(marks, words, row.first, row.len);
+    match s {
+        Standing::Falsified => {
+            if id == 0 {
+                return stop(Phase::Followed, next);
+            }
+            stop(Phase::Refused(BAD_HINT), next)
+        }
+        Standing::OneOpen(l) => {
+            let v = wide(l / 2);
+            let mark = (1 + l % 2) as u8;
+            put_mark(marks, v, mark);
+            step_on(Phase::Walk, Phase::Refused(BAD_HINT), id, next)
+        }
+        Standing::Other => stop(Phase::Refused(BAD_HINT), next),
+    }
+}
+
+// One turn with the row of the id that was wanted.
+pub fn advance(m: Machine, row: Row, proof: &[u8], words: &[u32], marks: &mut [u8]) -> Machine
+    ensures { λ r. ⌜ r ≡ advanced (now (proof .entry)) m row (now (words .entry)) (now (marks .entry)) ⌝ }
+    ensures { λ _. ⌜ now (marks .exit) ≡ advancedMarks (now (proof .entry)) m row (now (words .entry)) (now (marks .entry)) ⌝ }
+{
+    let at = m.at;
+    if row.live == 0 {
+        return stop(Phase::Refused(NOT_LIVE), at);
+    }
+    let t = number_in(proof, at);
+    let Number::Value(id, next) = t else {
+        return stop(Phase::Refused(BAD_STEP), at);
+    };
+    let phase = m.phase;
+    match phase {
+        Phase::Walk => take_hint(row, id, next, words, marks),
+        Phase::Wipe => {
+            wipe_clause(marks, words, row.first, row.len);
+            step_on(Phase::Wipe, Phase::Next, id, next)
+        }
+        Phase::Delete => step_on(Phase::Delete, Phase::Next, id, next),
+        Phase::Next => m,
+        Phase::Followed => m,
+        Phase::Keep => m,
+        Phase::Proved => m,
+        Phase::Refused(_) => m,
+    }
+}

@@ -1,0 +1,6 @@
+pub mod Reading
+pub mod Listing
+pub mod ReadingTurns
+pub mod ReadingLoops
+pub mod StepReading
+pub mod Copying
