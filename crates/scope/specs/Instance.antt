@@ -84,11 +84,14 @@ module _ (n : Counts) (s : List ℕ) (at : ℕ) where
 
 -- the checks at a constraint's end, with the offset of its kind: 4 for a counted list longer than 255,
 -- 5 for lo above hi as written or above the list's length
-unfoldable pub ended : ℕ → Counted → ℕ → Kind → ℕ → Parsed Constraint
-ended at c weight k end =
-    unless (leb (longest (c .lists)) 255) 4 at
-    (unless (leb (c .lo) (c .hi)) 5 at
-    (unless (leb (c .lo) (longest (c .lists))) 5 at (got (record { weight = weight; kind = k }) end)))
+unfoldable pub ended : (at lo hi n weight : ℕ) → Kind → ℕ → Parsed Constraint
+ended at lo hi n weight k end =
+    unless (leb n 255) 4 at
+    (unless (leb lo hi) 5 at (unless (leb lo n) 5 at (got (record { weight = weight; kind = k }) end)))
+
+-- the same, by what a kind counts
+abbrev pub endedAs : ℕ → Counted → ℕ → Kind → ℕ → Parsed Constraint
+endedAs at c weight k end = ended at (c .lo) (c .hi) (longest (c .lists)) weight k end
 
 -- a constraint: kind 1..8, weight 0..1,000, its fields
 unfoldable pub constraintAt : ℕ → ℕ → List Event → List (List ℕ) → List ℕ → ℕ → Parsed Constraint
@@ -97,7 +100,7 @@ constraintAt T R es gs s at =
     (λ kind next.
     andThen (limited 0 1000 s next)
     (λ weight more.
-    andThen (fieldsAt (countsOf T R es gs) s more kind) (λ k end. ended at (countedOf T (λ r. users r es) (groupAt gs) k) weight k end)))
+    andThen (fieldsAt (countsOf T R es gs) s more kind) (λ k end. endedAs at (countedOf T (λ r. users r es) (groupAt gs) k) weight k end)))
 
 -- times 1..125, events 1..1,024, resources 0..99
 unfoldable pub sizesAt : List ℕ → Parsed (ℕ × ℕ × ℕ)
