@@ -4,3 +4,5 @@ pub mod Atoms
 pub mod Plain
 pub mod Cluster
 pub mod Idle
+pub mod Fillable
+pub mod BoundsFor
