@@ -4,25 +4,18 @@ use mathlib.Core.List.{List}
 use Rattle.scope.specs.Parsed.{Parsed, got}
 use Rattle.scope.specs.Instance.{Counts}
 use Rattle.scope.specs.Kinds as kinds
-use Rattle.scope.specs.declared.Refusal.{Refusal}
 use Rattle.number.specs.declared.Number.{Number}
 use Rattle.number.specs.Answers.{refusedBy}
 use Rattle.number.specs.Lists.{leading}
 use Rattle.constraint.specs.declared.kinds.Kind.{Kind}
 use Rattle.constraint.specs.declared.kinds.Constraint.{Constraint}
 use Rattle.constraint.specs.declared.kinds.Head.{Head}
-use Rattle.constraint.specs.declared.fields.Pair.{Pair}
-use Rattle.constraint.specs.declared.fields.Fields.{Fields}
 use Rattle.constraint.specs.declared.kinds.Next.{Next}
 
 -- a list whose length the answer has
 abbrev pub saidList : List ℕ → Number → Parsed (List ℕ)
 saidList l (Number.Value n next) = got (leading n l) next
 saidList l (Number.Refused f) = refusedBy f
-
-abbrev pub saidPair : Pair → Parsed (ℕ × ℕ)
-saidPair (Pair.Value a b next) = got (a, b) next
-saidPair (Pair.Refused f) = refusedBy f
 
 -- a kind with its fields
 abbrev pub kindOf : List ℕ → Kind → kinds.Kind
@@ -35,10 +28,6 @@ kindOf l (Kind.Busy f) = kinds.busy (f .resource) (f .group) (f .lo) (f .hi)
 kindOf l (Kind.Cluster f) = kinds.cluster (f .resource) (leading (f .groups) l) (f .lo) (f .hi)
 kindOf l (Kind.Idle f) = kinds.idle (f .resource) (leading (f .groups) l) (f .lo) (f .hi)
 
-abbrev pub saidFields : List ℕ → Fields → Parsed kinds.Kind
-saidFields l (Fields.Read k next) = got (kindOf l k) next
-saidFields l (Fields.Refused f) = refusedBy f
-
 abbrev pub constraintOf : List ℕ → Constraint → kinds.Constraint
 constraintOf l c = record { weight = c .weight; kind = kindOf l (c .kind) }
 
@@ -49,12 +38,3 @@ saidNext l (Next.Refused f) = refusedBy f
 -- how many things there are to refer to
 abbrev pub countsIn : Head → Counts
 countsIn h = record { times = h .times; events = h .events; resources = h .resources; groups = h .groups }
-
--- the refusal that an answer holds; of a value, none
-abbrev pub refusalOfPair : Pair → Refusal
-refusalOfPair (Pair.Value a b next) = record { number = 0; value = 0 }
-refusalOfPair (Pair.Refused f) = f
-
-abbrev pub refusalOfFields : Fields → Refusal
-refusalOfFields (Fields.Read k next) = record { number = 0; value = 0 }
-refusalOfFields (Fields.Refused f) = f

@@ -5,7 +5,7 @@ use mathlib.Core.List.{List}
 use Rattle.scope.specs.Parsed.{Parsed, got, refused, andThen}
 use Rattle.scope.specs.Number.{limited}
 use Rattle.scope.specs.Kinds.{Kind, Constraint, Event, users, groupAt, countedOf, longest}
-use Rattle.scope.specs.Instance.{Counts, countsOf, fieldsAt, ended, endedAs, constraintAt}
+use Rattle.scope.specs.Instance.{Counts, countsOf, fieldsRead, fieldsOf, ended, endedAs, constraintAt}
 use Rattle.constraint.specs.Bounds.{lowOf, highOf, bounds-right}
 
 unfoldable pub decodedAt : Counts → List ℕ → ℕ → Parsed Constraint
@@ -13,7 +13,7 @@ decodedAt n s at =
     andThen (limited 1 8 s at)
     (λ kind next.
     andThen (limited 0 1000 s next)
-    (λ weight more. andThen (fieldsAt n s more kind) (λ k end. got (record { weight = weight; kind = k }) end)))
+    (λ weight more. andThen (fieldsRead (fieldsOf n kind) s more) (λ k end. got (record { weight = weight; kind = k }) end)))
 
 -- the checks at the end of a constraint whose kind stands at an offset and whose counted list is as long as len says
 abbrev pub endedBy : (Kind → ℕ) → ℕ → Constraint → ℕ → Parsed Constraint
@@ -61,7 +61,7 @@ constraint-checked T R es gs s at = parts ∙ by (decodedAt (countsOf T R es gs)
     endedIn c end = endedAs at (countedOf T (λ r. users r es) (groupAt gs) (c .kind)) (c .weight) (c .kind) end
 
     parts : constraintAt T R es gs s at ≡ andThen (decodedAt (countsOf T R es gs) s at) endedIn
-    parts = kind-checked (limited 1 8 s at) (limited 0 1000 s) (λ kind more. fieldsAt (countsOf T R es gs) s more kind) endedIn
+    parts = kind-checked (limited 1 8 s at) (limited 0 1000 s) (λ kind more. fieldsRead (fieldsOf (countsOf T R es gs) kind) s more) endedIn
 
     by : (p : Parsed Constraint) → andThen p endedIn ≡ andThen p (endedBy (longestOf T es gs) at)
     by (got c end) = let b = bounds-right T (λ r. users r es) (groupAt gs) (c .kind) in rw (b .lo, b .hi)

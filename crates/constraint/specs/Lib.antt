@@ -1,6 +1,9 @@
 pub mod Answers
 pub mod Bounds
 pub mod Decoded
+pub mod Flat
 pub mod Ladder
+pub mod Left
+pub mod Table
 pub mod Valid
 pub mod Walk

@@ -1,9 +1,11 @@
 // The constraints of an instance. They stay in the file, and are decoded one at a time into a kind with its fields.
 mod bounds;
-mod fields;
+mod field;
+mod flat;
 mod kinds;
 mod list;
 mod next;
+mod table;
 
 pub use bounds::Bounds;
 pub use bounds::bounds_of;

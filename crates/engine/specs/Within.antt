@@ -1,15 +1,15 @@
 -- Which numbers the refusals of an operation have, place by place.
 use Prim.Native.Nat.{ℕ, zero, suc, _*_}
 use mathlib.Core.Path.{_≡_}
-use mathlib.Core.Bool.{Bool, true, false, cond, _||_}
+use mathlib.Core.Bool.{Bool, true, false, _||_}
 use mathlib.Core.List.{List, [], _∷_}
 use mathlib.Core.Option.{Option, none, some}
 use lib.Dec.{eqb, leb, ltb}
 use lib.ListN.{length, drop}
 use Rattle.scope.specs.Parsed.{Parsed, got, refused, Answer, answered, refusal, andThen, unless, cons, repeat, with, provided}
 use Rattle.scope.specs.Number.{Front, broken, whole, within, front, numberFrom, number, limited, reference, references, listed}
-use Rattle.scope.specs.Kinds.{Event, Kind, cluster, idle, longest, users, groupAt, Counted, countedOf}
-use Rattle.scope.specs.Instance.{Counts, countsOf, Instance, eventAt, pairAt, boundsAt, clashAt, unavailableAt, preferredAt, splitAt, spreadAt, busyAt, overGroupsAt, fieldsAt, ended, constraintAt, sizesAt, groupsAt, constraintsAt, parse}
+use Rattle.scope.specs.Kinds.{Event, Kind, longest, users, groupAt, Counted, countedOf}
+use Rattle.scope.specs.Instance.{countsOf, Instance, eventAt, Fields, aReference, aList, aNumber, theKind, fieldsRead, fieldsOf, ended, constraintAt, sizesAt, groupsAt, constraintsAt, parse}
 use Rattle.scope.specs.Score.{cells, truth, firstWrong, firstAbove, unlessFound, ofTimetable}
 
 -- one of some numbers
@@ -46,10 +46,6 @@ module _ {ns : List ℕ} where
   unfolding repeat
   repeated zero f at h = reads
   repeated (suc n) f at h = after (h at) (λ a next. joined a (repeated n f next h))
-
-  chosen : {A : Type 0} (b : Bool) {p q : Parsed A} → Reads ns p → Reads ns q → Reads ns (cond b p q)
-  chosen true h k = h
-  chosen false h k = k
 
 -- the reader gives 1 to 6
 pub record Reader (ns : List ℕ) : Type 0 where
@@ -94,34 +90,12 @@ module _ {ns : List ℕ} (r : Reader ns) where
     unfolding eventAt
     an-event T R at = after (a-limit s at 1 T) (λ d next. after (a-list R next) (λ rs end. reads))
 
-    a-pair : (n m at : ℕ) → Reads ns (pairAt n m s at)
-    unfolding pairAt
-    a-pair n m at = after (a-reference s at 0 n) (λ a next. after (a-reference s next 0 m) (λ b end. reads))
-
-    the-bounds : (at : ℕ) → Reads ns (boundsAt s at)
-    unfolding boundsAt
-    the-bounds at = after (a-limit s at 0 255) (λ lo next. after (a-limit s next 0 255) (λ hi end. reads))
-
-    over-groups : (n : Counts) (at : ℕ) (kind : ℕ → List ℕ → ℕ → ℕ → Kind) → Reads ns (overGroupsAt n s at kind)
-    unfolding overGroupsAt
-    over-groups n at kind =
-        after (a-reference s at 0 (n .resources))
-        (λ a next. after (a-list (n .groups) next) (λ hs more. after (the-bounds more) (λ b end. reads)))
-
-    the-fields : (n : Counts) (at k : ℕ) → Reads ns (fieldsAt n s at k)
-    unfolding fieldsAt clashAt unavailableAt preferredAt splitAt spreadAt busyAt
-    the-fields n at k =
-        chosen (eqb k 1) (after (a-reference s at 0 (n .resources)) (λ a end. reads))
-        (chosen (eqb k 2) (after (a-pair (n .resources) (n .groups) at) (λ p end. reads))
-        (chosen (eqb k 3) (after (a-pair (n .events) (n .groups) at) (λ p end. reads))
-        (chosen (eqb k 4)
-        (after (a-reference s at 0 (n .events)) (λ a next. after (the-bounds next) (λ b end. reads)))
-        (chosen (eqb k 5)
-        (after (a-list (n .events) at)
-        (λ vs next. after (a-reference s next 0 (n .groups)) (λ g more. after (the-bounds more) (λ b end. reads))))
-        (chosen (eqb k 6)
-        (after (a-pair (n .resources) (n .groups) at) (λ p next. after (the-bounds next) (λ b end. reads)))
-        (chosen (eqb k 7) (over-groups n at cluster) (over-groups n at idle)))))))
+    the-fields : (f : Fields) (at : ℕ) → Reads ns (fieldsRead f s at)
+    unfolding fieldsRead
+    the-fields (aReference n f) at = after (a-reference s at 0 n) (λ v next. the-fields (f v) next)
+    the-fields (aList n f) at = after (a-list n at) (λ vs next. the-fields (f vs) next)
+    the-fields (aNumber lo hi f) at = after (a-limit s at lo hi) (λ v next. the-fields (f v) next)
+    the-fields (theKind k) at = reads
 
     an-end : (at lo hi n weight : ℕ) (k : Kind) (end : ℕ) → Reads ns (ended at lo hi n weight k end)
     unfolding ended
@@ -137,7 +111,7 @@ module _ {ns : List ℕ} (r : Reader ns) where
           (λ kind next.
           after (a-limit s next 0 1000)
           (λ weight more.
-          after (the-fields (countsOf T R es gs) more kind) (λ k end.
+          after (the-fields (fieldsOf (countsOf T R es gs) kind) more) (λ k end.
           let c : Counted = countedOf T (λ r. users r es) (groupAt gs) k in
           an-end at (c .lo) (c .hi) (longest (c .lists)) weight k end)))
 

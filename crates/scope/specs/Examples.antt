@@ -9,7 +9,7 @@ use lib.Dec.{eqb, ltb}
 use Rattle.scope.specs.Parsed.{Parsed, got, refused, Answer, answered, refusal, repeat}
 use Rattle.scope.specs.Number.{group, front, within, number, limited, reference, references, listed}
 use Rattle.scope.specs.Kinds.{Atom, Y, S, X, Rule, rule, Listed, atom, entriesNodes, entriesMembers, entries, spread, limit, upTo, usesAt, from, member, usersFrom, outside, groupAt, gapsAfter, gaps, countedOf, rulesOf, longest}
-use Rattle.scope.specs.Instance.{eventAt, pairAt, boundsAt, clashAt, unavailableAt, preferredAt, splitAt, spreadAt, busyAt, overGroupsAt, fieldsAt, ended, constraintAt, sizesAt, groupsAt, constraintsAt, parse}
+use Rattle.scope.specs.Instance.{eventAt, fieldsRead, fieldsTable, ended, constraintAt, sizesAt, groupsAt, constraintsAt, parse}
 use Rattle.scope.specs.Cnf.{Item, gate, byte, bit, lit, clause, clauses, cube, hasTrue, withoutFalse, tidy, pairs, gateClauses, value, hardClauses, outputs, softUnits, falsified}
 use Rattle.scope.specs.Score.{trues, any, all, deviation, charged, valuesAfter, count, deviations, truth, eventRight, firstWrong, infeasibilityOf, objectiveOf, firstAbove}
 use Rattle.scope.specs.Formula.{noRow, ones, row, counter, lastRow, lowUnits, highUnits, shortUnits, boundItems, countInto, ruleItems, rulesItems, starts, uses, durationRules, constraintRules, formula, variables, hardOf, softOf, tail, bounded, boundedVariables, boundedHard, words}
@@ -206,5 +206,5 @@ cases =
 
 -- the definitions compute what the paper says
 pub examples : map (λ c. c .computed) cases ≡ map (λ c. c .expected) cases
-unfolding repeat group front within number limited reference references listed from member usersFrom outside gapsAfter gaps entriesNodes entriesMembers countedOf longest eventAt pairAt boundsAt clashAt unavailableAt preferredAt splitAt spreadAt busyAt overGroupsAt fieldsAt ended constraintAt sizesAt groupsAt constraintsAt parse bit lit clause clauses cube hasTrue withoutFalse tidy pairs gateClauses value hardClauses outputs softUnits falsified trues any all deviation charged valuesAfter count deviations truth eventRight firstWrong infeasibilityOf objectiveOf firstAbove row counter lastRow lowUnits highUnits shortUnits boundItems countInto ruleItems rulesItems starts uses durationRules constraintRules formula variables hardOf softOf tail bounded boundedVariables boundedHard words digits literalText line sumWeights top headerLine text numbers stepAt literalsOk wellFormed hintsShow deleted perform run start plainRun readOf scoreOf sameBytes sameSheetOf sizesOf textSizeOf textOf programPrints lowestFalse decodeOf formulaFits checkOf checkHardOf bestOf fileA fileHardA fileFree proofA listingA numberSaid stepsSaid scoreSaid decodeSaid bestSaid sizeSaid ample checkA roomA bestA busyTimes startAt1 counter3 holds3 timesFile spelt listFile six idleSix cases flatMap
+unfolding repeat group front within number limited reference references listed from member usersFrom outside gapsAfter gaps entriesNodes entriesMembers countedOf longest eventAt fieldsRead fieldsTable ended constraintAt sizesAt groupsAt constraintsAt parse bit lit clause clauses cube hasTrue withoutFalse tidy pairs gateClauses value hardClauses outputs softUnits falsified trues any all deviation charged valuesAfter count deviations truth eventRight firstWrong infeasibilityOf objectiveOf firstAbove row counter lastRow lowUnits highUnits shortUnits boundItems countInto ruleItems rulesItems starts uses durationRules constraintRules formula variables hardOf softOf tail bounded boundedVariables boundedHard words digits literalText line sumWeights top headerLine text numbers stepAt literalsOk wellFormed hintsShow deleted perform run start plainRun readOf scoreOf sameBytes sameSheetOf sizesOf textSizeOf textOf programPrints lowestFalse decodeOf formulaFits checkOf checkHardOf bestOf fileA fileHardA fileFree proofA listingA numberSaid stepsSaid scoreSaid decodeSaid bestSaid sizeSaid ample checkA roomA bestA busyTimes startAt1 counter3 holds3 timesFile spelt listFile six idleSix cases flatMap
 examples = refl

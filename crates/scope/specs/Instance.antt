@@ -1,9 +1,8 @@
 -- The instance file, and refusals 1 to 6 in file order.
-use Prim.Native.Nat.{ℕ}
-use mathlib.Core.List.{List}
-use mathlib.Core.Bool.{cond}
-use lib.ListN.{length}
-use lib.Dec.{leb, eqb}
+use Prim.Native.Nat.{ℕ, _-_}
+use mathlib.Core.List.{List, [], _∷_}
+use lib.ListN.{length, getD}
+use lib.Dec.{leb}
 use Rattle.scope.specs.Parsed.{Parsed, got, andThen, unless, repeat}
 use Rattle.scope.specs.Number.{limited, reference, listed}
 use Rattle.scope.specs.Kinds.{Event, Kind, clash, unavailable, preferred, split, spread, busy, cluster, idle, Constraint, Counted, users, groupAt, countedOf, longest}
@@ -30,57 +29,39 @@ unfoldable pub eventAt : ℕ → ℕ → List ℕ → ℕ → Parsed Event
 eventAt T R s at =
     andThen (limited 1 T s at) (λ d next. andThen (listed R s next) (λ rs end. got (record { duration = d; resources = rs }) end))
 
--- two references; lo and hi
-unfoldable pub pairAt : ℕ → ℕ → List ℕ → ℕ → Parsed (ℕ × ℕ)
-pairAt n m s at = andThen (reference 0 n s at) (λ a next. andThen (reference 0 m s next) (λ b end. got (a, b) end))
+-- the fields of a constraint, one after another, and the kind that they make: a reference to one of n things, an ascending
+-- list of such references, a number from lo to hi
+pub data Fields : Type 0 where
+  aReference : (n : ℕ) → (ℕ → Fields) → Fields
+  aList : (n : ℕ) → (List ℕ → Fields) → Fields
+  aNumber : (lo hi : ℕ) → (ℕ → Fields) → Fields
+  theKind : Kind → Fields
 
-unfoldable pub boundsAt : List ℕ → ℕ → Parsed (ℕ × ℕ)
-boundsAt s at = andThen (limited 0 255 s at) (λ lo next. andThen (limited 0 255 s next) (λ hi end. got (lo, hi) end))
+unfoldable pub fieldsRead : Fields → List ℕ → ℕ → Parsed Kind
+fieldsRead (aReference n f) s at = andThen (reference 0 n s at) (λ v next. fieldsRead (f v) s next)
+fieldsRead (aList n f) s at = andThen (listed n s at) (λ vs next. fieldsRead (f vs) s next)
+fieldsRead (aNumber lo hi f) s at = andThen (limited lo hi s at) (λ v next. fieldsRead (f v) s next)
+fieldsRead (theKind k) s at = got k at
 
--- the fields of each kind
-module _ (n : Counts) (s : List ℕ) (at : ℕ) where
-  unfoldable pub clashAt : Parsed Kind
-  clashAt = andThen (reference 0 (n .resources) s at) (λ r end. got (clash r) end)
+-- lo and hi, which end a constraint
+abbrev pub bounds : (ℕ → ℕ → Kind) → Fields
+bounds k = aNumber 0 255 (λ lo. aNumber 0 255 (λ hi. theKind (k lo hi)))
 
-  unfoldable pub unavailableAt : Parsed Kind
-  unavailableAt = andThen (pairAt (n .resources) (n .groups) s at) (λ p end. got (unavailable (p .0) (p .1)) end)
+-- the fields of each kind, a row for each
+unfoldable pub fieldsTable : Counts → List Fields
+fieldsTable n =
+    aReference (n .resources) (λ r. theKind (clash r))
+    ∷ aReference (n .resources) (λ r. aReference (n .groups) (λ g. theKind (unavailable r g)))
+    ∷ aReference (n .events) (λ e. aReference (n .groups) (λ g. theKind (preferred e g)))
+    ∷ aReference (n .events) (λ e. bounds (split e))
+    ∷ aList (n .events) (λ vs. aReference (n .groups) (λ g. bounds (spread vs g)))
+    ∷ aReference (n .resources) (λ r. aReference (n .groups) (λ g. bounds (busy r g)))
+    ∷ aReference (n .resources) (λ r. aList (n .groups) (λ hs. bounds (cluster r hs)))
+    ∷ aReference (n .resources) (λ r. aList (n .groups) (λ hs. bounds (idle r hs)))
+    ∷ []
 
-  unfoldable pub preferredAt : Parsed Kind
-  preferredAt = andThen (pairAt (n .events) (n .groups) s at) (λ p end. got (preferred (p .0) (p .1)) end)
-
-  unfoldable pub splitAt : Parsed Kind
-  splitAt =
-      andThen (reference 0 (n .events) s at) (λ e next. andThen (boundsAt s next) (λ b end. got (split e (b .0) (b .1)) end))
-
-  unfoldable pub spreadAt : Parsed Kind
-  spreadAt =
-      andThen (listed (n .events) s at)
-      (λ vs next.
-      andThen (reference 0 (n .groups) s next)
-      (λ g more. andThen (boundsAt s more) (λ b end. got (spread vs g (b .0) (b .1)) end)))
-
-  unfoldable pub busyAt : Parsed Kind
-  busyAt =
-      andThen (pairAt (n .resources) (n .groups) s at)
-      (λ p next. andThen (boundsAt s next) (λ b end. got (busy (p .0) (p .1) (b .0) (b .1)) end))
-
-  -- a resource, a list of groups, lo and hi: a cluster's fields and an idle limit's
-  unfoldable pub overGroupsAt : (ℕ → List ℕ → ℕ → ℕ → Kind) → Parsed Kind
-  overGroupsAt kind =
-      andThen (reference 0 (n .resources) s at)
-      (λ r next.
-      andThen (listed (n .groups) s next)
-      (λ hs more. andThen (boundsAt s more) (λ b end. got (kind r hs (b .0) (b .1)) end)))
-
-  unfoldable pub fieldsAt : ℕ → Parsed Kind
-  fieldsAt k =
-      cond (eqb k 1) clashAt
-      (cond (eqb k 2) unavailableAt
-      (cond (eqb k 3) preferredAt
-      (cond (eqb k 4) splitAt
-      (cond (eqb k 5) spreadAt
-      (cond (eqb k 6) busyAt
-      (cond (eqb k 7) (overGroupsAt cluster) (overGroupsAt idle)))))))
+abbrev pub fieldsOf : Counts → ℕ → Fields
+fieldsOf n k = getD (fieldsTable n) (k - 1) (theKind (clash 0))
 
 -- the checks at a constraint's end, with the offset of its kind: 4 for a counted list longer than 255,
 -- 5 for lo above hi as written or above the list's length
@@ -100,7 +81,7 @@ constraintAt T R es gs s at =
     (λ kind next.
     andThen (limited 0 1000 s next)
     (λ weight more.
-    andThen (fieldsAt (countsOf T R es gs) s more kind) (λ k end. endedAs at (countedOf T (λ r. users r es) (groupAt gs) k) weight k end)))
+    andThen (fieldsRead (fieldsOf (countsOf T R es gs) kind) s more) (λ k end. endedAs at (countedOf T (λ r. users r es) (groupAt gs) k) weight k end)))
 
 -- times 1..125, events 1..1,024, resources 0..99
 unfoldable pub sizesAt : List ℕ → Parsed (ℕ × ℕ × ℕ)

@@ -2,16 +2,16 @@
 use mathlib.Core.List.{List, [], _∷_}
 use Prim.Native.Nat.{ℕ, zero, suc, _+_, _-_, _≤_}
 use native.Mathlib.Omega.{arith}
-use lib.Dec.{leb, ltb, eqb}
+use lib.Dec.{leb, ltb}
 use lib.ListN.{length}
 use borrow.Author.Tests.{leb-true, ltb-true}
 use Rattle.laws.specs.Lists.{All, All-at, All-weaken}
 use Rattle.scope.specs.Parsed.{Parsed, andThen, repeat}
 use Rattle.scope.specs.Number.{number, limited, reference, references, listed}
 use Rattle.scope.specs.Kinds.{Event, Kind, clash, unavailable, preferred, split, spread, busy, cluster, idle, Constraint, Counted, users, groupAt, countedOf, longest}
-use Rattle.scope.specs.Instance.{Instance, Counts, countsOf, eventAt, pairAt, boundsAt, clashAt, unavailableAt, preferredAt, splitAt, spreadAt, busyAt, overGroupsAt, fieldsAt, ended, constraintAt, sizesAt, groupsAt, constraintsAt, parse}
+use Rattle.scope.specs.Instance.{Instance, Counts, countsOf, eventAt, Fields, aReference, aList, aNumber, theKind, fieldsRead, fieldsTable, fieldsOf, ended, constraintAt, sizesAt, groupsAt, constraintsAt, parse}
 use Rattle.scope.specs.Demands.{Accepted}
-use Rattle.theory.specs.Readings.{Gives, gives-value, gives-andThen, gives-unless, gives-cons, gives-either, gives-repeat}
+use Rattle.theory.specs.Readings.{Gives, gives-value, gives-andThen, gives-unless, gives-cons, gives-repeat}
 
 -- a number within its limits
 pub record Within (lo hi v : ℕ) : Type 0 where
@@ -107,72 +107,51 @@ gives-event T R s at =
     gives-andThen (gives-limited 1 T s at)
     (λ d next a. gives-andThen (gives-listed R s next) (λ rs end b. gives-value (record { duration = a; resources = b })))
 
-gives-pair : (n m : ℕ) (s : List ℕ) (at : ℕ) → Gives (λ p. Within 1 n (p .0) × Within 1 m (p .1)) (pairAt n m s at)
-unfolding pairAt
-gives-pair n m s at =
-    gives-andThen (gives-reference 0 n s at)
-    (λ a next x. gives-andThen (gives-reference 0 m s next) (λ b end y. gives-value (x, y)))
+-- every kind that some fields can make is valid
+abbrev ValidRow : Counts → Fields → Type 0
+ValidRow n (aReference m f) = (v : ℕ) → Within 1 m v → ValidRow n (f v)
+ValidRow n (aList m f) = (vs : List ℕ) → Ascending 0 m vs → ValidRow n (f vs)
+ValidRow n (aNumber lo hi f) = (v : ℕ) → Within lo hi v → ValidRow n (f v)
+ValidRow n (theKind k) = ValidFields n k
 
-gives-bounds : (s : List ℕ) (at : ℕ) → Gives (λ p. Bounds (p .0) (p .1)) (boundsAt s at)
-unfolding boundsAt
-gives-bounds s at =
-    gives-andThen (gives-limited 0 255 s at)
-    (λ lo next x. gives-andThen (gives-limited 0 255 s next) (λ hi end y. gives-value (x, y)))
+gives-row : (n : Counts) (f : Fields) (s : List ℕ) (at : ℕ) → ValidRow n f → Gives (ValidFields n) (fieldsRead f s at)
+unfolding fieldsRead
+gives-row n (aReference m f) s at h = gives-andThen (gives-reference 0 m s at) (λ v next a. gives-row n (f v) s next (h v a))
+gives-row n (aList m f) s at h = gives-andThen (gives-listed m s at) (λ vs next a. gives-row n (f vs) s next (h vs a))
+gives-row n (aNumber lo hi f) s at h = gives-andThen (gives-limited lo hi s at) (λ v next a. gives-row n (f v) s next (h v a))
+gives-row n (theKind k) s at h = gives-value h
 
-module _ (n : Counts) (s : List ℕ) (at : ℕ) where
-  gives-clash : Gives (ValidFields n) (clashAt n s at)
-  unfolding clashAt
-  gives-clash = gives-andThen (gives-reference 0 (n .resources) s at) (λ r end a. gives-value a)
+-- those of each row of the table
+valid-rows : (n : Counts) → All (ValidRow n) (fieldsTable n)
+unfolding fieldsTable
+valid-rows n = (
+  λ r a. a,
+  (
+    λ r a g b. (a, b),
+    (
+      λ e a g b. (a, b),
+      (
+        λ e a lo b hi c. (a, (b, c)),
+        (
+          λ vs a g b lo c hi d. (a, b, (c, d)),
+          (
+            λ r a g b lo c hi d. (a, b, (c, d)),
+            (
+              λ r a hs b lo c hi d. (a, b, (c, d)),
+              (λ r a hs b lo c hi d. (a, b, (c, d)), tt),
+            ),
+          ),
+        ),
+      ),
+    ),
+  ),
+)
 
-  gives-unavailable : Gives (ValidFields n) (unavailableAt n s at)
-  unfolding unavailableAt
-  gives-unavailable = gives-andThen (gives-pair (n .resources) (n .groups) s at) (λ p end a. gives-value a)
-
-  gives-preferred : Gives (ValidFields n) (preferredAt n s at)
-  unfolding preferredAt
-  gives-preferred = gives-andThen (gives-pair (n .events) (n .groups) s at) (λ p end a. gives-value a)
-
-  gives-split : Gives (ValidFields n) (splitAt n s at)
-  unfolding splitAt
-  gives-split =
-      gives-andThen (gives-reference 0 (n .events) s at)
-      (λ e next a. gives-andThen (gives-bounds s next) (λ b end c. gives-value (a, c)))
-
-  gives-spread : Gives (ValidFields n) (spreadAt n s at)
-  unfolding spreadAt
-  gives-spread =
-      gives-andThen (gives-listed (n .events) s at)
-      (λ vs next a.
-      gives-andThen (gives-reference 0 (n .groups) s next)
-      (λ g more b. gives-andThen (gives-bounds s more) (λ p end c. gives-value (a, b, c))))
-
-  gives-busy : Gives (ValidFields n) (busyAt n s at)
-  unfolding busyAt
-  gives-busy =
-      gives-andThen (gives-pair (n .resources) (n .groups) s at)
-      (λ p next a. gives-andThen (gives-bounds s next) (λ b end c. gives-value (a .0, a .1, c)))
-
-  gives-overGroups : (kind : ℕ → List ℕ → ℕ → ℕ → Kind)
-      → ((r : ℕ) (hs : List ℕ) (lo hi : ℕ) → Within 1 (n .resources) r → Ascending 0 (n .groups) hs → Bounds lo hi
-      → ValidFields n (kind r hs lo hi)) → Gives (ValidFields n) (overGroupsAt n s at kind)
-  unfolding overGroupsAt
-  gives-overGroups kind f =
-      gives-andThen (gives-reference 0 (n .resources) s at)
-      (λ r next a.
-      gives-andThen (gives-listed (n .groups) s next)
-      (λ hs more b. gives-andThen (gives-bounds s more) (λ p end c. gives-value (f r hs (p .0) (p .1) a b c))))
-
-  gives-fields : (k : ℕ) → Gives (ValidFields n) (fieldsAt n s at k)
-  unfolding fieldsAt
-  gives-fields k =
-      gives-either (eqb k 1) gives-clash
-      (gives-either (eqb k 2) gives-unavailable
-      (gives-either (eqb k 3) gives-preferred
-      (gives-either (eqb k 4) gives-split
-      (gives-either (eqb k 5) gives-spread
-      (gives-either (eqb k 6) gives-busy
-      (gives-either (eqb k 7) (gives-overGroups cluster (λ r hs lo hi a b c. (a, b, c)))
-      (gives-overGroups idle (λ r hs lo hi a b c. (a, b, c)))))))))
+gives-fields : (n : Counts) (s : List ℕ) (at k : ℕ) → Within 1 8 k → Gives (ValidFields n) (fieldsRead (fieldsOf n k) s at)
+unfolding fieldsTable
+gives-fields n s at k w =
+    gives-row n (fieldsOf n k) s at
+    (All-at (ValidRow n) (theKind (clash 0)) (fieldsTable n) (k - 1) (omega (arith, w .low, w .high)) (valid-rows n))
 
 -- a constraint, with the checks at its end
 pub gives-constraint : (T R : ℕ) (es : List Event) (gs : List (List ℕ)) (s : List ℕ) (at : ℕ)
@@ -180,10 +159,10 @@ pub gives-constraint : (T R : ℕ) (es : List Event) (gs : List (List ℕ)) (s :
 unfolding constraintAt ended
 gives-constraint T R es gs s at =
     gives-andThen (gives-limited 1 8 s at)
-    (λ kind next _.
+    (λ kind next i.
     gives-andThen (gives-limited 0 1000 s next)
     (λ weight more w.
-    gives-andThen (gives-fields (countsOf T R es gs) s more kind)
+    gives-andThen (gives-fields (countsOf T R es gs) s more kind i)
     (λ k end f.
     let x = counted T es gs k in
     let n = longest (x .lists) in
