@@ -1,6 +1,6 @@
 -- The plain run is exact: it answers "no timetable" where, and only where, the bytes spell a list of steps, each well formed
 -- and taken on what the one before it left, of which the last, and no earlier one, adds the empty clause.
-use mathlib.Core.Path.{_≡_, refl, ap, _∙_}
+use mathlib.Core.Path.{_≡_, refl, sym, ap, _∙_}
 use mathlib.Core.Logic.{_↔_}
 use mathlib.Core.Bool.{Bool, true, false, cond}
 use mathlib.Core.List.{List, [], _∷_}
@@ -12,9 +12,10 @@ use Rattle.scope.specs.Parsed.{Answer, answered, refusal}
 use Rattle.scope.specs.Steps.{Step, add, delete, Live, Shown, follows, notLive, breaks, deleted}
 use Rattle.theory.specs.StepTokens.{Tokens, stop, bad, num, tokens, StepRead, read, misread, readStep}
 use Rattle.theory.specs.Marked.{wellFormed, allOpen, allFalse, hintsShow}
-use Rattle.scope.specs.PlainRun.{State, Limits, withClause, fits, start}
+use Rattle.scope.specs.PlainRun.{State, Limits, withClause, fits, start, plainRun}
 use Rattle.theory.specs.MarkedRun.{Outcome, next, empty, refused, byShown, byDeleted, perform}
-use Rattle.theory.specs.MarkedRun.{atEnd, byOutcome, byForm, byRead, run, plainRun}
+use Rattle.theory.specs.MarkedRun.{atEnd, byOutcome, byForm, byRead, run, plainRun as markedPlain}
+use Rattle.theory.specs.SameRun.{plain-marked}
 use Rattle.scope.specs.Spelling.{SpellsProof}
 use Rattle.theory.specs.Performed.{Taken, ends, goes-on}
 use Rattle.laws.specs.Booleans.{impossible}
@@ -130,7 +131,7 @@ lists-run (suc k) lim st (first {ts} {s} r q) (goes-on {st′} {ss} w e a) h =
 -- demand 3's "exactly when", of the plain run
 pub plain-exact : (lim : Limits) (f : List (List ℕ)) (proof : List ℕ) (n : ℕ)
     → (plainRun lim f proof ≡ answered n) ↔ ((ss : List Step) × SpellsProof ss proof × Taken lim (start f) ss × (length ss ≡ n))
-unfolding plainRun start
+unfolding markedPlain start
 plain-exact lim f proof n = (to, from)
   where
     Steps : Type 0
@@ -138,11 +139,12 @@ plain-exact lim f proof n = (to, from)
 
     to : plainRun lim f proof ≡ answered n → Steps
     to e =
-        let h : Listed lim (start f) (tokens proof) n = rw e at (run-lists (suc (length proof)) lim (start f) (tokens proof)) in
+        let h : Listed lim (start f) (tokens proof) n = rw (sym (plain-marked lim f proof) ∙ e) at (run-lists (suc (length proof)) lim (start f) (tokens proof)) in
         (h .0, proof-exact proof (h .0) .0 (h .1), h .2, omega (arith, h .3))
 
     from : Steps → plainRun lim f proof ≡ answered n
     from h =
         let k = proof-exact proof (h .0) .1 (h .1) in
-        lists-run (suc (length proof)) lim (start f) k (h .2) (omega (arith, few-steps (h .1)))
+        plain-marked lim f proof
+        ∙ lists-run (suc (length proof)) lim (start f) k (h .2) (omega (arith, few-steps (h .1)))
         ∙ ap answered (omega (arith, h .3))

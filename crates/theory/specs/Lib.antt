@@ -34,7 +34,6 @@ pub mod Sound
 pub mod Performed
 pub mod Exact
 pub mod Formed
-pub mod Standing
 pub mod Hinted
 pub mod SameHints
 pub mod SameSteps

@@ -15,7 +15,7 @@ use Rattle.theory.specs.MarkedRun.{next, empty, refused, byShown, byDele
 use Rattle.theory.specs.Performed.{Taken, ends, goes-on}
 use Rattle.laws.specs.Booleans.{impossible, and-true}
 use Rattle.theory.specs.Formed.{formed-exact}
-use Rattle.theory.specs.Hinted.{hints-exact}
+use Rattle.theory.specs.SameHints.{marked-exact}
 use Rattle.scope.specs.Refutation.{Literals, WellFormed, add-form, delete-form, Follows, Differs, Deletes, no-id, one-id}
 use Rattle.scope.specs.Refutation.{Adds, Leaves, added, dropped, Refutes, final, onward}
 
@@ -90,7 +90,7 @@ module _ (lim : Limits) (st : State) where
       → Leaves lim st s st′
   unfolding perform
   next-in-words (add id c hs) st′ (add-form h k) e =
-      go (hintsShow (st .live) (allFalse allOpen c) hs) c (hints-exact (st .live) c hs k .0) e
+      go (hintsShow (st .live) (allFalse allOpen c) hs) c (marked-exact (st .live) c hs k .0) e
     where
       fit : (l : ℕ) (ls : List ℕ) → Follows (st .live) (l ∷ ls) hs → (b : Bool) → fits lim st (l ∷ ls) ≡ b
           → cond b (next (withClause st id (l ∷ ls))) (refused 17) ≡ next st′ → Leaves lim st (add id (l ∷ ls) hs) st′
@@ -118,7 +118,7 @@ module _ (lim : Limits) (st : State) where
       → perform lim st s ≡ next st′
   unfolding perform
   words-next (add-form h k) (added {id} {l} {ls} {hs} {st′} a) =
-      rw (hints-exact (st .live) (l ∷ ls) hs k .1 (a .follows), words-fit id (l ∷ ls) hs st′ a)
+      rw (marked-exact (st .live) (l ∷ ls) hs k .1 (a .follows), words-fit id (l ∷ ls) hs st′ a)
       (ap next (words-added id (l ∷ ls) hs st′ a))
   words-next delete-form (dropped {ids} {st′} d) =
       rw (words-deleted (d .live))
@@ -129,7 +129,7 @@ module _ (lim : Limits) (st : State) where
       → Refutes lim st (s ∷ [])
   unfolding perform
   empty-in-words (add id c hs) (add-form h k) e =
-      go (hintsShow (st .live) (allFalse allOpen c) hs) c k (hints-exact (st .live) c hs k .0) e
+      go (hintsShow (st .live) (allFalse allOpen c) hs) c k (marked-exact (st .live) c hs k .0) e
     where
       no : {A : Type 0} (st′ : State) (b : Bool) → cond b (next st′) (refused 17) ≡ empty → A
       no st′ true e = impossible (cc)
@@ -150,7 +150,7 @@ module _ (lim : Limits) (st : State) where
   words-empty : {id : ℕ} {hs : List ℕ} → WellFormed (lim .lastVariable) (st .highest) (add id [] hs) → Follows (st .live) [] hs
       → perform lim st (add id [] hs) ≡ empty
   unfolding perform
-  words-empty {id} {hs} (add-form h k) f = rw (hints-exact (st .live) [] hs k .1 f)
+  words-empty {id} {hs} (add-form h k) f = rw (marked-exact (st .live) [] hs k .1 f)
 
 -- all steps, both ways
 taken-in-words : {lim : Limits} {st : State} {ss : List Step} → Taken lim st ss → Refutes lim st ss
