@@ -1,81 +1,24 @@
--- Literals set false by a list and by marks: a step is well formed, and a clause follows by its hints, by both alike.
+-- A clause follows by its hints with marks exactly where it does with a list of the literals that are set false.
 use mathlib.Core.Path.{_≡_, refl, sym, ap, _∙_}
-use mathlib.Core.Logic.{_↔_}
-use mathlib.Core.Bool.{Bool, true, false, not, cond, _&&_, _||_}
-use mathlib.Core.List.{List, [], _∷_, _++_, map, append-nil}
-use mathlib.Core.List.{List·Memᴰ, List·Memᴰ·head, List·Memᴰ·tail}
+use mathlib.Core.Bool.{Bool, true, false, cond, _||_}
+use mathlib.Core.List.{List, [], _∷_, _++_, append-nil}
+use mathlib.Core.List.{List·Memᴰ·head, List·Memᴰ·tail}
 use mathlib.Core.Option.{Option, none, some}
 use Prim.Native.Nat.{ℕ, _+_, _-_, _/_, _%_, _≤_}
 use native.Mathlib.Omega.{arith}
-use lib.Dec.{leb, eqb}
-use borrow.Author.Tests.{le-leb, leb-true, eq-eqb, ne-eqb, eqb-true, eqb-false}
+use lib.Dec.{eqb}
+use borrow.Author.Tests.{eq-eqb, ne-eqb, eqb-true, eqb-false}
 use Rattle.scope.specs.Cnf.{opp}
 use Rattle.scope.specs.Kinds.{member, outside}
-use Rattle.scope.specs.Steps.{Step, add, delete, literalsOk, wellFormed, Live, either, Shown, follows, notLive, breaks, byRest, hintsShow}
-use Rattle.scope.specs.Refutation.{Literals, no-literal, literal, Follows}
-use Rattle.laws.specs.Booleans.{bool-ext, never-true, and-true}
+use Rattle.scope.specs.Steps.{Live, either, Shown, notLive, breaks, byRest, hintsShow}
+use Rattle.scope.specs.Refutation.{Literals, no-literal, literal}
+use Rattle.laws.specs.Booleans.{never-true}
 use Rattle.theory.specs.Marked.{Marks, allOpen, makeTrue, makeFalse, allFalse, Standing, falsified, oneOpen, other, alsoLiteral, standing}
-use Rattle.theory.specs.Marked.{byStanding, hintOf, byHint, ifLast}
-use Rattle.theory.specs.Marked.{literalsOk as markedOk, wellFormed as markedFormed, hintsShow as markedShow}
-use Rattle.theory.specs.Formed.{AllOpen, open-before, literals-formed, formed-literals}
-use Rattle.theory.specs.Hinted.{opp-opp, one-left, hints-exact}
+use Rattle.theory.specs.Marked.{byStanding, hintOf, byHint, ifLast, hintsShow as markedShow}
+use Rattle.theory.specs.Hinted.{opp-opp, one-left}
+use Rattle.theory.specs.SameForm.{AllOpen, open-before}
 
--- Literals of a clause.
--- a variable is among those of some literals exactly where one of them has it
-member-variable : (v k : ℕ) (ls : List ℕ) → List·Memᴰ k ls → k / 2 ≡ v → member v (map (λ k. k / 2) ls) ≡ true
-unfolding member
-member-variable v k (l ∷ ls) (List·Memᴰ·head e) h = rw (eq-eqb v (l / 2) (sym h ∙ ap (λ j. j / 2) e))
-member-variable v k (l ∷ ls) (List·Memᴰ·tail i) h = or-also (eqb v (l / 2)) (member-variable v k ls i h)
-  where
-    or-also : {b : Bool} (a : Bool) → b ≡ true → (a || b) ≡ true
-    or-also true e = refl
-    or-also false e = e
-
-fresh-variable : (v : ℕ) (ls : List ℕ) → ((k : ℕ) → List·Memᴰ k ls → k / 2 ≡ v → ⊥) → member v (map (λ k. k / 2) ls) ≡ false
-unfolding member
-fresh-variable v [] h = refl
-fresh-variable v (l ∷ ls) h =
-    rw (ne-eqb v (l / 2) (λ e. h l (List·Memᴰ·head refl) (sym e))) (fresh-variable v ls (λ k i. h k (List·Memᴰ·tail i)))
-
-not-true : (b : Bool) → not b ≡ true → b ≡ false
-not-true true e = never-true e
-not-true false e = refl
-
--- the literals of a clause in document 01's words, both ways
-literals-listed : (last : ℕ) (ls : List ℕ) → literalsOk last ls ≡ true → Literals last ls
-unfolding literalsOk
-literals-listed last [] e = no-literal
-literals-listed last (l ∷ ls) e =
-    let a = leb 2 l in
-    let b = leb (l / 2) last in
-    let c = member (l / 2) (map (λ k. k / 2) ls) in
-    let p = and-true (a && b && not c) (literalsOk last ls) e in
-    let q = and-true (a && b) (not c) (p .0) in
-    let r = and-true a b (q .0) in
-    let n = not-true c (q .1) in
-    literal (leb-true 2 l (r .0)) (leb-true (l / 2) last (r .1))
-    (λ k i e. never-true (sym n ∙ member-variable (l / 2) k ls i e)) (literals-listed last ls (p .1))
-
-listed-literals : {last : ℕ} {ls : List ℕ} → Literals last ls → literalsOk last ls ≡ true
-unfolding literalsOk
-listed-literals no-literal = refl
-listed-literals {last} (literal {l} {ls} a b f k) =
-    rw (le-leb 2 l a, le-leb (l / 2) last b, fresh-variable (l / 2) ls f, listed-literals k)
-
-literals-same : (last : ℕ) (ls : List ℕ) → literalsOk last ls ≡ markedOk last allOpen ls
-literals-same last ls =
-    bool-ext (literalsOk last ls) (markedOk last allOpen ls) (
-      λ e. formed-literals last allOpen ls (literals-listed last ls e) (λ k i. refl),
-      λ e. listed-literals (literals-formed last allOpen ls e .0),
-    )
-
--- a step is well formed by the marks exactly where it is
-pub formed-same : (last highest : ℕ) (s : Step) → wellFormed last highest s ≡ markedFormed last highest s
-unfolding wellFormed markedFormed
-formed-same last highest (add id ls hs) = rw (literals-same last ls)
-formed-same last highest (delete ids) = refl
-
--- By marks: the opposite literal has the same variable and the other last bit.
+-- the opposite literal has the same variable and the other last bit.
 opp-variable : (l : ℕ) → opp l / 2 ≡ l / 2
 opp-variable l = omega arith
 
@@ -287,8 +230,3 @@ hints-marked {m} {φ} L d (h ∷ hs) = go (λ l z. hints-marked L (marking-true 
 pub hints-same : {last : ℕ} (L : Live) (c hs : List ℕ) → Literals last c
     → hintsShow L c hs ≡ markedShow L (allFalse allOpen c) hs
 hints-same L c hs k = hints-marked L (marking-new k) hs
-
--- and so exactly where the words of document 01 say so
-pub marked-exact : {last : ℕ} (L : Live) (c hs : List ℕ) → Literals last c
-    → (markedShow L (allFalse allOpen c) hs ≡ follows) ↔ Follows L c hs
-marked-exact L c hs k = rw (← hints-same L c hs k) (hints-exact L c hs)
