@@ -58,7 +58,7 @@ abbrev pub formed : Limits → State → ℕ → Parsed Step → (Step → ℕ �
 formed lim st n (refused k v) go = refusal 14 n
 formed lim st n (got x next) go = provided (wellFormed (lim .lastVariable) (st .highest) x) 14 n (go x next)
 
--- after step n, before an offset: the state goes on; after the empty clause nothing may follow
+-- after step n, which ends before an offset: a state goes on; after the empty clause nothing may follow
 abbrev pub after : ℕ → List ℕ → ℕ → Option State → (State → Answer ℕ) → Answer ℕ
 after n s next o go = either o (provided (leb (length s) next) 18 n (answered n)) go
 

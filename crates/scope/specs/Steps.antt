@@ -35,7 +35,7 @@ deleteAt s at = andThen (upTo0 s at) (λ ids end. got (delete ids) end)
 unfoldable pub stepAt : List ℕ → ℕ → Parsed Step
 stepAt s at = andThen (number s at) (λ k i. cond (eqb k 97) (addAt s i) (cond (eqb k 100) (deleteAt s i) (refused 1 at)))
 
--- literals of variables up to the formula's last, no variable twice
+-- "(1 is no literal); no variable twice, none above the formula's last"
 unfoldable pub literalsOk : ℕ → List ℕ → Bool
 literalsOk last [] = true
 literalsOk last (l ∷ ls) =
@@ -65,7 +65,8 @@ pub data Shown : Type 0 where
   notLive : Shown
   breaks : Shown
 
--- Where the literals φ are set false: by the literals of a hint that are not false, and the hints after it
+-- By the literals of a hint that are not false, and the hints after it, where the literals φ are set false; to set a literal
+-- true is to set its opposite false
 abbrev pub byRest : List ℕ → List ℕ → List ℕ → (List ℕ → Shown) → Shown
 byRest φ [] [] go = follows
 byRest φ [] (h ∷ hs) go = breaks
@@ -73,7 +74,7 @@ byRest φ (l ∷ []) hs go = cond (member (opp l) φ) breaks (go (opp l ∷ φ))
 byRest φ (l ∷ k ∷ ls) hs go = breaks
 
 -- "each hint in turn is a live clause with exactly one open literal, no true one, which is then set true; the last hint, and
--- no earlier one, has all literals false"
+-- no earlier one, has all literals false"; outside φ c are the literals of c that are not false
 unfoldable pub hintsShow : Live → List ℕ → List ℕ → Shown
 hintsShow L φ [] = breaks
 hintsShow L φ (h ∷ hs) = either (L h) notLive (λ c. byRest φ (outside φ c) hs (λ φ′. hintsShow L φ′ hs))

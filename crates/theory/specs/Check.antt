@@ -1,6 +1,6 @@
 -- When a proof check answers "no timetable", at a bound and without the tail: exactly in the words of demand 3; and then no
 -- assignment makes the clauses true.
-use mathlib.Core.Path.{_≡_, sym, _∙_}
+use mathlib.Core.Path.{_≡_}
 use mathlib.Core.Logic.{_↔_}
 use mathlib.Core.Bool.{Bool, true, _&&_}
 use mathlib.Core.List.{List}
@@ -18,8 +18,6 @@ use Rattle.scope.specs.Refutation.{Refuted, NoTimetable, NoneAtAll}
 use Rattle.scope.specs.Demands.{Accepted}
 use Rattle.laws.specs.Booleans.{and-true}
 use Rattle.theory.specs.Answered.{provided-answers}
-use Rattle.theory.specs.MarkedRun.{plainRun as markedPlain}
-use Rattle.theory.specs.SameRun.{plain-marked}
 use Rattle.theory.specs.Sound.{plain-sound}
 use Rattle.theory.specs.InWords.{refuted-words, words-refuted, words-fit}
 
@@ -32,12 +30,11 @@ module _ (last : ℕ) (f : List (List ℕ)) (proof : List ℕ) (l : Lent) (n : �
   sized = provided (leb last mostVariables) 8 0 (against last f proof l)
 
   -- it answers so exactly where the proof refutes the clauses
-  answered-run : sized ≡ answered n
-      → (leb last mostVariables ≡ true) × (formulaFits last f l ≡ true) × (markedPlain (limitsOf last l) f proof ≡ answered n)
+  answered-run : sized ≡ answered n → (leb last mostVariables ≡ true) × (formulaFits last f l ≡ true) × (run ≡ answered n)
   answered-run e =
       let v = provided-answers (leb last mostVariables) 8 0 (against last f proof l) .0 e in
       let p = provided-answers (formulaFits last f l) 9 0 run .0 (v .1) in
-      (v .0, p .0, sym (plain-marked (limitsOf last l) f proof) ∙ p .1)
+      (v .0, p .0, p .1)
 
   to : sized ≡ answered n → Refuted last f proof l n
   unfolding formulaFits
@@ -53,7 +50,7 @@ module _ (last : ℕ) (f : List (List ℕ)) (proof : List ℕ) (l : Lent) (n : �
   unfolding formulaFits
   from w =
       rw (le-leb _ _ (w .size), le-leb _ _ (words-fit last f proof l n w), le-leb _ _ (w .row-room), le-leb _ _ (w .byte-room))
-      (plain-marked (limitsOf last l) f proof ∙ words-refuted last f proof l n w)
+      (words-refuted last f proof l n w)
 
   pub sized-exact : (sized ≡ answered n) ↔ Refuted last f proof l n
   sized-exact = (to, from)

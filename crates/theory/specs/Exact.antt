@@ -2,130 +2,164 @@
 -- and taken on what the one before it left, of which the last, and no earlier one, adds the empty clause.
 use mathlib.Core.Path.{_≡_, refl, ap, _∙_}
 use mathlib.Core.Logic.{_↔_}
-use mathlib.Core.Bool.{Bool, true, false, cond}
+use mathlib.Core.Bool.{Bool, true, false}
 use mathlib.Core.List.{List, [], _∷_}
 use mathlib.Core.Option.{Option, none, some}
-use Prim.Native.Nat.{ℕ, zero, suc, _+_, _≤_}
+use Prim.Native.Nat.{ℕ, zero, suc, _+_, _≤_, _<_}
 use native.Mathlib.Omega.{arith}
+use lib.Dec.{leb, ltb}
 use lib.ListN.{length}
-use Rattle.scope.specs.Parsed.{Answer, answered, refusal}
-use Rattle.scope.specs.Steps.{Step, add, delete, Live, Shown, follows, notLive, breaks, deleted}
-use Rattle.theory.specs.StepTokens.{Tokens, stop, bad, num, tokens, StepRead, read, misread, readStep}
-use Rattle.theory.specs.Marked.{wellFormed, allOpen, allFalse, hintsShow}
-use Rattle.scope.specs.PlainRun.{State, Limits, withClause, fits, start}
-use Rattle.theory.specs.MarkedRun.{Outcome, next, empty, refused, byShown, byDeleted, perform}
-use Rattle.theory.specs.MarkedRun.{atEnd, byOutcome, byForm, byRead, run, plainRun}
+use borrow.Author.Tests.{le-leb, leb-true, lt-ltb}
+use Rattle.scope.specs.Parsed.{Parsed, got, Answer, answered, refusal, then, provided}
+use Rattle.scope.specs.Steps.{Step, add, delete, stepAt, wellFormed, Live, either, Shown, follows, notLive, breaks, hintsShow, deleted}
+use Rattle.scope.specs.PlainRun.{State, Limits, withClause, withLive, fits, byShown, perform, formed, after, run, start, plainRun}
 use Rattle.scope.specs.Spelling.{SpellsProof}
+use Rattle.theory.specs.StepTokens.{Tokens, stop, StepRead, read, readStep}
+use Rattle.theory.specs.Tokens.{tokens-stop}
+use Rattle.theory.specs.SameSteps.{tokensFrom, First, one, broken, over, first-token, SameStep, both-read, neither-reads, step-same}
 use Rattle.theory.specs.Performed.{Taken, ends, goes-on}
 use Rattle.laws.specs.Booleans.{impossible}
 use Rattle.theory.specs.Spelt.{ReadAs, done, first, proof-exact, few-steps}
 
 -- each step counts one
-abbrev Counts : ℕ → Outcome → Type 0
-Counts n (next st) = st .steps ≡ n
-Counts n empty = Unit {0}
-Counts n (refused k) = Unit {0}
+abbrev Counts : ℕ → Answer (Option State) → Type 0
+Counts n (answered (some st)) = st .steps ≡ n
+Counts n (answered none) = Unit {0}
+Counts n (refusal k v) = Unit {0}
 
-counts : (lim : Limits) (st : State) (s : Step) → Counts (st .steps + 1) (perform lim st s)
+counts : (lim : Limits) (st : State) (s : Step) → Counts (st .steps + 1) (perform lim st (st .steps + 1) s)
 unfolding perform
-counts lim st (add id c hs) = go (hintsShow (st .live) (allFalse allOpen c) hs) c
+counts lim st (add id c hs) = go (hintsShow (st .live) c hs) c
   where
-    fit : (c : List ℕ) (b : Bool) → Counts (st .steps + 1) (cond b (next (withClause st id c)) (refused 17))
+    fit : (c : List ℕ) (b : Bool)
+        → Counts (st .steps + 1) (provided b 17 (st .steps + 1) (answered (some (withClause st id c))))
     fit c true = refl
     fit c false = tt
 
-    go : (w : Shown) (c : List ℕ) → Counts (st .steps + 1) (byShown w lim st id c)
+    go : (w : Shown) (c : List ℕ) → Counts (st .steps + 1) (byShown w lim st (st .steps + 1) id c)
     go notLive c = tt
     go breaks c = tt
     go follows [] = tt
     go follows (l ∷ ls) = fit (l ∷ ls) (fits lim st (l ∷ ls))
 counts lim st (delete ids) = go (deleted (st .live) ids)
   where
-    go : (o : Option Live) → Counts (st .steps + 1) (byDeleted st o)
+    go : (o : Option Live)
+        → Counts (st .steps + 1) (either o (refusal 15 (st .steps + 1)) (λ L. answered (some (withLive st L))))
     go none = tt
     go (some L) = refl
 
 -- the state that a step leaves has counted it
-counted : (lim : Limits) (st : State) (s : Step) {st′ : State} → perform lim st s ≡ next st′ → st′ .steps ≡ st .steps + 1
+counted : (lim : Limits) (st : State) (s : Step) {st′ : State} → perform lim st (st .steps + 1) s ≡ answered (some st′)
+    → st′ .steps ≡ st .steps + 1
 counted lim st s e = rw e at (counts lim st s)
-
--- what is left to read is a list of steps that are taken from this state on, n steps with those before
-abbrev Listed : Limits → State → Tokens → ℕ → Type 0
-Listed lim st ts n = (ss : List Step) × ReadAs ts ss × Taken lim st ss × (st .steps + length ss ≡ n)
 
 -- P of the number of steps that an answer carries
 abbrev IfAnswered : Answer ℕ → (ℕ → Type 0) → Type 0
 IfAnswered (answered n) P = P n
 IfAnswered (refusal k n) P = Unit {0}
 
--- a step is read and well formed
-module _ (lim : Limits) (st : State) (ts ts′ : Tokens) (s : Step) (r : readStep ts ≡ read s ts′)
-    (w : wellFormed (lim .lastVariable) (st .highest) s ≡ true) where
-  in-front : (st′ : State) → perform lim st s ≡ next st′ → (a : Answer ℕ) → IfAnswered a (Listed lim st′ ts′)
-      → IfAnswered a (Listed lim st ts)
-  in-front st′ e (answered m) h =
-      let c = counted lim st s e in
-      (s ∷ h .0, first r (h .1), goes-on w e (h .2), rw (← h .3) (omega arith))
-  in-front st′ e (refusal j m) h = tt
+module _ (lim : Limits) (s : List ℕ) where
+  -- what is left to read is a list of steps that are taken from this state on, n steps with those before
+  abbrev Listed : ℕ → State → ℕ → Type 0
+  Listed at st n = (ss : List Step) × ReadAs (tokensFrom s at) ss × Taken lim st ss × (st .steps + length ss ≡ n)
 
-  at-last : perform lim st s ≡ empty → (us : Tokens) → ts′ ≡ us → IfAnswered (atEnd (st .steps + 1) us) (Listed lim st ts)
-  at-last e stop t = (s ∷ [], first {ss = []} r (rw t done), ends w e, refl)
-  at-last e bad t = tt
-  at-last e (num k us) t = tt
+  -- a step is read and well formed
+  module _ (at i : ℕ) (st : State) (x : Step) (r : readStep (tokensFrom s at) ≡ read x (tokensFrom s i))
+      (w : wellFormed (lim .lastVariable) (st .highest) x ≡ true) where
+    in-front : (st′ : State) → perform lim st (st .steps + 1) x ≡ answered (some st′) → (a : Answer ℕ)
+        → IfAnswered a (Listed i st′) → IfAnswered a (Listed at st)
+    in-front st′ e (answered m) h =
+        let c = counted lim st x e in
+        (x ∷ h .0, first r (h .1), goes-on w e (h .2), rw (← h .3) (omega arith))
+    in-front st′ e (refusal j m) h = tt
 
-  -- where go answers for what is left after it
-  outcome-lists : (go : State → Answer ℕ) → ((st′ : State) → IfAnswered (go st′) (Listed lim st′ ts′)) → (o : Outcome)
-      → perform lim st s ≡ o → IfAnswered (byOutcome o (st .steps + 1) ts′ go) (Listed lim st ts)
-  outcome-lists go ih (next st′) e = in-front st′ e (go st′) (ih st′)
-  outcome-lists go ih empty e = at-last e ts′ refl
-  outcome-lists go ih (refused j) e = tt
+    at-last : perform lim st (st .steps + 1) x ≡ answered none → (b : Bool) → leb (length s) i ≡ b
+        → IfAnswered (provided b 18 (st .steps + 1) (answered (st .steps + 1))) (Listed at st)
+    at-last e true t =
+        (x ∷ [], first {ss = []} r (rw (tokens-stop s i (leb-true (length s) i t)) done), ends w e, refl)
+    at-last e false t = tt
 
--- a run that answers "no timetable" has read such a list
-run-lists : (k : ℕ) (lim : Limits) (st : State) (ts : Tokens) → IfAnswered (run k lim st ts) (Listed lim st ts)
-unfolding run
-run-lists zero lim st ts = tt
-run-lists (suc k) lim st stop = tt
-run-lists (suc k) lim st bad = tt
-run-lists (suc k) lim st (num n us) = go (λ ts′ st′. run-lists k lim st′ ts′) (readStep ts) refl
-  where
-    ts : Tokens
-    ts = num n us
+    -- where go answers for what is left after it
+    outcome-lists : (go : State → Answer ℕ) → ((st′ : State) → IfAnswered (go st′) (Listed i st′)) → (a : Answer (Option State))
+        → perform lim st (st .steps + 1) x ≡ a → IfAnswered (then a (λ o. after (st .steps + 1) s i o go)) (Listed at st)
+    outcome-lists go ih (answered (some st′)) e = in-front st′ e (go st′) (ih st′)
+    outcome-lists go ih (answered none) e = at-last e (leb (length s) i) refl
+    outcome-lists go ih (refusal j m) e = tt
 
-    Ih : Type 0
-    Ih = (ts′ : Tokens) (st′ : State) → IfAnswered (run k lim st′ ts′) (Listed lim st′ ts′)
+  -- a run that answers "no timetable" has read such a list
+  run-lists : (k at : ℕ) (st : State) → IfAnswered (run k lim s at st) (Listed at st)
+  unfolding run
+  run-lists zero at st = tt
+  run-lists (suc k) at st = go (run-lists k) (ltb at (length s))
+    where
+      n : ℕ
+      n = st .steps + 1
 
-    form : Ih → (s : Step) (ts′ : Tokens) → readStep ts ≡ read s ts′ → (b : Bool)
-        → wellFormed (lim .lastVariable) (st .highest) s ≡ b
-        → IfAnswered (byForm b lim st s ts′ (λ st′. run k lim st′ ts′)) (Listed lim st ts)
-    form ih s ts′ r false w = tt
-    form ih s ts′ r true w = outcome-lists lim st ts ts′ s r w (λ st′. run k lim st′ ts′) (ih ts′) (perform lim st s) refl
+      Ih : Type 0
+      Ih = (i : ℕ) (st′ : State) → IfAnswered (run k lim s i st′) (Listed i st′)
 
-    go : Ih → (q : StepRead) → readStep ts ≡ q → IfAnswered (byRead q lim st (λ ts′ st′. run k lim st′ ts′)) (Listed lim st ts)
-    go ih misread e = tt
-    go ih (read s ts′) e = form ih s ts′ e (wellFormed (lim .lastVariable) (st .highest) s) refl
+      form : Ih → (x : Step) (i : ℕ) → readStep (tokensFrom s at) ≡ read x (tokensFrom s i) → (b : Bool)
+          → wellFormed (lim .lastVariable) (st .highest) x ≡ b
+          → IfAnswered (provided b 14 n (then (perform lim st n x) (λ o. after n s i o (run k lim s i)))) (Listed at st)
+      form ih x i r false w = tt
+      form ih x i r true w = outcome-lists at i st x r w (run k lim s i) (ih i) (perform lim st n x) refl
 
--- one step of a run
-run-step : (k : ℕ) (lim : Limits) (st : State) (ts : Tokens) {ts′ : Tokens} {s : Step} → readStep ts ≡ read s ts′
-    → wellFormed (lim .lastVariable) (st .highest) s ≡ true
-    → run (suc k) lim st ts ≡ byOutcome (perform lim st s) (st .steps + 1) ts′ (λ st′. run k lim st′ ts′)
-unfolding run readStep
-run-step k lim st stop e w = impossible (cc)
-run-step k lim st bad e w = impossible (cc)
-run-step k lim st (num n us) e w = rw (e, w)
+      step : Ih → {p : Parsed Step} {q : StepRead} → SameStep s at p q → readStep (tokensFrom s at) ≡ q
+          → IfAnswered (formed lim st n p (λ x i. then (perform lim st n x) (λ o. after n s i o (run k lim s i)))) (Listed at st)
+      step ih neither-reads r = tt
+      step ih (both-read {x = x} {next = i} f g) r = form ih x i r (wellFormed (lim .lastVariable) (st .highest) x) refl
 
--- no step is left
-none-left : {ts : Tokens} → ReadAs ts [] → ts ≡ stop
-none-left done = refl
+      go : Ih → (b : Bool)
+          → IfAnswered (provided b 18 (st .steps)
+          (formed lim st n (stepAt s at) (λ x i. then (perform lim st n x) (λ o. after n s i o (run k lim s i))))) (Listed at st)
+      go ih false = tt
+      go ih true = step ih (step-same s at) refl
 
--- the other way: such a list is run, where k is at least the number of steps
-lists-run : (k : ℕ) (lim : Limits) (st : State) {ts : Tokens} {ss : List Step} → ReadAs ts ss → Taken lim st ss → length ss ≤ k
-    → run k lim st ts ≡ answered (st .steps + length ss)
-lists-run zero lim st (first r q) (ends w e) h = absurd (omega arith)
-lists-run zero lim st (first r q) (goes-on w e a) h = absurd (omega arith)
-lists-run (suc k) lim st (first {ts} r q) (ends w e) h = run-step k lim st ts r w ∙ rw (e, none-left q)
-lists-run (suc k) lim st (first {ts} {s} r q) (goes-on {st′} {ss} w e a) h =
-    let z = counted lim st s e in
-    run-step k lim st ts r w ∙ rw e (lists-run k lim st′ q a (omega arith) ∙ ap answered (omega arith))
+  -- where a step is read from the tokens, it is read at the offset
+  record ReadAt (at : ℕ) (x : Step) (ts : Tokens) : Type 0 where
+    next : ℕ
+    here : at < length s
+    got-at : stepAt s at ≡ got x next
+    left : ts ≡ tokensFrom s next
+
+  read-at : (at : ℕ) (x : Step) (ts : Tokens) → readStep (tokensFrom s at) ≡ read x ts → ReadAt at x ts
+  read-at at x ts e = go (step-same s at) refl e
+    where
+      go : {p : Parsed Step} {q : StepRead} → SameStep s at p q → stepAt s at ≡ p → q ≡ read x ts → ReadAt at x ts
+      go (both-read {x = y} {next = i} f g) r e =
+          let t : y ≡ x = cc in
+          record { next = i; here = omega arith; got-at = r ∙ ap (λ z. got z i) t; left = cc }
+      go neither-reads r e = impossible (cc)
+
+  -- one step of a run
+  run-step : (k at : ℕ) (st : State) (x : Step) {ts : Tokens} (r : ReadAt at x ts)
+      → wellFormed (lim .lastVariable) (st .highest) x ≡ true
+      → run (suc k) lim s at st
+      ≡ then (perform lim st (st .steps + 1) x) (λ o. after (st .steps + 1) s (r .next) o (run k lim s (r .next)))
+  unfolding run
+  run-step k at st x r w = rw (lt-ltb at (length s) (r .here), r .got-at, w)
+
+  -- no step is left
+  none-left : (at : ℕ) {ts : Tokens} → ts ≡ tokensFrom s at → ReadAs ts [] → length s ≤ at
+  none-left at e done = go (first-token s at) e
+    where
+      go : {p : Parsed ℕ} {ts : Tokens} → First s at p ts → stop ≡ ts → length s ≤ at
+      go (one f i) e = impossible (cc)
+      go (broken l) e = impossible (cc)
+      go (over l) e = l
+
+  -- the other way: such a list is run, where k is at least the number of steps
+  lists-run : (k at : ℕ) (st : State) {ts : Tokens} {ss : List Step} → ts ≡ tokensFrom s at → ReadAs ts ss → Taken lim st ss
+      → length ss ≤ k → run k lim s at st ≡ answered (st .steps + length ss)
+  lists-run zero at st t (first r q) (ends w e) h = absurd (omega arith)
+  lists-run zero at st t (first r q) (goes-on w e a) h = absurd (omega arith)
+  lists-run (suc k) at st t (first {ts′ = ts′} {s = x} r q) (ends w e) h =
+      let z = read-at at x ts′ (rw t at r) in
+      run-step k at st x z w ∙ rw (e, le-leb (length s) (z .next) (none-left (z .next) (z .left) q))
+  lists-run (suc k) at st t (first {ts′ = ts′} {s = x} r q) (goes-on {st′ = st′} {ss = ss} w e a) h =
+      let z = read-at at x ts′ (rw t at r) in
+      let c = counted lim st x e in
+      run-step k at st x z w ∙ rw e (lists-run k (z .next) st′ (z .left) q a (omega arith) ∙ ap answered (omega arith))
 
 -- demand 3's "exactly when", of the plain run
 pub plain-exact : (lim : Limits) (f : List (List ℕ)) (proof : List ℕ) (n : ℕ)
@@ -138,11 +172,10 @@ plain-exact lim f proof n = (to, from)
 
     to : plainRun lim f proof ≡ answered n → Steps
     to e =
-        let h : Listed lim (start f) (tokens proof) n = rw e at (run-lists (suc (length proof)) lim (start f) (tokens proof)) in
+        let h : Listed lim proof 0 (start f) n = rw e at (run-lists lim proof (length proof) 0 (start f)) in
         (h .0, proof-exact proof (h .0) .0 (h .1), h .2, omega (arith, h .3))
 
     from : Steps → plainRun lim f proof ≡ answered n
     from h =
         let k = proof-exact proof (h .0) .1 (h .1) in
-        lists-run (suc (length proof)) lim (start f) k (h .2) (omega (arith, few-steps (h .1)))
-        ∙ ap answered (omega (arith, h .3))
+        lists-run lim proof (length proof) 0 (start f) refl k (h .2) (few-steps (h .1)) ∙ ap answered (omega (arith, h .3))

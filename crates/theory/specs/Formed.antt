@@ -1,75 +1,68 @@
 -- A step is well formed exactly where the words of document 01 say so.
-use mathlib.Core.Path.{_≡_, refl, ap, _∙_}
-use mathlib.Core.Logic.{_↔_, ⊎-elim}
-use mathlib.Core.Bool.{Bool, true, false, cond, _&&_}
-use mathlib.Core.List.{List, [], _∷_}
-use mathlib.Core.List.{List·Memᴰ, List·Memᴰ·head, List·Memᴰ·tail, List·Memᴰ·cases-cons, List·Memᴰ·not-nil}
-use Prim.Native.Nat.{ℕ, _-_, _/_, _%_}
-use native.Mathlib.Omega.{arith}
+use mathlib.Core.Path.{_≡_, refl, sym, ap, _∙_}
+use mathlib.Core.Logic.{_↔_}
+use mathlib.Core.Bool.{Bool, true, false, not, _&&_, _||_}
+use mathlib.Core.List.{List, [], _∷_, map}
+use mathlib.Core.List.{List·Memᴰ, List·Memᴰ·head, List·Memᴰ·tail}
+use Prim.Native.Nat.{ℕ, _/_}
 use lib.Dec.{leb, ltb, eqb}
-use borrow.Author.Tests.{le-leb, lt-ltb, eq-eqb, ne-eqb, leb-true, ltb-true, eqb-true, eqb-false}
-use Rattle.scope.specs.Steps.{Step, add, delete}
-use Rattle.theory.specs.Marked.{Marks, allOpen, makeFalse, literalsOk, wellFormed}
-use Rattle.laws.specs.Booleans.{and-true}
-use Rattle.scope.specs.Refutation.{Fresh, Literals, no-literal, literal, WellFormed, add-form, delete-form}
+use borrow.Author.Tests.{le-leb, lt-ltb, eq-eqb, ne-eqb, leb-true, ltb-true}
+use Rattle.scope.specs.Kinds.{member}
+use Rattle.scope.specs.Steps.{Step, add, delete, literalsOk, wellFormed}
+use Rattle.laws.specs.Booleans.{never-true, and-true}
+use Rattle.scope.specs.Refutation.{Literals, no-literal, literal, WellFormed, add-form, delete-form}
 
--- the variables of some literals are open
-abbrev pub AllOpen : Marks → List ℕ → Type 0
-AllOpen m ls = (k : ℕ) → List·Memᴰ k ls → m (k / 2) ≡ 0
-
--- they are so where one literal l is set false exactly where they were so before and l is fresh
-open-after : (m : Marks) (l : ℕ) (ls : List ℕ) → AllOpen (makeFalse m l) ls → AllOpen m ls × Fresh l ls
-open-after m l ls h = (λ k i. go k (h k i) .0, λ k i. go k (h k i) .1)
+-- a variable is among those of some literals exactly where one of them has it
+member-variable : (v k : ℕ) (ls : List ℕ) → List·Memᴰ k ls → k / 2 ≡ v → member v (map (λ k. k / 2) ls) ≡ true
+unfolding member
+member-variable v k (l ∷ ls) (List·Memᴰ·head e) h = rw (eq-eqb v (l / 2) (sym h ∙ ap (λ j. j / 2) e))
+member-variable v k (l ∷ ls) (List·Memᴰ·tail i) h = or-also (eqb v (l / 2)) (member-variable v k ls i h)
   where
-    go : (k : ℕ) → cond (eqb (k / 2) (l / 2)) (2 - l % 2) (m (k / 2)) ≡ 0 → (m (k / 2) ≡ 0) × (k / 2 ≡ l / 2 → ⊥)
-    go k = test (eqb (k / 2) (l / 2)) refl
-      where
-        test : (b : Bool) → eqb (k / 2) (l / 2) ≡ b → cond b (2 - l % 2) (m (k / 2)) ≡ 0 → (m (k / 2) ≡ 0) × (k / 2 ≡ l / 2 → ⊥)
-        test true t e = absurd (omega arith)
-        test false t e = (e, eqb-false (k / 2) (l / 2) t)
+    or-also : {b : Bool} (a : Bool) → b ≡ true → (a || b) ≡ true
+    or-also true e = refl
+    or-also false e = e
 
-pub open-before : (m : Marks) (l : ℕ) (ls : List ℕ) → AllOpen m ls → Fresh l ls → AllOpen (makeFalse m l) ls
-open-before m l ls h f k i = rw (ne-eqb (k / 2) (l / 2) (f k i)) (h k i)
+fresh-variable : (v : ℕ) (ls : List ℕ) → ((k : ℕ) → List·Memᴰ k ls → k / 2 ≡ v → ⊥) → member v (map (λ k. k / 2) ls) ≡ false
+unfolding member
+fresh-variable v [] h = refl
+fresh-variable v (l ∷ ls) h =
+    rw (ne-eqb v (l / 2) (λ e. h l (List·Memᴰ·head refl) (sym e))) (fresh-variable v ls (λ k i. h k (List·Memᴰ·tail i)))
 
--- the literals of a clause whose variables are all open, both ways
-pub literals-formed : (last : ℕ) (m : Marks) (ls : List ℕ) → literalsOk last m ls ≡ true → Literals last ls × AllOpen m ls
+not-true : (b : Bool) → not b ≡ true → b ≡ false
+not-true true e = never-true e
+not-true false e = refl
+
+-- the literals of a clause in document 01's words, both ways
+pub literals-formed : (last : ℕ) (ls : List ℕ) → literalsOk last ls ≡ true → Literals last ls
 unfolding literalsOk
-literals-formed last m [] e = (no-literal, λ k i. absurd (List·Memᴰ·not-nil i))
-literals-formed last m (l ∷ ls) e =
+literals-formed last [] e = no-literal
+literals-formed last (l ∷ ls) e =
     let a = leb 2 l in
     let b = leb (l / 2) last in
-    let c = eqb (m (l / 2)) 0 in
-    let p = and-true (a && b && c) (literalsOk last (makeFalse m l) ls) e in
-    let q = and-true (a && b) c (p .0) in
+    let c = member (l / 2) (map (λ k. k / 2) ls) in
+    let p = and-true (a && b && not c) (literalsOk last ls) e in
+    let q = and-true (a && b) (not c) (p .0) in
     let r = and-true a b (q .0) in
-    let ih = literals-formed last (makeFalse m l) ls (p .1) in
-    let o = open-after m l ls (ih .1) in
-    let z : m (l / 2) ≡ 0 = eqb-true (m (l / 2)) 0 (q .1) in (
-      literal (leb-true 2 l (r .0)) (leb-true (l / 2) last (r .1)) (o .1) (ih .0),
-      λ k i. ⊎-elim (λ e. ap (λ j. m (j / 2)) e ∙ z) (o .0 k) (List·Memᴰ·cases-cons i),
-    )
+    let n = not-true c (q .1) in
+    literal (leb-true 2 l (r .0)) (leb-true (l / 2) last (r .1))
+    (λ k i e. never-true (sym n ∙ member-variable (l / 2) k ls i e)) (literals-formed last ls (p .1))
 
-pub formed-literals : (last : ℕ) (m : Marks) (ls : List ℕ) → Literals last ls → AllOpen m ls → literalsOk last m ls ≡ true
+pub formed-literals : {last : ℕ} {ls : List ℕ} → Literals last ls → literalsOk last ls ≡ true
 unfolding literalsOk
-formed-literals last m [] no-literal h = refl
-formed-literals last m (l ∷ ls) (literal a b f k) h =
-    rw (
-      le-leb 2 l a,
-      le-leb (l / 2) last b,
-      eq-eqb (m (l / 2)) 0 (h l (List·Memᴰ·head refl)),
-      formed-literals last (makeFalse m l) ls k (open-before m l ls (λ j i. h j (List·Memᴰ·tail i)) f),
-    )
+formed-literals no-literal = refl
+formed-literals {last} (literal {l} {ls} a b f k) =
+    rw (le-leb 2 l a, le-leb (l / 2) last b, fresh-variable (l / 2) ls f, formed-literals k)
 
 -- a step is well formed exactly where it is in words
 pub formed-exact : (last highest : ℕ) (s : Step) → (wellFormed last highest s ≡ true) ↔ WellFormed last highest s
 unfolding wellFormed
 formed-exact last highest (add id ls hs) = (to, from)
   where
-    to : (ltb highest id && literalsOk last allOpen ls) ≡ true → WellFormed last highest (add id ls hs)
+    to : (ltb highest id && literalsOk last ls) ≡ true → WellFormed last highest (add id ls hs)
     to e =
-        let p = and-true (ltb highest id) (literalsOk last allOpen ls) e in
-        add-form (ltb-true highest id (p .0)) (literals-formed last allOpen ls (p .1) .0)
+        let p = and-true (ltb highest id) (literalsOk last ls) e in
+        add-form (ltb-true highest id (p .0)) (literals-formed last ls (p .1))
 
-    from : WellFormed last highest (add id ls hs) → (ltb highest id && literalsOk last allOpen ls) ≡ true
-    from (add-form h k) = rw (lt-ltb highest id h, formed-literals last allOpen ls k (λ j i. refl))
+    from : WellFormed last highest (add id ls hs) → (ltb highest id && literalsOk last ls) ≡ true
+    from (add-form h k) = rw (lt-ltb highest id h, formed-literals k)
 formed-exact last highest (delete ids) = (λ e. delete-form, λ k. refl)

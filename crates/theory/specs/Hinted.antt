@@ -1,189 +1,197 @@
 -- A clause follows by its hints exactly where the words of document 01 say so.
 use mathlib.Core.Path.{_≡_, refl, sym, ap, _∙_}
-use mathlib.Core.Logic.{_↔_, _≢_, ⊎-elim}
-use mathlib.Core.Bool.{Bool, true, false, cond}
-use mathlib.Core.List.{List, [], _∷_, _++_, map, append-nil}
+use mathlib.Core.Logic.{_↔_, ⊎-elim}
+use mathlib.Core.Bool.{Bool, true, false, cond, _||_}
+use mathlib.Core.List.{List, [], _∷_, _++_, map}
 use mathlib.Core.List.{List·Memᴰ, List·Memᴰ·head, List·Memᴰ·tail, List·Memᴰ·cases-cons, List·Memᴰ·not-nil}
-use mathlib.Core.List.{Memᴰ·append-left, Memᴰ·append-right, List·Memᴰ·append-cases}
 use mathlib.Core.Option.{Option, none, some}
-use Prim.Native.Nat.{ℕ, _+_, _-_, _/_, _%_, _≤_}
+use Prim.Native.Nat.{ℕ, _-_, _%_}
 use native.Mathlib.Omega.{arith}
 use lib.Dec.{eqb}
-use borrow.Author.Tests.{eq-eqb, ne-eqb, eqb-true, eqb-false}
+use borrow.Author.Tests.{eq-eqb, eqb-true}
+use Rattle.scope.specs.Kinds.{member, outside}
 use Rattle.scope.specs.Cnf.{opp}
-use Rattle.theory.specs.Marked.{Marks, allOpen, makeTrue, makeFalse, allFalse, Standing, falsified, oneOpen, other, standing}
-use Rattle.scope.specs.Steps.{Live, follows}
-use Rattle.theory.specs.Marked.{hintOf, byStanding, byHint, ifLast, hintsShow}
-use Rattle.laws.specs.Booleans.{impossible}
-use Rattle.scope.specs.Refutation.{AllFalse, Open, Hinted, conflict, implied, Follows, Literals, no-literal, literal}
-use Rattle.theory.specs.Formed.{AllOpen, open-before}
-use Rattle.theory.specs.Standing.{False, Falses, OneOpen, standing-falsified, all-false, standing-open, open-standing}
+use Rattle.scope.specs.Steps.{Live, either, follows, notLive, breaks, byRest, hintsShow}
+use Rattle.scope.specs.Refutation.{AllFalse, Open, Hinted, conflict, implied, Follows}
+use Rattle.laws.specs.Booleans.{impossible, never-true}
 
--- the opposite literal has the same variable and the other last bit
-pub opp-variable : (l : ℕ) → opp l / 2 ≡ l / 2
-opp-variable l = omega arith
+pub opp-opp : (l : ℕ) → opp (opp l) ≡ l
+opp-opp l = let e : opp l % 2 ≡ 1 - l % 2 = omega arith in omega arith
 
-pub opp-bit : (l : ℕ) → opp l % 2 ≡ 1 - l % 2
-opp-bit l = omega arith
+opp-same : (l k : ℕ) → opp l ≡ opp k → l ≡ k
+opp-same l k e = sym (opp-opp l) ∙ ap (λ j. opp j) e ∙ opp-opp k
 
--- the marks of a list of literals that are set true
-record Marked (m : Marks) (τ : List ℕ) : Type 0 where
-  small : (v : ℕ) → m v ≤ 2
-  true-mark : (l : ℕ) → List·Memᴰ l τ → m (l / 2) ≡ 1 + l % 2
-  mark-true : (l : ℕ) → m (l / 2) ≡ 1 + l % 2 → List·Memᴰ l τ
+-- the literals φ are set false and τ true: each the opposites of the other
+record Opposites (φ τ : List ℕ) : Type 0 where
+  false-true : (l : ℕ) → member l φ ≡ true → List·Memᴰ (opp l) τ
+  true-false : (l : ℕ) → List·Memᴰ (opp l) τ → member l φ ≡ true
 
-module _ {m : Marks} {τ : List ℕ} (d : Marked m τ) where
-  -- a literal is false exactly where its opposite is set true
-  false-set : (l : ℕ) → False m l → List·Memᴰ (opp l) τ
-  false-set l f =
-      let a : m (l / 2) ≢ 0 = eqb-false (m (l / 2)) 0 (f .0) in
-      let b : m (l / 2) ≢ 1 + l % 2 = eqb-false (m (l / 2)) (1 + l % 2) (f .1) in
-      let n : m (l / 2) ≤ 2 = d .small (l / 2) in
-      let e : m (l / 2) ≡ 1 + opp l % 2 = omega (arith, opp-bit l) in
-      d .mark-true (opp l) (ap m (opp-variable l) ∙ e)
+or-also : {b : Bool} (a : Bool) → b ≡ true → (a || b) ≡ true
+or-also true e = refl
+or-also false e = e
 
-  set-false : (l : ℕ) → List·Memᴰ (opp l) τ → False m l
-  set-false l i =
-      let e : m (l / 2) ≡ 1 + opp l % 2 = ap m (sym (opp-variable l)) ∙ d .true-mark (opp l) i in
-      let b = opp-bit l in
-      (ne-eqb (m (l / 2)) 0 (λ z. omega arith), ne-eqb (m (l / 2)) (1 + l % 2) (λ z. omega arith))
-
-  falses-set : (c : List ℕ) → Falses m c → AllFalse τ c
-  falses-set c f l i = false-set l (f l i)
-
-  set-falses : (c : List ℕ) → AllFalse τ c → Falses m c
-  set-falses c f l i = set-false l (f l i)
-
-  -- and open exactly where neither is
-  open-unset : (k : ℕ) → eqb (m (k / 2)) 0 ≡ true → Open τ k
-  open-unset k e =
-      let z : m (k / 2) ≡ 0 = eqb-true (m (k / 2)) 0 e in
-      (λ i. let t = d .true-mark k i in omega arith, λ i. eqb-false (m (k / 2)) 0 (set-false k i .0) z)
-
-  unset-open : (k : ℕ) → Open τ k → eqb (m (k / 2)) 0 ≡ true
-  unset-open k o = go (eqb (m (k / 2)) 0) refl (eqb (m (k / 2)) (1 + k % 2)) refl
-    where
-      go : (x : Bool) → eqb (m (k / 2)) 0 ≡ x → (y : Bool) → eqb (m (k / 2)) (1 + k % 2) ≡ y → x ≡ true
-      go true e y f = refl
-      go false e true f = absurd (o .0 (d .mark-true k (eqb-true _ _ f)))
-      go false e false f = absurd (o .1 (false-set k (e, f)))
-
-  -- with an open literal set true
-  marked-true : (k : ℕ) → m (k / 2) ≡ 0 → Marked (makeTrue m k) (k ∷ τ)
-  marked-true k z =
-      record { small = low; true-mark = λ l i. ⊎-elim (same l) (set l) (List·Memᴰ·cases-cons i); mark-true = back }
-    where
-      low : (v : ℕ) → makeTrue m k v ≤ 2
-      low v = go (eqb v (k / 2))
-        where
-          go : (b : Bool) → cond b (1 + k % 2) (m v) ≤ 2
-          go true = omega arith
-          go false = d .small v
-
-      same : (l : ℕ) → l ≡ k → makeTrue m k (l / 2) ≡ 1 + l % 2
-      same l e = rw (e, eq-eqb (k / 2) (k / 2) refl)
-
-      set : (l : ℕ) → List·Memᴰ l τ → makeTrue m k (l / 2) ≡ 1 + l % 2
-      set l i =
-          let t = d .true-mark l i in
-          rw (ne-eqb (l / 2) (k / 2) (λ e. let y : m (l / 2) ≡ m (k / 2) = ap m e in omega arith)) t
-
-      back : (l : ℕ) → makeTrue m k (l / 2) ≡ 1 + l % 2 → List·Memᴰ l (k ∷ τ)
-      back l = go (eqb (l / 2) (k / 2)) refl
-        where
-          go : (b : Bool) → eqb (l / 2) (k / 2) ≡ b → cond b (1 + k % 2) (m (l / 2)) ≡ 1 + l % 2 → List·Memᴰ l (k ∷ τ)
-          go true t e =
-              let q : l / 2 ≡ k / 2 = eqb-true (l / 2) (k / 2) t in
-              List·Memᴰ·head {x = k} (omega arith)
-          go false t e = List·Memᴰ·tail (d .mark-true l e)
-
--- to set a literal false is to set its opposite true
-pub false-true : (m : Marks) (l : ℕ) → makeFalse m l ≡ makeTrue m (opp l)
-false-true m l =
-    let e : 1 + opp l % 2 ≡ 2 - l % 2 = omega (arith, opp-bit l) in
-    rw (opp-variable l, e)
-
--- where the hints show it, it follows
-hinted : {m : Marks} {τ : List ℕ} (L : Live) → Marked m τ → (hs : List ℕ) → hintsShow L m hs ≡ follows → Hinted L τ hs
-unfolding hintsShow
-hinted L d [] e = impossible (cc)
-hinted {m} {τ} L d (h ∷ hs) e = byLive (λ k z. hinted L (marked-true d k z) hs) (L h) refl e
+-- of a new clause
+clause-opposites : (c : List ℕ) (l : ℕ) → member l c ≡ true → List·Memᴰ (opp l) (map opp c)
+unfolding member
+clause-opposites [] l h = never-true h
+clause-opposites (k ∷ ks) l h = go (clause-opposites ks l) (eqb l k) refl h
   where
-    Ih : Type 0
-    Ih = (k : ℕ) → m (k / 2) ≡ 0 → hintsShow L (makeTrue m k) hs ≡ follows → Hinted L (k ∷ τ) hs
+    go : (member l ks ≡ true → List·Memᴰ (opp l) (map opp ks)) → (b : Bool) → eqb l k ≡ b → (b || member l ks) ≡ true
+        → List·Memᴰ (opp l) (map opp (k ∷ ks))
+    go ih true t h = List·Memᴰ·head (ap (λ j. opp j) (eqb-true l k t))
+    go ih false t h = List·Memᴰ·tail (ih h)
 
-    ending : (c : List ℕ) → L h ≡ some c → Falses m c → (hs : List ℕ) → ifLast hs ≡ follows → Hinted L τ (h ∷ hs)
-    ending c t f [] e = conflict t (falses-set d c f)
-    ending c t f (_ ∷ _) e = impossible (cc)
+opposites-clause : (c : List ℕ) (l : ℕ) → List·Memᴰ (opp l) (map opp c) → member l c ≡ true
+unfolding member
+opposites-clause [] l i = absurd (List·Memᴰ·not-nil i)
+opposites-clause (k ∷ ks) l (List·Memᴰ·head e) = rw (eq-eqb l k (opp-same l k e))
+opposites-clause (k ∷ ks) l (List·Memᴰ·tail i) = or-also (eqb l k) (opposites-clause ks l i)
 
-    one : Ih → (c : List ℕ) → L h ≡ some c → (k : ℕ) → OneOpen m c k → hintsShow L (makeTrue m k) hs ≡ follows
-        → Hinted L τ (h ∷ hs)
-    one ih c t k o e =
-        implied (t ∙ ap some (o .split)) (falses-set d (o .before) (o .false-before)) (open-unset d k (o .open-mark))
-        (falses-set d (o .behind) (o .false-behind)) (ih k (eqb-true _ _ (o .open-mark)) e)
-
-    stands : Ih → (c : List ℕ) → L h ≡ some c → (s : Standing) → standing m falsified c ≡ s
-        → byHint (byStanding s) (λ k. hintsShow L (makeTrue m k) hs) (ifLast hs) ≡ follows → Hinted L τ (h ∷ hs)
-    stands ih c t falsified f e = ending c t (standing-falsified m c falsified f .1) hs e
-    stands ih c t (oneOpen k) f e = one ih c t k (standing-open m c k f) e
-    stands ih c t other f e = impossible (cc)
-
-    byLive : Ih → (o : Option (List ℕ)) → L h ≡ o
-        → byHint (hintOf o m) (λ k. hintsShow L (makeTrue m k) hs) (ifLast hs) ≡ follows → Hinted L τ (h ∷ hs)
-    byLive ih none t e = impossible (cc)
-    byLive ih (some c) t e = stands ih c t (standing m falsified c) refl e
-
--- and where it follows, the hints show it
-hinting : {m : Marks} {τ : List ℕ} (L : Live) → Marked m τ → {hs : List ℕ} → Hinted L τ hs → hintsShow L m hs ≡ follows
-unfolding hintsShow
-hinting {m} L d (conflict {c = c} t f) = rw (t, all-false m falsified c (set-falses d c f))
-hinting {m} L d (implied {xs = xs} {ys = ys} {k = k} t f o g n) =
-    let p = unset-open d k o in
-    rw (t, open-standing m xs ys k (set-falses d xs f) p (set-falses d ys g)) (hinting L (marked-true d k (eqb-true _ _ p)) n)
-
--- The literals of a new clause set false, each of another variable.
--- what is set true matters, not in which order
-same-marks : {m : Marks} {τ τ′ : List ℕ} → ((l : ℕ) → List·Memᴰ l τ → List·Memᴰ l τ′)
-    → ((l : ℕ) → List·Memᴰ l τ′ → List·Memᴰ l τ) → Marked m τ → Marked m τ′
-same-marks f g d =
-    record { small = d .small; true-mark = λ l i. d .true-mark l (g l i); mark-true = λ l e. f l (d .mark-true l e) }
-
--- a member moved to the front, and back
-to-front : (xs ys : List ℕ) (y j : ℕ) → List·Memᴰ j (xs ++ y ∷ ys) → List·Memᴰ j (y ∷ (xs ++ ys))
-to-front xs ys y j i = ⊎-elim (λ a. List·Memᴰ·tail (Memᴰ·append-left ys a)) then (List·Memᴰ·append-cases xs i)
+-- with one more literal set true
+opposites-more : {φ τ : List ℕ} → Opposites φ τ → (k : ℕ) → Opposites (opp k ∷ φ) (k ∷ τ)
+unfolding member
+opposites-more {φ} {τ} d k = record { false-true = λ l. to l (eqb l (opp k)) refl; true-false = from }
   where
-    then : List·Memᴰ j (y ∷ ys) → List·Memᴰ j (y ∷ (xs ++ ys))
-    then (List·Memᴰ·head e) = List·Memᴰ·head e
-    then (List·Memᴰ·tail a) = List·Memᴰ·tail (Memᴰ·append-right xs a)
+    to : (l : ℕ) (b : Bool) → eqb l (opp k) ≡ b → (b || member l φ) ≡ true → List·Memᴰ (opp l) (k ∷ τ)
+    to l true t h = List·Memᴰ·head (ap (λ j. opp j) (eqb-true l (opp k) t) ∙ opp-opp k)
+    to l false t h = List·Memᴰ·tail (d .false-true l h)
 
-from-front : (xs ys : List ℕ) (y j : ℕ) → List·Memᴰ j (y ∷ (xs ++ ys)) → List·Memᴰ j (xs ++ y ∷ ys)
-from-front xs ys y j (List·Memᴰ·head e) = Memᴰ·append-right xs (List·Memᴰ·head e)
-from-front xs ys y j (List·Memᴰ·tail i) =
-    ⊎-elim (Memᴰ·append-left (y ∷ ys)) (λ a. Memᴰ·append-right xs (List·Memᴰ·tail a)) (List·Memᴰ·append-cases xs i)
+    from : (l : ℕ) → List·Memᴰ (opp l) (k ∷ τ) → (eqb l (opp k) || member l φ) ≡ true
+    from l (List·Memᴰ·head e) = rw (eq-eqb l (opp k) (sym (opp-opp l) ∙ ap (λ j. opp j) e))
+    from l (List·Memᴰ·tail i) = or-also (eqb l (opp k)) (d .true-false l i)
 
-marked-false : {last : ℕ} {m : Marks} {τ c : List ℕ} → Marked m τ → Literals last c → AllOpen m c
-    → Marked (allFalse m c) (map opp c ++ τ)
-unfolding allFalse
-marked-false d no-literal h = d
-marked-false {m = m} {τ = τ} d (literal {l} {ls} a b f k) h =
-    let z : m (opp l / 2) ≡ 0 = ap m (opp-variable l) ∙ h l (List·Memᴰ·head refl) in
-    let e : Marked (makeFalse m l) (opp l ∷ τ) = rw (false-true m l) (marked-true d (opp l) z) in
-    same-marks (to-front (map opp ls) τ (opp l)) (from-front (map opp ls) τ (opp l))
-    (marked-false e k (open-before m l ls (λ j i. h j (List·Memᴰ·tail i)) f))
+-- A clause by its literals that are not false: none of them,
+abbrev All : List ℕ → List ℕ → Type 0
+All φ c = (l : ℕ) → List·Memᴰ l c → member l φ ≡ true
 
--- the marks that the literals of a new clause leave
-marked-clause : {last : ℕ} {c : List ℕ} → Literals last c → Marked (allFalse allOpen c) (map opp c)
-marked-clause {c = c} k = rw (append-nil (map opp c)) at (marked-false none-marked k (λ j i. refl))
+all-cons : (φ : List ℕ) (l : ℕ) (ls : List ℕ) → member l φ ≡ true → All φ ls → All φ (l ∷ ls)
+all-cons φ l ls t h k i = ⊎-elim (λ e. ap (λ j. member j φ) e ∙ t) (h k) (List·Memᴰ·cases-cons i)
+
+none-left : (φ c : List ℕ) → outside φ c ≡ [] → All φ c
+unfolding outside
+none-left φ [] e = λ l i. absurd (List·Memᴰ·not-nil i)
+none-left φ (k ∷ ks) e = go (none-left φ ks) (member k φ) refl e
   where
-    none-marked : Marked allOpen []
-    none-marked =
+    go : (outside φ ks ≡ [] → All φ ks) → (b : Bool) → member k φ ≡ b → cond b (outside φ ks) (k ∷ outside φ ks) ≡ [] → All φ (k ∷ ks)
+    go ih true t e = all-cons φ k ks t (ih e)
+    go ih false t e = impossible (cc)
+
+left-none : (φ c : List ℕ) → All φ c → outside φ c ≡ []
+unfolding outside
+left-none φ [] h = refl
+left-none φ (k ∷ ks) h = rw (h k (List·Memᴰ·head refl)) (left-none φ ks (λ l i. h l (List·Memᴰ·tail i)))
+
+-- and exactly one
+pub record OneLeft (φ c : List ℕ) (l : ℕ) : Type 0 where
+  pub before : List ℕ
+  pub behind : List ℕ
+  pub split : c ≡ before ++ l ∷ behind
+  pub left : member l φ ≡ false
+  pub false-before : All φ before
+  pub false-behind : All φ behind
+
+pub one-left : (φ c : List ℕ) (l : ℕ) → outside φ c ≡ l ∷ [] → OneLeft φ c l
+unfolding outside
+one-left φ [] l e = impossible (cc)
+one-left φ (k ∷ ks) l e = go (one-left φ ks l) (member k φ) refl e
+  where
+    go : (outside φ ks ≡ l ∷ [] → OneLeft φ ks l) → (b : Bool) → member k φ ≡ b
+        → cond b (outside φ ks) (k ∷ outside φ ks) ≡ l ∷ [] → OneLeft φ (k ∷ ks) l
+    go ih true t e =
+        let h = ih e in
         record {
-          small = λ v. omega arith;
-          true-mark = λ l i. absurd (List·Memᴰ·not-nil i);
-          mark-true = λ l e. absurd (omega arith);
+          before = k ∷ h .before;
+          behind = h .behind;
+          split = ap (_∷_ k) (h .split);
+          left = h .left;
+          false-before = all-cons φ k (h .before) t (h .false-before);
+          false-behind = h .false-behind;
+        }
+    go ih false t e =
+        let p : k ≡ l = cc in
+        let q : outside φ ks ≡ [] = cc in
+        record {
+          before = [];
+          behind = ks;
+          split = ap (λ j. j ∷ ks) p;
+          left = rw p at t;
+          false-before = λ j i. absurd (List·Memᴰ·not-nil i);
+          false-behind = none-left φ ks q;
         }
 
--- the hints show that a well-formed clause follows exactly where it does
-pub hints-exact : {last : ℕ} (L : Live) (c hs : List ℕ) → Literals last c
-    → (hintsShow L (allFalse allOpen c) hs ≡ follows) ↔ Follows L c hs
-hints-exact L c hs k = (hinted L (marked-clause k) hs, hinting L (marked-clause k))
+left-one : (φ xs : List ℕ) (k : ℕ) (ys : List ℕ) → All φ xs → member k φ ≡ false → All φ ys → outside φ (xs ++ k ∷ ys) ≡ k ∷ []
+unfolding outside
+left-one φ [] k ys h o g = rw o (ap (_∷_ k) (left-none φ ys g))
+left-one φ (x ∷ xs) k ys h o g =
+    rw (h x (List·Memᴰ·head refl)) (left-one φ xs k ys (λ l i. h l (List·Memᴰ·tail i)) o g)
+
+module _ {φ τ : List ℕ} (d : Opposites φ τ) where
+  all-false : (c : List ℕ) → All φ c → AllFalse τ c
+  all-false c h l i = d .false-true l (h l i)
+
+  false-all : (c : List ℕ) → AllFalse τ c → All φ c
+  false-all c h l i = d .true-false l (h l i)
+
+  -- open is what is neither false nor true
+  is-open : (k : ℕ) → member k φ ≡ false → member (opp k) φ ≡ false → Open τ k
+  is-open k e f = (
+    λ i. never-true (sym f ∙ d .true-false (opp k) (rw (opp-opp k) i)),
+    λ i. never-true (sym e ∙ d .true-false k i),
+  )
+
+  open-is : (k : ℕ) → Open τ k → (member k φ ≡ false) × (member (opp k) φ ≡ false)
+  open-is k o = (
+    go (member k φ) (λ t. o .1 (d .false-true k t)),
+    go (member (opp k) φ) (λ t. o .0 (rw (opp-opp k) at (d .false-true (opp k) t))),
+  )
+    where
+      go : (b : Bool) → (b ≡ true → ⊥) → b ≡ false
+      go true h = absurd (h refl)
+      go false h = refl
+
+-- where the hints show it, it follows
+hinted : {φ τ : List ℕ} (L : Live) → Opposites φ τ → (hs : List ℕ) → hintsShow L φ hs ≡ follows → Hinted L τ hs
+unfolding hintsShow
+hinted L d [] e = impossible (cc)
+hinted {φ} {τ} L d (h ∷ hs) e = byLive (λ k. hinted L (opposites-more d k) hs) (L h) refl e
+  where
+    Ih : Type 0
+    Ih = (k : ℕ) → hintsShow L (opp k ∷ φ) hs ≡ follows → Hinted L (k ∷ τ) hs
+
+    ending : (c : List ℕ) → L h ≡ some c → All φ c → (hs : List ℕ) → byRest φ [] hs (λ φ′. hintsShow L φ′ hs) ≡ follows
+        → Hinted L τ (h ∷ hs)
+    ending c t f [] e = conflict t (all-false d c f)
+    ending c t f (_ ∷ _) e = impossible (cc)
+
+    one : Ih → (c : List ℕ) → L h ≡ some c → (k : ℕ) → OneLeft φ c k → (b : Bool) → member (opp k) φ ≡ b
+        → cond b breaks (hintsShow L (opp k ∷ φ) hs) ≡ follows → Hinted L τ (h ∷ hs)
+    one ih c t k o true m e = impossible (cc)
+    one ih c t k o false m e =
+        implied (t ∙ ap some (o .split)) (all-false d (o .before) (o .false-before)) (is-open d k (o .left) m)
+        (all-false d (o .behind) (o .false-behind)) (ih k e)
+
+    rest : Ih → (c : List ℕ) → L h ≡ some c → (r : List ℕ) → outside φ c ≡ r
+        → byRest φ r hs (λ φ′. hintsShow L φ′ hs) ≡ follows → Hinted L τ (h ∷ hs)
+    rest ih c t [] q e = ending c t (none-left φ c q) hs e
+    rest ih c t (k ∷ []) q e = one ih c t k (one-left φ c k q) (member (opp k) φ) refl e
+    rest ih c t (k ∷ j ∷ ls) q e = impossible (cc)
+
+    byLive : Ih → (o : Option (List ℕ)) → L h ≡ o
+        → either o notLive (λ c. byRest φ (outside φ c) hs (λ φ′. hintsShow L φ′ hs)) ≡ follows → Hinted L τ (h ∷ hs)
+    byLive ih none t e = impossible (cc)
+    byLive ih (some c) t e = rest ih c t (outside φ c) refl e
+
+-- and where it follows, the hints show it
+hinting : {φ τ : List ℕ} (L : Live) → Opposites φ τ → {hs : List ℕ} → Hinted L τ hs → hintsShow L φ hs ≡ follows
+unfolding hintsShow
+hinting {φ} L d (conflict {c = c} t f) = rw (t, left-none φ c (false-all d c f))
+hinting {φ} L d (implied {xs = xs} {ys = ys} {k = k} t f o g n) =
+    let p = open-is d k o in
+    rw (t, left-one φ xs k ys (false-all d xs f) (p .0) (false-all d ys g), p .1) (hinting L (opposites-more d k) n)
+
+-- the hints show that a clause follows exactly where it does
+pub hints-exact : (L : Live) (c hs : List ℕ) → (hintsShow L c hs ≡ follows) ↔ Follows L c hs
+hints-exact L c hs = (hinted L d hs, hinting L d)
+  where
+    d : Opposites c (map opp c)
+    d = record { false-true = clause-opposites c; true-false = opposites-clause c }

@@ -11,8 +11,7 @@ use lib.ListN.{length, getD, getElem?, length-append}
 use borrow.Author.Tests.{ltb-true, ltb-false}
 use Rattle.scope.specs.Parsed.{answered}
 use Rattle.scope.specs.Formula.{words, mostVariables}
-use Rattle.scope.specs.PlainRun.{State, byId, start}
-use Rattle.theory.specs.MarkedRun.{plainRun}
+use Rattle.scope.specs.PlainRun.{State, byId, start, plainRun}
 use Rattle.scope.specs.Operations.{Lent, limitsOf}
 use Rattle.scope.specs.Refutation.{Starts, Refuted}
 use Rattle.theory.specs.Exact.{plain-exact}

@@ -1,79 +1,29 @@
--- Literals set false by a list and by marks: a step is well formed, and a clause follows by its hints, by both alike.
+-- A clause follows by its hints with marks exactly where it does with a list of the literals that are set false.
 use mathlib.Core.Path.{_≡_, refl, sym, ap, _∙_}
-use mathlib.Core.Bool.{Bool, true, false, not, cond, _&&_, _||_}
-use mathlib.Core.List.{List, [], _∷_, _++_, map, append-nil}
-use mathlib.Core.List.{List·Memᴰ, List·Memᴰ·head, List·Memᴰ·tail}
+use mathlib.Core.Bool.{Bool, true, false, cond, _||_}
+use mathlib.Core.List.{List, [], _∷_, _++_, append-nil}
+use mathlib.Core.List.{List·Memᴰ·head, List·Memᴰ·tail}
 use mathlib.Core.Option.{Option, none, some}
 use Prim.Native.Nat.{ℕ, _+_, _-_, _/_, _%_, _≤_}
 use native.Mathlib.Omega.{arith}
-use lib.Dec.{leb, eqb}
-use borrow.Author.Tests.{le-leb, leb-true, eq-eqb, ne-eqb, eqb-true, eqb-false}
+use lib.Dec.{eqb}
+use borrow.Author.Tests.{eq-eqb, ne-eqb, eqb-true, eqb-false}
 use Rattle.scope.specs.Cnf.{opp}
 use Rattle.scope.specs.Kinds.{member, outside}
-use Rattle.scope.specs.Steps.{Step, add, delete, literalsOk, wellFormed, Live, either, Shown, notLive, byRest, hintsShow}
+use Rattle.scope.specs.Steps.{Live, either, Shown, notLive, breaks, byRest, hintsShow}
 use Rattle.scope.specs.Refutation.{Literals, no-literal, literal}
-use Rattle.laws.specs.Booleans.{bool-ext, never-true, and-true}
+use Rattle.laws.specs.Booleans.{never-true}
 use Rattle.theory.specs.Marked.{Marks, allOpen, makeTrue, makeFalse, allFalse, Standing, falsified, oneOpen, other, alsoLiteral, standing}
-use Rattle.theory.specs.Marked.{byStanding, hintOf, byHint, ifLast}
-use Rattle.theory.specs.Marked.{literalsOk as markedOk, wellFormed as markedFormed, hintsShow as markedShow}
-use Rattle.theory.specs.Standing.{other-stays, standing-open}
-use Rattle.theory.specs.Formed.{AllOpen, open-before, literals-formed, formed-literals}
-use Rattle.theory.specs.Hinted.{opp-variable, opp-bit, false-true}
+use Rattle.theory.specs.Marked.{byStanding, hintOf, byHint, ifLast, hintsShow as markedShow}
+use Rattle.theory.specs.Hinted.{opp-opp, one-left}
+use Rattle.theory.specs.SameForm.{AllOpen, open-before}
 
--- Literals of a clause.
--- a variable is among those of some literals exactly where one of them has it
-member-variable : (v k : ℕ) (ls : List ℕ) → List·Memᴰ k ls → k / 2 ≡ v → member v (map (λ k. k / 2) ls) ≡ true
-unfolding member
-member-variable v k (l ∷ ls) (List·Memᴰ·head e) h = rw (eq-eqb v (l / 2) (sym h ∙ ap (λ j. j / 2) e))
-member-variable v k (l ∷ ls) (List·Memᴰ·tail i) h = or-also (eqb v (l / 2)) (member-variable v k ls i h)
-  where
-    or-also : {b : Bool} (a : Bool) → b ≡ true → (a || b) ≡ true
-    or-also true e = refl
-    or-also false e = e
+-- the opposite literal has the same variable and the other last bit.
+opp-variable : (l : ℕ) → opp l / 2 ≡ l / 2
+opp-variable l = omega arith
 
-fresh-variable : (v : ℕ) (ls : List ℕ) → ((k : ℕ) → List·Memᴰ k ls → k / 2 ≡ v → ⊥) → member v (map (λ k. k / 2) ls) ≡ false
-unfolding member
-fresh-variable v [] h = refl
-fresh-variable v (l ∷ ls) h =
-    rw (ne-eqb v (l / 2) (λ e. h l (List·Memᴰ·head refl) (sym e))) (fresh-variable v ls (λ k i. h k (List·Memᴰ·tail i)))
-
-not-true : (b : Bool) → not b ≡ true → b ≡ false
-not-true true e = never-true e
-not-true false e = refl
-
--- the literals of a clause in document 01's words, both ways
-literals-listed : (last : ℕ) (ls : List ℕ) → literalsOk last ls ≡ true → Literals last ls
-unfolding literalsOk
-literals-listed last [] e = no-literal
-literals-listed last (l ∷ ls) e =
-    let a = leb 2 l in
-    let b = leb (l / 2) last in
-    let c = member (l / 2) (map (λ k. k / 2) ls) in
-    let p = and-true (a && b && not c) (literalsOk last ls) e in
-    let q = and-true (a && b) (not c) (p .0) in
-    let r = and-true a b (q .0) in
-    let n = not-true c (q .1) in
-    literal (leb-true 2 l (r .0)) (leb-true (l / 2) last (r .1))
-    (λ k i e. never-true (sym n ∙ member-variable (l / 2) k ls i e)) (literals-listed last ls (p .1))
-
-listed-literals : {last : ℕ} {ls : List ℕ} → Literals last ls → literalsOk last ls ≡ true
-unfolding literalsOk
-listed-literals no-literal = refl
-listed-literals {last} (literal {l} {ls} a b f k) =
-    rw (le-leb 2 l a, le-leb (l / 2) last b, fresh-variable (l / 2) ls f, listed-literals k)
-
-literals-same : (last : ℕ) (ls : List ℕ) → literalsOk last ls ≡ markedOk last allOpen ls
-literals-same last ls =
-    bool-ext (literalsOk last ls) (markedOk last allOpen ls) (
-      λ e. formed-literals last allOpen ls (literals-listed last ls e) (λ k i. refl),
-      λ e. listed-literals (literals-formed last allOpen ls e .0),
-    )
-
--- a step is well formed by the marks exactly where it is
-pub formed-same : (last highest : ℕ) (s : Step) → wellFormed last highest s ≡ markedFormed last highest s
-unfolding wellFormed markedFormed
-formed-same last highest (add id ls hs) = rw (literals-same last ls)
-formed-same last highest (delete ids) = refl
+opp-bit : (l : ℕ) → opp l % 2 ≡ 1 - l % 2
+opp-bit l = omega arith
 
 -- the marks of some literals that are set false
 record Marking (m : Marks) (φ : List ℕ) : Type 0 where
@@ -104,6 +54,18 @@ open-first φ l (k ∷ r) e = refl
 true-first : (φ : List ℕ) (l : ℕ) (r : List ℕ) → member (opp l) φ ≡ true → other ≡ stood φ (l ∷ r)
 true-first φ l [] e = rw e
 true-first φ l (k ∷ r) e = refl
+
+-- a clause that stands otherwise stays so
+other-stays : (m : Marks) (c : List ℕ) → standing m other c ≡ other
+unfolding standing
+other-stays m [] = refl
+other-stays m (l ∷ ls) =
+    ap (λ s. standing m s ls) (go (eqb (m (l / 2)) 0) (eqb (m (l / 2)) (1 + l % 2))) ∙ other-stays m ls
+  where
+    go : (a b : Bool) → cond a other (cond b other other) ≡ other
+    go true b = refl
+    go false true = refl
+    go false false = refl
 
 module _ {m : Marks} {φ : List ℕ} (d : Marking m φ) where
   set-true : (l : ℕ) → member (opp l) φ ≡ eqb (m (l / 2)) (1 + l % 2)
@@ -183,9 +145,11 @@ module _ {m : Marks} {φ : List ℕ} (d : Marking m φ) where
           let n = eqb-false (l / 2) (k / 2) t in
           rw (ne-eqb l (opp k) (λ e. n (ap (λ j. j / 2) e ∙ opp-variable k))) (d .set-false l)
 
--- and with one set false
-opp-opp : (l : ℕ) → opp (opp l) ≡ l
-opp-opp l = omega (arith, opp-bit l)
+-- and with one set false, which is to set its opposite true
+false-true : (m : Marks) (l : ℕ) → makeFalse m l ≡ makeTrue m (opp l)
+false-true m l =
+    let e : 1 + opp l % 2 ≡ 2 - l % 2 = omega (arith, opp-bit l) in
+    rw (opp-variable l, e)
 
 marking-false : {m : Marks} {φ : List ℕ} → Marking m φ → (l : ℕ) → m (l / 2) ≡ 0 → Marking (makeFalse m l) (l ∷ φ)
 marking-false {m} {φ} d l z =
@@ -223,19 +187,28 @@ none-marked = record { small = λ v. omega arith; set-false = λ l. sym (ne-eqb 
 marking-new : {last : ℕ} {c : List ℕ} → Literals last c → Marking (allFalse allOpen c) c
 marking-new {c = c} k = rw (append-nil c) at (marking-clause none-marked k (λ j i. refl))
 
+-- an open literal has no mark
+open-mark : {m : Marks} {φ : List ℕ} → Marking m φ → (l : ℕ) → member l φ ≡ false → member (opp l) φ ≡ false → m (l / 2) ≡ 0
+open-mark {m} {φ} d l e f = go (how d l)
+  where
+    go : How m φ l → m (l / 2) ≡ 0
+    go (is-open a b c) = eqb-true (m (l / 2)) 0 a
+    go (is-true a b c t) = never-true (sym f ∙ t)
+    go (is-false a b t) = never-true (sym e ∙ t)
+
 -- what the hints show by the list and by its marks
-by-rest : (m : Marks) (φ : List ℕ) (r hs : List ℕ) (f : List ℕ → Shown) (g : ℕ → Shown)
-    → ((l : ℕ) → stood φ r ≡ oneOpen l → f (opp l ∷ φ) ≡ g l)
+by-rest : (φ r hs : List ℕ) (f : List ℕ → Shown) (g : ℕ → Shown)
+    → ((l : ℕ) → r ≡ l ∷ [] → member (opp l) φ ≡ false → f (opp l ∷ φ) ≡ g l)
     → byRest φ r hs f ≡ byHint (byStanding (stood φ r)) g (ifLast hs)
-by-rest m φ [] [] f g h = refl
-by-rest m φ [] (k ∷ hs) f g h = refl
-by-rest m φ (l ∷ []) hs f g h = go (member (opp l) φ) refl
+by-rest φ [] [] f g h = refl
+by-rest φ [] (k ∷ hs) f g h = refl
+by-rest φ (l ∷ []) hs f g h = go (member (opp l) φ) refl
   where
     go : (b : Bool) → member (opp l) φ ≡ b
-        → byRest φ (l ∷ []) hs f ≡ byHint (byStanding (cond b other (oneOpen l))) g (ifLast hs)
-    go true e = rw e
-    go false e = rw e (h l (rw e))
-by-rest m φ (l ∷ k ∷ ls) hs f g h = refl
+        → cond b breaks (f (opp l ∷ φ)) ≡ byHint (byStanding (cond b other (oneOpen l))) g (ifLast hs)
+    go true e = refl
+    go false e = h l refl e
+by-rest φ (l ∷ k ∷ ls) hs f g h = refl
 
 hints-marked : {m : Marks} {φ : List ℕ} (L : Live) → Marking m φ → (hs : List ℕ) → hintsShow L φ hs ≡ markedShow L m hs
 unfolding hintsShow markedShow
@@ -249,13 +222,9 @@ hints-marked {m} {φ} L d (h ∷ hs) = go (λ l z. hints-marked L (marking-true 
         ≡ byHint (hintOf o m) (λ l. markedShow L (makeTrue m l) hs) (ifLast hs)
     go ih none = refl
     go ih (some c) =
-        let e = standing-all d c in
-        by-rest m φ (outside φ c) hs (λ φ′. hintsShow L φ′ hs) (λ l. markedShow L (makeTrue m l) hs)
-        (λ l t. ih l (open-mark (e ∙ t)))
-        ∙ rw e
-      where
-        open-mark : {l : ℕ} → standing m falsified c ≡ oneOpen l → m (l / 2) ≡ 0
-        open-mark {l} t = eqb-true (m (l / 2)) 0 (standing-open m c l t .open-mark)
+        by-rest φ (outside φ c) hs (λ φ′. hintsShow L φ′ hs) (λ l. markedShow L (makeTrue m l) hs)
+        (λ l q f. ih l (open-mark d l (one-left φ c l q .left) f))
+        ∙ rw (standing-all d c)
 
 -- a well-formed clause follows by the marks exactly where it does
 pub hints-same : {last : ℕ} (L : Live) (c hs : List ℕ) → Literals last c

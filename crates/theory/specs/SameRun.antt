@@ -17,7 +17,8 @@ use Rattle.theory.specs.MarkedRun.{Outcome, next, empty, refused, byDele
 use Rattle.theory.specs.MarkedRun.{byShown as markedShown, perform as markedPerform, run as markedRun, plainRun as markedPlain}
 use Rattle.theory.specs.Tokens.{tokens-stop}
 use Rattle.theory.specs.Formed.{formed-exact}
-use Rattle.theory.specs.SameHints.{formed-same, hints-same}
+use Rattle.theory.specs.SameForm.{formed-same}
+use Rattle.theory.specs.SameHints.{hints-same}
 use Rattle.theory.specs.SameSteps.{First, one, broken, over, first-token, SameStep, both-read, neither-reads, step-same, tokensFrom}
 use Rattle.scope.specs.Refutation.{WellFormed, add-form}
 
@@ -106,7 +107,8 @@ run-same (suc k) (suc j) lim s at st h l = go (run-same k j lim s) (ltb at (leng
         ≡ byForm b lim st x (tokensFrom s i) (λ st′. markedRun j lim st′ (tokensFrom s i))
     form ih i f g x false e = refl
     form ih i f g x true e =
-        rw (perform-same lim st n x (formed-exact (lim .lastVariable) (st .highest) x .0 e))
+        rw (perform-same lim st n x (formed-exact (lim .lastVariable) (st .highest) x .0
+        (formed-same (lim .lastVariable) (st .highest) x ∙ e)))
         (outcome ih i f g (markedPerform lim st x))
 
     step : Ih → {p : Parsed Step} {q : StepRead} → SameStep s at p q

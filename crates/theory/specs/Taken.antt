@@ -8,15 +8,14 @@ use Prim.Native.Nat.{ℕ, _+_, _≤_}
 use lib.Dec.{leb, eqb}
 use lib.ListN.{length}
 use borrow.Author.Tests.{eq-eqb, ne-eqb, eqb-true, eqb-false, le-leb, leb-true}
-use Rattle.scope.specs.Steps.{Step, add, delete, put, Live, Shown, follows, notLive, breaks, either, deleted}
-use Rattle.theory.specs.Marked.{allOpen, allFalse, hintsShow}
-use Rattle.scope.specs.PlainRun.{State, Limits, withClause, withLive, fits}
-use Rattle.theory.specs.MarkedRun.{next, empty, refused, byShown, byDeleted, perform}
+use Rattle.scope.specs.Parsed.{answered, refusal, provided}
+use Rattle.scope.specs.Steps.{Step, add, delete, put, Live, Shown, follows, notLive, breaks, either, hintsShow, deleted}
+use Rattle.scope.specs.PlainRun.{State, Limits, withClause, withLive, fits, byShown, perform}
 use Rattle.theory.specs.Performed.{Taken, ends, goes-on}
 use Rattle.laws.specs.Booleans.{impossible, and-true}
 use Rattle.theory.specs.Formed.{formed-exact}
 use Rattle.theory.specs.Hinted.{hints-exact}
-use Rattle.scope.specs.Refutation.{Literals, WellFormed, add-form, delete-form, Follows, Differs, Deletes, no-id, one-id}
+use Rattle.scope.specs.Refutation.{Literals, WellFormed, add-form, Follows, Differs, Deletes, no-id, one-id}
 use Rattle.scope.specs.Refutation.{Adds, Leaves, added, dropped, Refutes, final, onward}
 
 -- the live clauses with another value at one id
@@ -57,6 +56,9 @@ pub same-state : {s t : State} → s .live ≡ t .live → s .highest ≡ t .hig
 same-state a b c d e = λ i. record { live = a i; highest = b i; wordsUsed = c i; rowsUsed = d i; steps = e i }
 
 module _ (lim : Limits) (st : State) where
+  abbrev n : ℕ
+  n = st .steps + 1
+
   -- a clause that follows and fits
   added-in-words : (id : ℕ) (c hs : List ℕ) → Follows (st .live) c hs → fits lim st c ≡ true
       → Adds lim st id c hs (withClause st id c)
@@ -86,20 +88,20 @@ module _ (lim : Limits) (st : State) where
       rw (le-leb (st .wordsUsed + length c) (lim .wordsLent) w, le-leb (st .rowsUsed + 1) (lim .rowsLent) r)
 
   -- a step that leaves a state
-  next-in-words : (s : Step) (st′ : State) → WellFormed (lim .lastVariable) (st .highest) s → perform lim st s ≡ next st′
-      → Leaves lim st s st′
+  next-in-words : (s : Step) (st′ : State) → WellFormed (lim .lastVariable) (st .highest) s
+      → perform lim st n s ≡ answered (some st′) → Leaves lim st s st′
   unfolding perform
-  next-in-words (add id c hs) st′ (add-form h k) e =
-      go (hintsShow (st .live) (allFalse allOpen c) hs) c (hints-exact (st .live) c hs k .0) e
+  next-in-words (add id c hs) st′ (add-form h k) e = go (hintsShow (st .live) c hs) c (hints-exact (st .live) c hs .0) e
     where
       fit : (l : ℕ) (ls : List ℕ) → Follows (st .live) (l ∷ ls) hs → (b : Bool) → fits lim st (l ∷ ls) ≡ b
-          → cond b (next (withClause st id (l ∷ ls))) (refused 17) ≡ next st′ → Leaves lim st (add id (l ∷ ls) hs) st′
+          → provided b 17 n (answered (some (withClause st id (l ∷ ls)))) ≡ answered (some st′)
+          → Leaves lim st (add id (l ∷ ls) hs) st′
       fit l ls f true t e =
           let p : withClause st id (l ∷ ls) ≡ st′ = cc in
           rw (← p) (added (added-in-words id (l ∷ ls) hs f t))
       fit l ls f false t e = impossible (cc)
 
-      go : (w : Shown) (c : List ℕ) → (w ≡ follows → Follows (st .live) c hs) → byShown w lim st id c ≡ next st′
+      go : (w : Shown) (c : List ℕ) → (w ≡ follows → Follows (st .live) c hs) → byShown w lim st n id c ≡ answered (some st′)
           → Leaves lim st (add id c hs) st′
       go notLive c f e = impossible (cc)
       go breaks c f e = impossible (cc)
@@ -107,50 +109,49 @@ module _ (lim : Limits) (st : State) where
       go follows (l ∷ ls) f e = fit l ls (f refl) (fits lim st (l ∷ ls)) refl e
   next-in-words (delete ids) st′ k e = go (deleted (st .live) ids) refl e
     where
-      go : (o : Option Live) → deleted (st .live) ids ≡ o → byDeleted st o ≡ next st′ → Leaves lim st (delete ids) st′
+      go : (o : Option Live) → deleted (st .live) ids ≡ o
+          → either o (refusal 15 n) (λ L. answered (some (withLive st L))) ≡ answered (some st′) → Leaves lim st (delete ids) st′
       go none t e = impossible (cc)
       go (some L) t e =
           let p : withLive st L ≡ st′ = cc in
           let d = deleted-in-words (st .live) ids L t in
           rw (← p) (dropped (record { live = d; highest = refl; words = refl; rows = refl; steps = refl }))
 
-  words-next : {s : Step} {st′ : State} → WellFormed (lim .lastVariable) (st .highest) s → Leaves lim st s st′
-      → perform lim st s ≡ next st′
+  words-next : {s : Step} {st′ : State} → Leaves lim st s st′ → perform lim st n s ≡ answered (some st′)
   unfolding perform
-  words-next (add-form h k) (added {id} {l} {ls} {hs} {st′} a) =
-      rw (hints-exact (st .live) (l ∷ ls) hs k .1 (a .follows), words-fit id (l ∷ ls) hs st′ a)
-      (ap next (words-added id (l ∷ ls) hs st′ a))
-  words-next delete-form (dropped {ids} {st′} d) =
+  words-next (added {id} {l} {ls} {hs} {st′} a) =
+      rw (hints-exact (st .live) (l ∷ ls) hs .1 (a .follows), words-fit id (l ∷ ls) hs st′ a)
+      (ap (λ x. answered (some x)) (words-added id (l ∷ ls) hs st′ a))
+  words-next (dropped {ids} {st′} d) =
       rw (words-deleted (d .live))
-      (ap next (same-state refl (sym (d .highest)) (sym (d .words)) (sym (d .rows)) (sym (d .steps))))
+      (ap (λ x. answered (some x)) (same-state refl (sym (d .highest)) (sym (d .words)) (sym (d .rows)) (sym (d .steps))))
 
   -- a step that adds the empty clause
-  empty-in-words : (s : Step) → WellFormed (lim .lastVariable) (st .highest) s → perform lim st s ≡ empty
+  empty-in-words : (s : Step) → WellFormed (lim .lastVariable) (st .highest) s → perform lim st n s ≡ answered none
       → Refutes lim st (s ∷ [])
   unfolding perform
-  empty-in-words (add id c hs) (add-form h k) e =
-      go (hintsShow (st .live) (allFalse allOpen c) hs) c k (hints-exact (st .live) c hs k .0) e
+  empty-in-words (add id c hs) (add-form h k) e = go (hintsShow (st .live) c hs) c k (hints-exact (st .live) c hs .0) e
     where
-      no : {A : Type 0} (st′ : State) (b : Bool) → cond b (next st′) (refused 17) ≡ empty → A
+      no : {A : Type 0} (st′ : State) (b : Bool) → provided b 17 n (answered (some st′)) ≡ answered none → A
       no st′ true e = impossible (cc)
       no st′ false e = impossible (cc)
 
       go : (w : Shown) (c : List ℕ) → Literals (lim .lastVariable) c → (w ≡ follows → Follows (st .live) c hs)
-          → byShown w lim st id c ≡ empty → Refutes lim st (add id c hs ∷ [])
+          → byShown w lim st n id c ≡ answered none → Refutes lim st (add id c hs ∷ [])
       go notLive c k f e = impossible (cc)
       go breaks c k f e = impossible (cc)
       go follows [] k f e = final (add-form h k) (f refl)
       go follows (l ∷ ls) k f e = no (withClause st id (l ∷ ls)) (fits lim st (l ∷ ls)) e
   empty-in-words (delete ids) k e = go (deleted (st .live) ids) e
     where
-      go : (o : Option Live) → byDeleted st o ≡ empty → Refutes lim st (delete ids ∷ [])
+      go : (o : Option Live) → either o (refusal 15 n) (λ L. answered (some (withLive st L))) ≡ answered none
+          → Refutes lim st (delete ids ∷ [])
       go none e = impossible (cc)
       go (some L) e = impossible (cc)
 
-  words-empty : {id : ℕ} {hs : List ℕ} → WellFormed (lim .lastVariable) (st .highest) (add id [] hs) → Follows (st .live) [] hs
-      → perform lim st (add id [] hs) ≡ empty
+  words-empty : (id : ℕ) {hs : List ℕ} → Follows (st .live) [] hs → perform lim st n (add id [] hs) ≡ answered none
   unfolding perform
-  words-empty {id} {hs} (add-form h k) f = rw (hints-exact (st .live) [] hs k .1 f)
+  words-empty id {hs} f = rw (hints-exact (st .live) [] hs .1 f)
 
 -- all steps, both ways
 taken-in-words : {lim : Limits} {st : State} {ss : List Step} → Taken lim st ss → Refutes lim st ss
@@ -160,8 +161,8 @@ taken-in-words {lim} {st} (goes-on {st′ = st′} {s = s} w e k) =
     onward f (next-in-words lim st s st′ f e) (taken-in-words k)
 
 words-taken : {lim : Limits} {st : State} {ss : List Step} → Refutes lim st ss → Taken lim st ss
-words-taken {lim} {st} (final {id = id} {hs = hs} f g) = ends (formed-exact _ _ (add id [] hs) .1 f) (words-empty lim st f g)
-words-taken {lim} {st} (onward {s = s} f g k) = goes-on (formed-exact _ _ s .1 f) (words-next lim st f g) (words-taken k)
+words-taken {lim} {st} (final {id = id} {hs = hs} f g) = ends (formed-exact _ _ (add id [] hs) .1 f) (words-empty lim st id g)
+words-taken {lim} {st} (onward {s = s} f g k) = goes-on (formed-exact _ _ s .1 f) (words-next lim st g) (words-taken k)
 
 -- a list of steps is taken by the plain run exactly where it refutes in demand 3's words
 pub taken-exact : (lim : Limits) (st : State) (ss : List Step) → Taken lim st ss ↔ Refutes lim st ss
