@@ -6,3 +6,4 @@ pub mod Cluster
 pub mod Idle
 pub mod Fillable
 pub mod BoundsFor
+pub mod Literals

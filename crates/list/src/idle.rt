@@ -20,9 +20,9 @@ ghost use Rattle.list.specs.Cluster.{xsOf};
 ghost use Rattle.list.specs.Idle.{gapGates, innerCount};
 ghost use Rattle.list.specs.Stored.{onlyIn, numOf, Stored};
 
-// G, H and I of member k of a group, whose X are the first n words of a row, from the variable v on.
+// G, H and I of member k of a group, which is not the last, from the variable v on; its X are the first n words of a row.
 fn store_gap(row: &[u32], n: usize, k: usize, v: u32, at: usize, out: &mut [u32]) -> usize
-    requires { ⌜ (k < n) × ((n ≤ 125) × ((n ≤ length (now row)) × ((at + 134 ≤ length (now out)) × (v + 2 < 1073741824)))) ⌝ }
+    requires { ⌜ (k + 1 < n) × ((n ≤ 125) × ((n ≤ length (now row)) × ((at + 134 ≤ length (now out)) × (v + 2 < 1073741824)))) ⌝ }
     ensures { λ r. ⌜ Holds (now (out .exit)) r (take at (now (out .entry)) ++ nodesWords v (gapGates (take n (now (row .entry))) k 1 v)) ⌝ }
 {
     let a = store_or(row, 0, k, v, at, out);
