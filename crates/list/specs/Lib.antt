@@ -1,0 +1,9 @@
+pub mod Ground
+pub mod Stored
+pub mod Atoms
+pub mod Plain
+pub mod Cluster
+pub mod Idle
+pub mod Fillable
+pub mod BoundsFor
+pub mod Literals
