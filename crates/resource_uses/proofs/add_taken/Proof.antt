@@ -1,11 +1,11 @@
--- `timetable::uses::add_taken` meets its contract. The counts of the times before t have one more for each byte 1.
+-- `resource_uses::add_taken` meets its contract. The counts of the times before t have one more for each byte 1.
 use Prim.Native.Nat.{_+_, _≤_, _<_, _-_}
 use native.Mathlib.Omega.{arith}
 use borrow.Author.Needs.{needs}
 use lib.ListN.{length}
-use Rattle.timetable.specs.Uses.{RowAdded, added-none, added-more, added-room, added-end}
-use Rattle.timetable.proofs.uses.add_taken.Statement.{statement}
-use Rattle.timetable.proofs.uses.add_taken.Tie as tie
+use Rattle.resource_uses.specs.Uses.{RowAdded, added-none, added-more, added-room, added-end}
+use Rattle.resource_uses.proofs.add_taken.Statement.{statement}
+use Rattle.resource_uses.proofs.add_taken.Tie as tie
 
 abbrev Inv-loop : tie.InvT-loop
 Inv-loop uses₀ base bytes y times t₀ uses t = (t ≤ times) × RowAdded uses₀ bytes base y t uses

@@ -1,7 +1,7 @@
--- `timetable::uses::above_zero` meets its contract. By the test.
+-- `resource_uses::above_zero` meets its contract. By the test.
 use borrow.Author.Tests.{lt-ltb, le-ltb}
-use Rattle.timetable.proofs.uses.above_zero.Statement.{statement}
-use Rattle.timetable.proofs.uses.above_zero.Tie as tie
+use Rattle.resource_uses.proofs.above_zero.Statement.{statement}
+use Rattle.resource_uses.proofs.above_zero.Tie as tie
 
 returns : tie.Need-returns
 returns c = rw (lt-ltb 0 (c .before .args .n) (c .if1 .taken))

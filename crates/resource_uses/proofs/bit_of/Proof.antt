@@ -1,8 +1,8 @@
--- `timetable::bytes::bit_of` meets its contract. By the test.
+-- `resource_uses::bit_of` meets its contract. By the test.
 use borrow.Author.Tests.{eq-eqb, ne-eqb}
 use borrow.Author.Needs.{needs}
-use Rattle.timetable.proofs.bytes.bit_of.Statement.{statement}
-use Rattle.timetable.proofs.bytes.bit_of.Tie as tie
+use Rattle.resource_uses.proofs.bit_of.Statement.{statement}
+use Rattle.resource_uses.proofs.bit_of.Tie as tie
 
 returns : tie.Need-returns
 returns c = rw (eq-eqb (c .before .args .x) 1 (c .if1 .taken)) (search needs)

@@ -1,12 +1,12 @@
--- `timetable::uses::mark_used` meets its contract. The bytes before k are marked.
+-- `resource_uses::mark_used` meets its contract. The bytes before k are marked.
 use Prim.Native.Nat.{_≤_, _<_, _-_}
 use mathlib.Core.Path.{_≡_}
 use native.Mathlib.Omega.{arith}
 use borrow.Author.Needs.{needs}
 use lib.ListN.{length, length-set}
-use Rattle.timetable.specs.Uses.{MarkedTo, marked-none, marked-more, marked-end}
-use Rattle.timetable.proofs.uses.mark_used.Statement.{statement}
-use Rattle.timetable.proofs.uses.mark_used.Tie as tie
+use Rattle.resource_uses.specs.Uses.{MarkedTo, marked-none, marked-more, marked-end}
+use Rattle.resource_uses.proofs.mark_used.Statement.{statement}
+use Rattle.resource_uses.proofs.mark_used.Tie as tie
 
 abbrev Inv-loop : tie.InvT-loop
 Inv-loop uses used₀ k₀ used k = (k ≤ length uses) × (length used ≡ length uses) × MarkedTo uses used k

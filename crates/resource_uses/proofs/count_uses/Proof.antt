@@ -1,12 +1,12 @@
--- `timetable::uses::count_uses` meets its contract. The counts are those of the first e events.
+-- `resource_uses::count_uses` meets its contract. The counts are those of the first e events.
 use Prim.Native.Nat.{_≤_, _-_}
 use mathlib.Core.Path.{_≡_, _∙_}
 use native.Mathlib.Omega.{arith}
 use borrow.Author.Needs.{needs}
 use lib.ListN.{length}
-use Rattle.timetable.specs.Uses.{UsesOf, uses-none, uses-more, uses-end, uses-addable}
-use Rattle.timetable.proofs.uses.count_uses.Statement.{statement}
-use Rattle.timetable.proofs.uses.count_uses.Tie as tie
+use Rattle.resource_uses.specs.Uses.{UsesOf, uses-none, uses-more, uses-end, uses-addable}
+use Rattle.resource_uses.proofs.count_uses.Statement.{statement}
+use Rattle.resource_uses.proofs.count_uses.Tie as tie
 
 abbrev Inv-loop : tie.InvT-loop
 Inv-loop uses₀ resources bytes events times e₀ uses e = (e ≤ events) × (length uses ≡ length uses₀) × UsesOf times bytes resources e uses

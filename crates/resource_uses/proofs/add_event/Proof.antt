@@ -1,4 +1,4 @@
--- `timetable::uses::add_event` meets its contract. The counts of the first k resources of the row are added; they stay far below the limit of their width.
+-- `resource_uses::add_event` meets its contract. The counts of the first k resources of the row are added; they stay far below the limit of their width.
 use Prim.Native.Nat.{_*_, _≤_, _-_}
 use mathlib.Core.Path.{_≡_}
 use mathlib.Core.List.{[]}
@@ -6,9 +6,9 @@ use native.Mathlib.Omega.{arith}
 use borrow.Author.Needs.{needs}
 use lib.ListN.{length, take}
 use Rattle.tables.specs.Rows.{rowAt}
-use Rattle.timetable.specs.Uses.{EventAdded, event-none, next-counts, next-addable, adding}
-use Rattle.timetable.proofs.uses.add_event.Statement.{statement}
-use Rattle.timetable.proofs.uses.add_event.Tie as tie
+use Rattle.resource_uses.specs.Uses.{EventAdded, event-none, next-counts, next-addable, adding}
+use Rattle.resource_uses.proofs.add_event.Statement.{statement}
+use Rattle.resource_uses.proofs.add_event.Tie as tie
 
 abbrev Inv-loop : tie.InvT-loop
 Inv-loop uses₀ resources bytes e times n y k₀ uses k = (k ≤ n) × (n ≡ length (rowAt resources e)) × EventAdded times uses₀ bytes (e * times) (take k (rowAt resources e)) uses
