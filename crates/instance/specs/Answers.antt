@@ -13,7 +13,7 @@ use Rattle.constraint.specs.declared.kinds.Next.{Next}
 use Rattle.instance.specs.declared.reader.Sizes.{Sizes}
 use Rattle.instance.specs.declared.reader.SizesRead.{SizesRead}
 use Rattle.instance.specs.declared.reader.File.{File}
-use Rattle.instance.specs.Ends.{endOf}
+use Rattle.constraint_end.specs.Ends.{endOf}
 use Rattle.instance.specs.File.{Start, withConstraints, constraintIn}
 
 -- times, events and resources

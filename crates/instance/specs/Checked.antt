@@ -22,10 +22,10 @@ use Rattle.constraint.specs.Decoded.{longestOf, checked-same, constraint-checke
 use Rattle.instance.specs.declared.reader.Sizes.{Sizes}
 use Rattle.instance.specs.declared.reader.SizesRead.{SizesRead}
 use Rattle.instance.specs.Answers.{saidTables, headStart, constraintsOf, instanceOf}
-use Rattle.instance.specs.Ends.{ends, endOf, wholeAt, ends-got, ends-of-refused, whole-same, whole-got, whole-refused, whole-left, whole-end}
+use Rattle.constraint_end.specs.Ends.{ends, endOf, wholeAt, ends-got, ends-of-refused, whole-same, whole-got, whole-refused, whole-left, whole-end}
 use Rattle.instance.specs.File.{withConstraints, constraintIn, tablesAt, restAt, parse-parts}
-use Rattle.instance.specs.Length.{list-length}
-use Rattle.instance.specs.Ready.{Lent, lengthBy, checkedBy, checkedAll, checkedWhole, byCounts, byRows, checkedBy-same}
+use Rattle.constraint_end.specs.Length.{list-length}
+use Rattle.constraint_end.specs.Ready.{Lent, lengthBy, checkedBy, checkedAll, checkedWhole, byCounts, byRows, checkedBy-same}
 use Rattle.instance.specs.Ladder.{step-tables}
 use Rattle.instance.specs.Start.{StartIn, tables-start}
 

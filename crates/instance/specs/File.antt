@@ -9,7 +9,7 @@ use Rattle.scope.specs.Parsed.{Parsed, got, refused, andThen, unless, repeat}
 use Rattle.scope.specs.Number.{limited}
 use Rattle.scope.specs.Kinds.{Event, Constraint}
 use Rattle.scope.specs.Instance.{Instance, eventAt, groupsAt, sizesAt, constraintAt, constraintsAt, parse}
-use Rattle.instance.specs.Ends.{wholeAt}
+use Rattle.constraint_end.specs.Ends.{wholeAt}
 
 -- an instance without its constraints
 pub record Start : Type 0 where

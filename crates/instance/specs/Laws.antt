@@ -28,7 +28,7 @@ use Rattle.constraint.specs.Valid.{InRange, decoded-got}
 use Rattle.constraint.specs.Walk.{Walk, constraintsIn, walk-start, walk-read}
 use Rattle.instance.specs.declared.reader.File.{File}
 use Rattle.instance.specs.Answers.{headStart, constraintsOf, instanceOf, saidFile}
-use Rattle.instance.specs.Ends.{endOf, wholeAt, whole-got}
+use Rattle.constraint_end.specs.Ends.{endOf, wholeAt, whole-got}
 use Rattle.instance.specs.File.{Start, withConstraints, constraintIn, tablesAt, restAt, parse-parts}
 use Rattle.instance.specs.Start.{SizesIn, StartIn, tables-got}
 

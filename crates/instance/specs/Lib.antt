@@ -1,7 +1,6 @@
 pub mod Length
 pub mod Inner
 pub mod Ready
-pub mod Ends
 pub mod Answers
 pub mod Stores
 pub mod File

@@ -1,12 +1,10 @@
 // The instance file: its tables filled, its constraints checked one by one, refusals 1 to 6 in file order.
 mod answer;
-mod check;
-mod length;
 mod reader;
 mod walk;
 
 pub use answer::read_instance;
-pub use length::group_size;
-pub use length::list_length;
+pub use constraint_end::group_size;
+pub use constraint_end::list_length;
 pub use reader::File;
 pub use reader::read;

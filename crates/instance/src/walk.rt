@@ -1,7 +1,7 @@
 // The walk over all constraints of a file.
-use crate::check::checked_at;
 use constraint::Head;
 use constraint::Next;
+use constraint_end::checked_at;
 use number::Number;
 use scope::Refusal;
 use scope::refusals::BYTES_LEFT;
@@ -9,8 +9,8 @@ use tables::count_members;
 ghost use mathlib.Core.Path.{_≡_};
 ghost use Rattle.number.specs.Answers.{said};
 ghost use Rattle.instance.specs.Answers.{refusalOfNext};
-ghost use Rattle.instance.specs.Ends.{ends};
-ghost use Rattle.instance.specs.Ready.{Ready, Lent, checkedAll, checkedWhole, byCounts, byRows};
+ghost use Rattle.constraint_end.specs.Ends.{ends};
+ghost use Rattle.constraint_end.specs.Ready.{Ready, Lent, checkedAll, checkedWhole, byCounts, byRows};
 
 fn refusal_of_next(x: Next) -> Refusal
     ensures { λ r. ⌜ r ≡ refusalOfNext x ⌝ }

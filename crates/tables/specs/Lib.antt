@@ -1,6 +1,4 @@
 pub mod Rows
-pub mod Answers
 pub mod Laws
-pub mod Ladder
 pub mod Reading
 pub mod Users

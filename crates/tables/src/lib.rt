@@ -1,12 +1,9 @@
 // The tables of an instance: rows of 126 bytes, each a count and then as many members, for the resources of events and for
 // time groups; beside them the durations of events.
-mod read;
 mod row;
 mod store;
 mod users;
 
-pub use read::events_at;
-pub use read::groups_at;
 pub use row::row_len;
 pub use row::row_member;
 pub use store::durations;

@@ -14,7 +14,7 @@ use Rattle.scope.specs.Cnf.{bit}
 use Rattle.scope.specs.Kinds.{Event, from, upTo}
 use Rattle.scope.specs.Instance.{Instance}
 use Rattle.scope.specs.Score.{trues, all, truth, cells, startRight, eventRight, firstWrong}
-use Rattle.timetable.specs.Bits.{marks, bit-next, from-more, from-done}
+use Rattle.resource_uses.specs.Bits.{marks, bit-next, from-more, from-done}
 
 -- time t − 1 is taken
 abbrev pub beforeAt : List ℕ → ℕ → ℕ → Bool

@@ -1,13 +1,12 @@
 // Bytes 0 and 1.
+pub use resource_uses::bit_of;
 ghost use mathlib.Core.Path.{_≡_};
-ghost use mathlib.Core.Bool.{cond};
 ghost use Prim.Native.Nat.{ℕ, _+_, _≤_, _<_};
 ghost use lib.ListN.{length, getD};
-ghost use lib.Dec.{eqb};
 ghost use Rattle.scope.specs.Kinds.{upTo};
 ghost use Rattle.scope.specs.Score.{trues, firstAbove};
 ghost use Rattle.timetable.specs.Answers.{foundAt, placeOf};
-ghost use Rattle.timetable.specs.Bits.{marks};
+ghost use Rattle.resource_uses.specs.Bits.{marks};
 
 // The first of some things that was looked for, if there is one.
 pub enum Found {
@@ -60,13 +59,6 @@ pub fn first_above(bytes: &[u8]) -> Found
         i = i + 1;
     }
     Found::Nothing
-}
-
-// 1 for a byte 1, 0 for any other.
-pub fn bit_of(x: u8) -> u32
-    ensures { λ r. ⌜ (r ≡ cond (eqb x 1) 1 0) × (r ≤ 1) ⌝ }
-{
-    if x == 1 { 1 } else { 0 }
 }
 
 // How many of n bytes are 1, from an offset on.

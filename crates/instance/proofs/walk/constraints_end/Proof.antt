@@ -6,8 +6,8 @@ use native.Mathlib.Omega.{arith}
 use lib.ListN.{getD}
 use Rattle.scope.specs.Parsed.{repeat}
 use Rattle.constraint.specs.Ladder.{next-value, next-refused}
-use Rattle.instance.specs.Ends.{ends, ends-more, ends-refused, ends-end}
-use Rattle.instance.specs.Ready.{Ready, checkedBy, ready-kept}
+use Rattle.constraint_end.specs.Ends.{ends, ends-more, ends-refused, ends-end}
+use Rattle.constraint_end.specs.Ready.{Ready, checkedBy, ready-kept}
 use Rattle.instance.proofs.walk.constraints_end.Statement.{statement}
 use Rattle.instance.proofs.walk.constraints_end.Tie as tie
 

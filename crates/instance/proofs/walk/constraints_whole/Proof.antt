@@ -2,7 +2,7 @@
 use borrow.Author.Needs.{needs}
 use mathlib.Core.Path.{refl}
 use Rattle.instance.specs.Checked.{counted}
-use Rattle.instance.specs.Ready.{zeros}
+use Rattle.constraint_end.specs.Ready.{zeros}
 use Rattle.instance.proofs.walk.constraints_whole.Statement.{statement}
 use Rattle.instance.proofs.walk.constraints_whole.Tie as tie
 

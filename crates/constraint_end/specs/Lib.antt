@@ -1,0 +1,4 @@
+pub mod Length
+pub mod Inner
+pub mod Ends
+pub mod Ready

@@ -1,0 +1,77 @@
+-- What the functions that check constraints are lent: how many events use each resource, the groups, a store for a list.
+use Prim.Native.Nat.{ℕ, zero, suc, _≤_}
+use mathlib.Core.Path.{_≡_, refl, _∙_}
+use mathlib.Core.List.{List}
+use lib.ListN.{length, getD, replicate}
+use Rattle.scope.specs.Parsed.{Parsed, repeat}
+use Rattle.scope.specs.Kinds.{Kind, Constraint}
+use Rattle.tables.specs.Rows.{rows, RowsIn}
+use Rattle.tables.specs.Users.{occurrencesIn}
+use Rattle.constraint.specs.declared.kinds.Head.{Head}
+use Rattle.constraint.specs.Answers.{countsIn}
+use Rattle.constraint.specs.Decoded.{checkedAt, checked-same}
+use Rattle.constraint_end.specs.Ends.{wholeAt}
+use Rattle.constraint_end.specs.Length.{listLength, length-same}
+
+pub record Ready (users groups list : List ℕ) (h : Head) : Type 0 where
+  pub counts : length users ≡ 256
+  pub room : length list ≡ 2048
+  pub resources : h .resources ≤ 255
+  pub numbers : h .groups ≤ 2048
+  pub events : h .events ≤ 2048
+  pub rows : RowsIn groups (h .groups)
+
+-- a list of the same length in the store changes nothing
+pub ready-kept : {users groups list after : List ℕ} {h : Head} → Ready users groups list h → length after ≡ length list → Ready users groups after h
+ready-kept r e =
+    record {
+      counts = r .counts;
+      room = e ∙ r .room;
+      resources = r .resources;
+      numbers = r .numbers;
+      events = r .events;
+      rows = r .rows;
+    }
+
+-- the same, where the rows of the events are lent instead of the counts
+pub record Lent (resources groups list : List ℕ) (h : Head) : Type 0 where
+  pub room : length list ≡ 2048
+  pub numbers : (h .resources ≤ 255) × (h .groups ≤ 2048) × (h .events ≤ 1024)
+  pub events : RowsIn resources (h .events)
+  pub rows : RowsIn groups (h .groups)
+
+-- the length of a kind's counted list by the tables, where used says how many events use a resource
+abbrev pub lengthBy : (ℕ → ℕ) → List ℕ → Head → Kind → ℕ
+lengthBy used groups h k = listLength (h .times) used (rows groups (h .groups)) k
+
+-- a constraint checked by the tables
+abbrev pub checkedBy : (ℕ → ℕ) → List ℕ → Head → List ℕ → ℕ → Parsed Constraint
+checkedBy used groups h s at = checkedAt (countsIn h) (lengthBy used groups h) s at
+
+-- all constraints of a file, and all up to its end
+abbrev pub checkedAll : (ℕ → ℕ) → List ℕ → Head → List ℕ → Parsed (List Constraint)
+checkedAll used groups h s = repeat (h .constraints) (checkedBy used groups h s) (h .start)
+
+abbrev pub checkedWhole : (ℕ → ℕ) → List ℕ → Head → List ℕ → Parsed (List Constraint)
+checkedWhole used groups h s = wholeAt s (h .constraints) (checkedBy used groups h s) (h .start)
+
+-- how many events use a resource: by counts, and by the rows of the first n events
+abbrev pub byCounts : List ℕ → ℕ → ℕ
+byCounts users r = getD users r 0
+
+abbrev pub byRows : List ℕ → ℕ → ℕ → ℕ
+byRows resources n r = occurrencesIn r (rows resources n)
+
+-- the same counts check alike
+pub checkedBy-same : (used used′ : ℕ → ℕ) (groups : List ℕ) (h : Head) (s : List ℕ)
+    → ((r : ℕ) → used r ≡ used′ r)
+    → (at : ℕ) → checkedBy used groups h s at ≡ checkedBy used′ groups h s at
+checkedBy-same used used′ groups h s e at =
+    checked-same (countsIn h) (lengthBy used groups h) (lengthBy used′ groups h) s at
+    (λ k. length-same (h .times) used used′ (rows groups (h .groups)) k e)
+
+-- counts of 0
+pub zeros : (n x : ℕ) → _≡_ {A = ℕ} (getD (replicate n 0) x 0) 0
+zeros zero x = refl
+zeros (suc n) zero = refl
+zeros (suc n) (suc x) = zeros n x
