@@ -1,4 +1,4 @@
--- The plain run over tokens and marks, as the code goes.
+-- The plain run as the code makes it: from tokens, with marks.
 use mathlib.Core.Bool.{Bool, true, false, cond}
 use mathlib.Core.List.{List, [], _∷_}
 use mathlib.Core.Option.{Option, none, some}
