@@ -1,10 +1,10 @@
 -- `size::one_size` meets its contract: what the store holds of the list tells its size.
 use borrow.Author.Needs.{needs}
 use mathlib.Core.Path.{_∙_}
-use Rattle.sizes.specs.Listed.{stored-told, measurable, filled-sized}
-use Rattle.sizes.specs.Sizable.{sizable-bounds, sizable-ordered, sizable-short, sizable-small}
-use Rattle.sizes.proofs.size.one_size.Statement.{statement}
-use Rattle.sizes.proofs.size.one_size.Tie as tie
+use Rattle.parts.specs.Listed.{stored-told, measurable, filled-sized}
+use Rattle.parts.specs.Sizable.{sizable-bounds, sizable-ordered, sizable-short, sizable-small}
+use Rattle.parts.proofs.size.one_size.Statement.{statement}
+use Rattle.parts.proofs.size.one_size.Tie as tie
 
 fill-requires : tie.Need-fill-requires
 fill-requires c κs =

@@ -1,7 +1,7 @@
 -- `walk::add` meets its contract.
 use borrow.Author.Needs.{needs}
-use Rattle.sizes.proofs.walk.add.Statement.{statement}
-use Rattle.sizes.proofs.walk.add.Tie as tie
+use Rattle.parts.proofs.walk.add.Statement.{statement}
+use Rattle.parts.proofs.walk.add.Tie as tie
 
 plus-requires : tie.Need-plus-requires
 plus-requires c κs = search needs

@@ -3,8 +3,8 @@ use borrow.Author.Needs.{needs}
 use native.Mathlib.Omega.{arith}
 use Rattle.sizing.specs.Sums.{within-more}
 use Rattle.sizing.specs.Limits.{listed-within}
-use Rattle.sizes.proofs.size.filled_size.Statement.{statement}
-use Rattle.sizes.proofs.size.filled_size.Tie as tie
+use Rattle.parts.proofs.size.filled_size.Statement.{statement}
+use Rattle.parts.proofs.size.filled_size.Tie as tie
 
 mul-inputs : tie.Need-mul-inputs
 mul-inputs c = search needs

@@ -23,8 +23,8 @@ use Rattle.sizing.specs.Sums.{none, sum, Within, Fits64, within-more, within-no
 use Rattle.sizing.specs.Tail.{tailAdd}
 use Rattle.sizing.specs.Limits.{tail-within}
 use Rattle.sizing.specs.Whole.{constraintSize, constraintsSize, tailAfter}
-use Rattle.sizes.specs.declared.walk.Total.{Total}
-use Rattle.sizes.specs.Sizable.{Sizable, CountedSized}
+use Rattle.parts.specs.declared.walk.Total.{Total}
+use Rattle.parts.specs.Sizable.{Sizable, CountedSized}
 
 -- a file that was accepted with its tables, and the table of users
 pub record Tabled (s d te us tg : List ℕ) (h : Head) : Type 0 where

@@ -6,9 +6,9 @@ use mathlib.Core.Path.{_≡_, refl, _∙_}
 use mathlib.Core.List.{List}
 use native.Mathlib.Omega.{arith}
 use Rattle.constraint.specs.Walk.{walk-refused}
-use Rattle.sizes.specs.Walked.{Walkable, Tabled, TotalWithin, Part, walkable-kept, total-addable, total-within, total-start, part-start, part-read, part-sizable, part-next, part-end}
-use Rattle.sizes.proofs.walk.constraints_total.Statement.{statement}
-use Rattle.sizes.proofs.walk.constraints_total.Tie as tie
+use Rattle.parts.specs.Walked.{Walkable, Tabled, TotalWithin, Part, walkable-kept, total-addable, total-within, total-start, part-start, part-read, part-sizable, part-next, part-end}
+use Rattle.parts.proofs.walk.constraints_total.Statement.{statement}
+use Rattle.parts.proofs.walk.constraints_total.Tie as tie
 
 abbrev Inv-loop : tie.InvT-loop
 Inv-loop file head users groups list₀ store₀ columns most total₀ next₀ i₀ list store total next i =

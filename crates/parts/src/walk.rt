@@ -10,7 +10,7 @@ use sizing::sums::plus;
 ghost use mathlib.Core.Path.{_≡_};
 ghost use mathlib.Core.List.{List};
 ghost use Prim.Native.Nat.{ℕ};
-ghost use Rattle.sizes.specs.Walked.{Walkable, Tabled, Addable, added, TotalOf};
+ghost use Rattle.parts.specs.Walked.{Walkable, Tabled, Addable, added, TotalOf};
 
 // The formula without its tail, and the tail.
 pub struct Total {

@@ -17,8 +17,8 @@ ghost use lib.ListN.{length};
 ghost use Rattle.constraint.specs.Answers.{constraintOf};
 ghost use Rattle.literals.specs.Filled.{usersAt};
 ghost use Rattle.list.specs.Stored.{countedIn, listIn};
-ghost use Rattle.sizes.specs.Listed.{filledSize, Measurable, ListSized};
-ghost use Rattle.sizes.specs.Sizable.{Sizable, CountedSized};
+ghost use Rattle.parts.specs.Listed.{filledSize, Measurable, ListSized};
+ghost use Rattle.parts.specs.Sizable.{Sizable, CountedSized};
 
 // A filled list. Each node has a head word and a last word beside its inputs.
 fn filled_size(f: Filled, weight: u32, b: Bounds) -> Size

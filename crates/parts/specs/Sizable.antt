@@ -19,7 +19,7 @@ use Rattle.fitting.specs.Lists.{Small, lists-small}
 use Rattle.sizing.specs.declared.Size.{Size}
 use Rattle.sizing.specs.Sums.{none, sum, Within, Fits64, within-more, within-none, within-sum, none-sum, sum-none, sum-assoc}
 use Rattle.sizing.specs.Rules.{ruleSize, rulesSize}
-use Rattle.sizes.specs.Listed.{BoundsOf, ListSized}
+use Rattle.parts.specs.Listed.{BoundsOf, ListSized}
 
 -- the size of some lists of the weight w
 abbrev pub listsSize : ℕ → Counted → List Listed → Size

@@ -9,9 +9,9 @@ use Rattle.constraint.specs.Answers.{kindOf}
 use Rattle.literals.specs.Filled.{usersAt}
 use Rattle.literals.specs.Tables.{groupIn}
 use Rattle.list.specs.Stored.{countedIn}
-use Rattle.sizes.specs.Sizable.{Summed, summed-none, summed-fits, summed-more, summed-all}
-use Rattle.sizes.proofs.size.constraint_size.Statement.{statement}
-use Rattle.sizes.proofs.size.constraint_size.Tie as tie
+use Rattle.parts.specs.Sizable.{Summed, summed-none, summed-fits, summed-more, summed-all}
+use Rattle.parts.proofs.size.constraint_size.Statement.{statement}
+use Rattle.parts.proofs.size.constraint_size.Tie as tie
 
 abbrev Inv-loop : tie.InvT-loop
 Inv-loop c head users groups list store₀ most sum₀ t₀ store sum t =
