@@ -1,11 +1,12 @@
 -- A constraint without the checks at its end: kind, weight and fields.
 use Prim.Native.Nat.{ℕ}
-use mathlib.Core.Path.{_≡_, refl}
+use mathlib.Core.Path.{_≡_, refl, _∙_}
 use mathlib.Core.List.{List}
 use Rattle.scope.specs.Parsed.{Parsed, got, refused, andThen}
 use Rattle.scope.specs.Number.{limited}
-use Rattle.scope.specs.Kinds.{Kind, Constraint, Event, rulesOf, longest}
-use Rattle.scope.specs.Instance.{Counts, countsOf, fieldsAt, ended, constraintAt}
+use Rattle.scope.specs.Kinds.{Kind, Constraint, Event, users, groupAt, countedOf, longest}
+use Rattle.scope.specs.Instance.{Counts, countsOf, fieldsAt, ended, endedAs, constraintAt}
+use Rattle.constraint.specs.Bounds.{lowOf, highOf, bounds-right}
 
 unfoldable pub decodedAt : Counts → List ℕ → ℕ → Parsed Constraint
 decodedAt n s at =
@@ -16,7 +17,7 @@ decodedAt n s at =
 
 -- the checks at the end of a constraint whose kind stands at an offset and whose counted list is as long as len says
 abbrev pub endedBy : (Kind → ℕ) → ℕ → Constraint → ℕ → Parsed Constraint
-endedBy len at c end = ended at (len (c .kind)) (c .weight) (c .kind) end
+endedBy len at c end = ended at (lowOf (c .kind)) (highOf (c .kind)) (len (c .kind)) (c .weight) (c .kind) end
 
 -- a constraint that is read and then checked
 unfoldable pub checkedAt : Counts → (Kind → ℕ) → List ℕ → ℕ → Parsed Constraint
@@ -46,13 +47,25 @@ kind-checked : (p : Parsed ℕ) (q : ℕ → Parsed ℕ) (f : ℕ → ℕ → Pa
 kind-checked (got kind next) q f e = weight-checked (q next) (f kind) e
 kind-checked (refused k v) q f e = refl
 
+-- how long the longest counted list of a kind is, in an instance
+abbrev pub longestOf : ℕ → List Event → List (List ℕ) → Kind → ℕ
+longestOf T es gs k = longest (countedOf T (λ r. users r es) (groupAt gs) k .lists)
+
 -- a constraint of an instance is one that is read and then checked
 pub constraint-checked : (T R : ℕ) (es : List Event) (gs : List (List ℕ)) (s : List ℕ) (at : ℕ)
-    → constraintAt T R es gs s at ≡ checkedAt (countsOf T R es gs) (λ k. longest (rulesOf T es gs k)) s at
+    → constraintAt T R es gs s at ≡ checkedAt (countsOf T R es gs) (longestOf T es gs) s at
 unfolding constraintAt checkedAt decodedAt
-constraint-checked T R es gs s at =
-    kind-checked (limited 1 8 s at) (limited 0 1000 s) (λ kind more. fieldsAt (countsOf T R es gs) s more kind)
-    (endedBy (λ k. longest (rulesOf T es gs k)) at)
+constraint-checked T R es gs s at = parts ∙ by (decodedAt (countsOf T R es gs) s at)
+  where
+    endedIn : Constraint → ℕ → Parsed Constraint
+    endedIn c end = endedAs at (countedOf T (λ r. users r es) (groupAt gs) (c .kind)) (c .weight) (c .kind) end
+
+    parts : constraintAt T R es gs s at ≡ andThen (decodedAt (countsOf T R es gs) s at) endedIn
+    parts = kind-checked (limited 1 8 s at) (limited 0 1000 s) (λ kind more. fieldsAt (countsOf T R es gs) s more kind) endedIn
+
+    by : (p : Parsed Constraint) → andThen p endedIn ≡ andThen p (endedBy (longestOf T es gs) at)
+    by (got c end) = let b = bounds-right T (λ r. users r es) (groupAt gs) (c .kind) in rw (b .lo, b .hi)
+    by (refused k v) = refl
 
 -- two measures of the list that agree check alike
 pub checked-same : (n : Counts) (len len′ : Kind → ℕ) (s : List ℕ) (at : ℕ)

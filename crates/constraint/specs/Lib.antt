@@ -1,4 +1,5 @@
 pub mod Answers
+pub mod Bounds
 pub mod Decoded
 pub mod Ladder
 pub mod Valid

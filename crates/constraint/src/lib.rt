@@ -1,9 +1,12 @@
 // The constraints of an instance. They stay in the file, and are decoded one at a time into a kind with its fields.
+mod bounds;
 mod fields;
 mod kinds;
 mod list;
 mod next;
 
+pub use bounds::Bounds;
+pub use bounds::bounds_of;
 pub use kinds::Busy;
 pub use kinds::Clash;
 pub use kinds::Constraint;

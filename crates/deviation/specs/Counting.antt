@@ -8,8 +8,10 @@ use lib.Dec.{ltb, eqb}
 use native.Mathlib.Omega.{arith}
 use native.Mathlib.Nat.{add-zero, zero-add, add-assoc}
 use borrow.Author.Tests.{lt-ltb, le-ltb, ltb-true, ltb-false}
-use Rattle.scope.specs.Kinds.{Atom, Entry, between, limit, gaps, gapsAfter}
-use Rattle.scope.specs.Score.{trues, any, deviation, charged, entryTrue, deviations}
+use Rattle.scope.specs.Kinds.{Atom, Entry, entries, entriesMembers, rule, between, limit, gaps, gapsAfter}
+use Rattle.scope.specs.Score.{trues, any, deviation, charged, count, deviations}
+use Rattle.theory.specs.Nodes.{length-members}
+use Rattle.theory.specs.Entries.{entryTrue, entries-count}
 use Rattle.deviation.specs.Group.{idles, idlesAfter}
 use Rattle.deviation.specs.Sums.{total}
 
@@ -78,27 +80,33 @@ deviation-one c =
 
 -- what one list charges
 module _ (τ : Atom → Bool) where
-  count-most : (l : List Entry) → trues (map (entryTrue τ) l) ≤ length l
-  count-most l = omega (arith, trues-most (map (entryTrue τ) l), length-map l (entryTrue τ))
+  count-most : (l : List Entry) → trues (map (entryTrue τ) l) ≤ length (entriesMembers l 0)
+  count-most l = omega (arith, trues-most (map (entryTrue τ) l), length-map l (entryTrue τ), length-members l 0)
 
-  between-charged : (lo hi : ℕ) (l : List Entry) → charged (between lo hi l) (trues (map (entryTrue τ) l)) ≡ deviation lo hi (trues (map (entryTrue τ) l))
+  between-charged : (lo hi : ℕ) (l : List Entry)
+      → charged (rule (between lo hi []) (entries l)) (count τ (entries l)) ≡ deviation lo hi (trues (map (entryTrue τ) l))
   unfolding charged
-  between-charged lo hi l = deviation-lowered lo hi (length l) (trues (map (entryTrue τ) l)) (count-most l)
+  between-charged lo hi l =
+      rw (entries-count τ l) (deviation-lowered lo hi (length (entriesMembers l 0)) (trues (map (entryTrue τ) l)) (count-most l))
 
-  pub one-list : (lo hi : ℕ) (l : List Entry) → deviations τ (between lo hi l ∷ []) ≡ deviation lo hi (trues (map (entryTrue τ) l))
+  pub one-list : (lo hi : ℕ) (l : List Entry)
+      → deviations τ (rule (between lo hi []) (entries l) ∷ []) ≡ deviation lo hi (trues (map (entryTrue τ) l))
   unfolding deviations
   one-list lo hi l = rw add-zero (between-charged lo hi l)
 
   pub one-limit : (lo hi : ℕ) (l : List Entry)
-      → deviations τ (limit lo hi l ∷ []) ≡ cond (eqb (trues (map (entryTrue τ) l)) 0) 0 (deviation lo hi (trues (map (entryTrue τ) l)))
+      → deviations τ (rule (limit lo hi []) (entries l) ∷ [])
+      ≡ cond (eqb (trues (map (entryTrue τ) l)) 0) 0 (deviation lo hi (trues (map (entryTrue τ) l)))
   unfolding deviations charged
   one-limit lo hi l =
-      rw add-zero
-      (ap (cond (eqb (trues (map (entryTrue τ) l)) 0) 0) (deviation-lowered lo hi (length l) (trues (map (entryTrue τ) l)) (count-most l)))
+      rw (add-zero, entries-count τ l)
+      (ap (cond (eqb (trues (map (entryTrue τ) l)) 0) 0)
+      (deviation-lowered lo hi (length (entriesMembers l 0)) (trues (map (entryTrue τ) l)) (count-most l)))
 
   -- lists with the same bounds, one for each number
   pub many-lists : (lo hi : ℕ) (f : ℕ → List Entry) (xs : List ℕ)
-      → deviations τ (map (λ x. between lo hi (f x)) xs) ≡ total (λ x. deviation lo hi (trues (map (entryTrue τ) (f x)))) xs
+      → deviations τ (map (rule (between lo hi [])) (map (λ x. entries (f x)) xs))
+      ≡ total (λ x. deviation lo hi (trues (map (entryTrue τ) (f x)))) xs
   unfolding deviations total
   many-lists lo hi f [] = refl
   many-lists lo hi f (x ∷ xs) = rw (between-charged lo hi (f x), many-lists lo hi f xs)

@@ -9,9 +9,10 @@ use lib.Dec.{ltb, eqb}
 use native.Mathlib.Omega.{arith}
 use native.Mathlib.Nat.{add-assoc, mul-le-mul}
 use Rattle.scope.specs.Cnf.{bit}
-use Rattle.scope.specs.Kinds.{Kind, clash, unavailable, preferred, split, spread, busy, cluster, idle, Y, S, X, atom, anyOf, from, upTo, users, outside, groupAt, usesAt, takesAt, startsAt, gaps, rulesOf}
+use Rattle.scope.specs.Kinds.{Kind, clash, unavailable, preferred, split, spread, busy, cluster, idle, Y, S, X, atom, anyOf, from, upTo, users, outside, groupAt, usesAt, takesAt, startsAt, gaps, countedOf, rulesOf}
 use Rattle.scope.specs.Instance.{Instance, Counts}
-use Rattle.scope.specs.Score.{trues, any, deviation, entryTrue, deviations, truth, cells}
+use Rattle.scope.specs.Score.{trues, any, deviation, deviations, truth, cells}
+use Rattle.theory.specs.Entries.{entryTrue}
 use Rattle.number.specs.Laws.{Ascending, none, more}
 use Rattle.tables.specs.Rows.{rowAt, rows, eventsOf}
 use Rattle.tables.specs.Laws.{group-row}
@@ -114,33 +115,33 @@ module _ (i : Instance) (b u x gs : List ℕ) (G : ℕ) (seen : Seen i b u x) (t
 
   -- each kind
   abbrev Right : Kind → Type 0
-  Right k = chargeOf (cells i) (i .times) b u x gs k ≡ deviations (truth i b) (rulesOf (i .times) (i .events) (i .groups) k)
+  Right k = chargeOf (cells i) (i .times) b u x gs k ≡ deviations (truth i b) (rulesOf (i .times) (λ r. users r (i .events)) (groupAt (i .groups)) k)
 
   clash-right : (r : ℕ) → 1 ≤ r → r ≤ 99 → Right (clash r)
-  unfolding clashCharge rulesOf
+  unfolding clashCharge countedOf
   clash-right r lo hi =
       sym (many-lists (truth i b) 0 1 (λ t. map (λ e. atom (Y e t)) (users r (i .events))) (upTo (i .times))
       ∙ total-from _ _ 1 (i .times)
       (λ t l m. rw (deviation-one, takers-valued t (users r (i .events)), ← (seen .uses r t lo hi l (omega arith)))))
 
   unavailable-right : (r g : ℕ) → 1 ≤ r → r ≤ 99 → OneOf G g → Right (unavailable r g)
-  unfolding unavailableCharge rulesOf
+  unfolding unavailableCharge countedOf
   unavailable-right r g lo hi o =
       sym (one-list (truth i b) 0 0 (map atom (usesAt r (groupAt (i .groups) g)))
       ∙ rw (deviation-zero, uses-valued r (groupAt (i .groups) g), ← (group-used r g lo hi o)))
 
   preferred-right : (e g : ℕ) → OneOf G g → Right (preferred e g)
-  unfolding preferredCharge rulesOf
+  unfolding preferredCharge countedOf
   preferred-right e g o =
       sym (one-list (truth i b) 0 0 (takesAt e (outside (groupAt (i .groups) g) (upTo (i .times))))
       ∙ rw (deviation-zero, takes-valued e (outside (groupAt (i .groups) g) (upTo (i .times))), group-is g o))
 
   split-right : (e lo hi : ℕ) → Right (split e lo hi)
-  unfolding splitCharge rulesOf
+  unfolding splitCharge countedOf
   split-right e lo hi = sym (one-list (truth i b) lo hi (startsAt e (upTo (i .times))) ∙ rw (starts-valued e (upTo (i .times))))
 
   spread-right : (vs : List ℕ) (g lo hi : ℕ) → OneOf G g → Right (spread vs g lo hi)
-  unfolding spreadCharge rulesOf
+  unfolding spreadCharge countedOf
   spread-right vs g lo hi o =
       sym (one-list (truth i b) lo hi (flatMap (λ e. startsAt e (groupAt (i .groups) g)) vs)
       ∙ ap (deviation lo hi)
@@ -148,19 +149,19 @@ module _ (i : Instance) (b u x gs : List ℕ) (G : ℕ) (seen : Seen i b u x) (t
       ∙ ap (λ f. total f vs) (fun-ext (λ e. rw (starts-valued e (groupAt (i .groups) g), group-is g o)))))
 
   busy-right : (r g lo hi : ℕ) → 1 ≤ r → r ≤ 99 → OneOf G g → Right (busy r g lo hi)
-  unfolding busyCharge rulesOf
+  unfolding busyCharge countedOf
   busy-right r g lo hi p q o =
       sym (one-limit (truth i b) lo hi (map atom (usesAt r (groupAt (i .groups) g)))
       ∙ rw (uses-valued r (groupAt (i .groups) g), ← (group-used r g p q o)))
 
   cluster-right : (r : ℕ) (hs : List ℕ) (lo hi : ℕ) → 1 ≤ r → r ≤ 99 → Ascending G 0 hs → Right (cluster r hs lo hi)
-  unfolding clusterCharge rulesOf
+  unfolding clusterCharge countedOf
   cluster-right r hs lo hi p q a =
       sym (one-list (truth i b) lo hi (map (λ g. anyOf (usesAt r (groupAt (i .groups) g))) hs)
       ∙ ap (deviation lo hi) (some-valued r hs ∙ total-listed _ _ G a (λ g o. rw (group-used r g p q o))))
 
   idle-right : (r : ℕ) (hs : List ℕ) (lo hi : ℕ) → 1 ≤ r → r ≤ 99 → Ascending G 0 hs → Right (idle r hs lo hi)
-  unfolding idleCharge rulesOf
+  unfolding idleCharge countedOf
   idle-right r hs lo hi p q a =
       sym (one-list (truth i b) lo hi (flatMap (λ g. gaps (usesAt r (groupAt (i .groups) g))) hs)
       ∙ ap (deviation lo hi)

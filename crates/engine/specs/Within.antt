@@ -8,7 +8,7 @@ use lib.Dec.{eqb, leb, ltb}
 use lib.ListN.{length, drop}
 use Rattle.scope.specs.Parsed.{Parsed, got, refused, Answer, answered, refusal, andThen, unless, cons, repeat, with, provided}
 use Rattle.scope.specs.Number.{Front, broken, whole, within, front, numberFrom, number, limited, reference, references, listed}
-use Rattle.scope.specs.Kinds.{Event, Kind, cluster, idle, lowOf, highOf, longest, rulesOf}
+use Rattle.scope.specs.Kinds.{Event, Kind, cluster, idle, longest, users, groupAt, Counted, countedOf}
 use Rattle.scope.specs.Instance.{Counts, countsOf, Instance, eventAt, pairAt, boundsAt, clashAt, unavailableAt, preferredAt, splitAt, spreadAt, busyAt, overGroupsAt, fieldsAt, ended, constraintAt, sizesAt, groupsAt, constraintsAt, parse}
 use Rattle.scope.specs.Score.{cells, truth, firstWrong, firstAbove, unlessFound, ofTimetable}
 
@@ -123,11 +123,11 @@ module _ {ns : List ℕ} (r : Reader ns) where
         (after (a-pair (n .resources) (n .groups) at) (λ p next. after (the-bounds next) (λ b end. reads)))
         (chosen (eqb k 7) (over-groups n at cluster) (over-groups n at idle)))))))
 
-    an-end : (at n weight : ℕ) (k : Kind) (end : ℕ) → Reads ns (ended at n weight k end)
+    an-end : (at lo hi n weight : ℕ) (k : Kind) (end : ℕ) → Reads ns (ended at lo hi n weight k end)
     unfolding ended
-    an-end at n weight k end =
+    an-end at lo hi n weight k end =
         tested (leb n 255) 4 at (r .e4)
-        (tested (leb (lowOf k) (highOf k)) 5 at (r .e5) (tested (leb (lowOf k) n) 5 at (r .e5) reads))
+        (tested (leb lo hi) 5 at (r .e5) (tested (leb lo n) 5 at (r .e5) reads))
 
     module _ (T R : ℕ) (es : List Event) (gs : List (List ℕ)) where
       a-constraint : (at : ℕ) → Reads ns (constraintAt T R es gs s at)
@@ -137,7 +137,9 @@ module _ {ns : List ℕ} (r : Reader ns) where
           (λ kind next.
           after (a-limit s next 0 1000)
           (λ weight more.
-          after (the-fields (countsOf T R es gs) more kind) (λ k end. an-end at (longest (rulesOf T es gs k)) weight k end)))
+          after (the-fields (countsOf T R es gs) more kind) (λ k end.
+          let c : Counted = countedOf T (λ r. users r es) (groupAt gs) k in
+          an-end at (c .lo) (c .hi) (longest (c .lists)) weight k end)))
 
       some-constraints : (at : ℕ) → Reads ns (constraintsAt T R es gs s at)
       unfolding constraintsAt

@@ -5,7 +5,7 @@ use mathlib.Core.List.{List}
 use lib.ListN.{length}
 use native.Mathlib.Omega.{arith}
 use Rattle.scope.specs.Parsed.{Parsed, got, refused, andThen}
-use Rattle.scope.specs.Kinds.{Constraint, users, rulesOf, longest}
+use Rattle.scope.specs.Kinds.{Constraint, users}
 use Rattle.scope.specs.Number.{limited}
 use Rattle.scope.specs.Instance.{countsOf, parse}
 use Rattle.scope.specs.declared.Refusal.{Refusal}
@@ -18,7 +18,7 @@ use Rattle.tables.specs.Reading.{event-row, events-in, groups-in}
 use Rattle.tables.specs.Users.{Counted, users-counted}
 use Rattle.constraint.specs.declared.kinds.Head.{Head}
 use Rattle.constraint.specs.Answers.{countsIn}
-use Rattle.constraint.specs.Decoded.{checked-same, constraint-checked}
+use Rattle.constraint.specs.Decoded.{longestOf, checked-same, constraint-checked}
 use Rattle.instance.specs.declared.reader.Sizes.{Sizes}
 use Rattle.instance.specs.declared.reader.SizesRead.{SizesRead}
 use Rattle.instance.specs.Answers.{saidTables, headStart, constraintsOf, instanceOf}
@@ -72,7 +72,7 @@ module _ (s d te tg : List ℕ) (h : Head) (i : StartIn (headStart d te tg h)) w
       sym
       (constraint-checked (h .times) (h .resources) es gs s at
       ∙ rw counts-are
-      (checked-same (countsIn h) (λ k. longest (rulesOf (h .times) es gs k)) (lengthBy (byRows te (h .events)) tg h) s at
+      (checked-same (countsIn h) (longestOf (h .times) es gs) (lengthBy (byRows te (h .events)) tg h) s at
       (λ k. list-length (h .times) (byRows te (h .events)) es gs k (i .sizes .times-low) used-right (i .groups))))
 
   -- the constraints of the instance, up to the file's end

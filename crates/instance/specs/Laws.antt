@@ -10,7 +10,7 @@ use Rattle.scope.specs.Parsed.{Parsed, got, refused, andThen, unless, repeat}
 use Rattle.scope.specs.Parsed.{answered, refusal}
 use Rattle.scope.specs.Operations.{readOf}
 use Rattle.scope.specs.Number.{limited}
-use Rattle.scope.specs.Kinds.{Kind, Constraint, rulesOf, longest, lowOf, highOf}
+use Rattle.scope.specs.Kinds.{Kind, Constraint}
 use Rattle.scope.specs.Instance.{Counts, Instance, countsOf, ended, parse}
 use Rattle.number.specs.Parsing.{listOf, andThen-got, unless-got, repeat-length, repeat-also}
 use Rattle.number.specs.Each.{Each, each-head, each-drop, repeat-each}
@@ -22,7 +22,8 @@ use Rattle.constraint.specs.declared.kinds.Constraint as decl
 use Rattle.constraint.specs.declared.kinds.Head.{Head}
 use Rattle.constraint.specs.declared.kinds.Next.{Next}
 use Rattle.constraint.specs.Answers.{countsIn, saidNext, constraintOf}
-use Rattle.constraint.specs.Decoded.{decodedAt, endedBy, checkedAt, constraint-checked}
+use Rattle.constraint.specs.Bounds.{lowOf, highOf}
+use Rattle.constraint.specs.Decoded.{decodedAt, endedBy, checkedAt, longestOf, constraint-checked}
 use Rattle.constraint.specs.Valid.{InRange, decoded-got}
 use Rattle.constraint.specs.Walk.{Walk, constraintsIn, walk-start, walk-read}
 use Rattle.instance.specs.declared.reader.File.{File}
@@ -36,9 +37,9 @@ use Rattle.instance.specs.Start.{SizesIn, StartIn, tables-got}
 pub record ConstraintOf (n : Counts) (t : Start) (c : Constraint) : Type 0 where
   pub weight : c .weight ≤ 1000
   pub fields : InRange n (c .kind)
-  pub short : longest (rulesOf (t .times) (t .events) (t .groups) (c .kind)) ≤ 255
+  pub short : longestOf (t .times) (t .events) (t .groups) (c .kind) ≤ 255
   pub ordered : lowOf (c .kind) ≤ highOf (c .kind)
-  pub reached : lowOf (c .kind) ≤ longest (rulesOf (t .times) (t .events) (t .groups) (c .kind))
+  pub reached : lowOf (c .kind) ≤ longestOf (t .times) (t .events) (t .groups) (c .kind)
 
 -- the counts of an instance without its constraints
 abbrev pub countsStart : Start → Counts
@@ -57,7 +58,7 @@ record Passed (n : ℕ) (k : Kind) : Type 0 where
   reached : lowOf k ≤ n
 
 ended-got : (at n weight : ℕ) (k : Kind) (end : ℕ) {c : Constraint} {next : ℕ}
-    → ended at n weight k end ≡ got c next
+    → ended at (lowOf k) (highOf k) n weight k end ≡ got c next
     → Passed n k × (_≡_ {A = Parsed Constraint} (got (record { weight = weight; kind = k }) end) (got c next))
 unfolding ended
 ended-got at n weight k end e =
@@ -75,7 +76,7 @@ ended-got at n weight k end e =
 pub constraint-got : (t : Start) (s : List ℕ) (at : ℕ) {c : Constraint} {end : ℕ} → constraintIn t s at ≡ got c end → ConstraintAt t s at c end
 unfolding checkedAt
 constraint-got t s at {c} {end} e =
-    let len : Kind → ℕ = λ k. longest (rulesOf (t .times) (t .events) (t .groups) k) in
+    let len : Kind → ℕ = longestOf (t .times) (t .events) (t .groups) in
     let f = sym (constraint-checked (t .times) (t .resources) (t .events) (t .groups) s at) ∙ e in
     let p = andThen-got (decodedAt (countsStart t) s at) (endedBy len at) f in
     let q = ended-got at (len (p .value .kind)) (p .value .weight) (p .value .kind) (p .next) (p .rest) in

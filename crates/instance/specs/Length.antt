@@ -8,7 +8,9 @@ use native.Mathlib.Nat.{eq-or-lt-of-le}
 use native.Mathlib.Omega.{arith}
 use borrow.Author.Tests.{eq-eqb, ne-eqb}
 use lib.ListN.{length, getD, length-map, length-append}
-use Rattle.scope.specs.Kinds.{Event, Kind, clash, unavailable, preferred, split, spread, busy, cluster, idle, Atom, Y, S, X, Entry, atom, Rule, between, from, upTo, member, users, outside, groupAt, usesAt, startsAt, gapsAfter, gaps, rulesOf, longest}
+use Rattle.scope.specs.Kinds.{Event, Kind, clash, unavailable, preferred, split, spread, busy, cluster, idle, Atom, Y, S, X, Entry, atom, Listed, entries, from, upTo, member, users, outside, groupAt, usesAt, startsAt, gapsAfter, gaps, countedOf, longest}
+use Rattle.theory.specs.Nodes.{length-members}
+use Rattle.constraint.specs.Decoded.{longestOf}
 use Rattle.number.specs.Each.{Each, each-none, each-more}
 use Rattle.number.specs.Laws.{Ascending, none, more}
 use Rattle.tables.specs.Users.{below-once}
@@ -30,17 +32,17 @@ listLength T used gs (cluster r hs lo hi) = length hs
 listLength T used gs (idle r hs lo hi) = innerLength gs hs
 
 -- one counted list
-longest-one : (r : Rule) → longest (r ∷ []) ≡ length (r .list)
+longest-one : (l : List Entry) → longest (entries l ∷ []) ≡ length l
 unfolding longest
-longest-one r = omega arith
+longest-one l = omega (arith, length-members l 0)
 
 -- the same length at each time
-longest-most : (f : ℕ → Rule) (m n k : ℕ) → ((t : ℕ) → length (f t .list) ≡ m) → longest (map f (from n k)) ≤ m
+longest-most : (f : ℕ → Listed) (m n k : ℕ) → ((t : ℕ) → length (f t .members) ≡ m) → longest (map f (from n k)) ≤ m
 unfolding longest from
 longest-most f m n zero h = omega arith
 longest-most f m n (suc k) h = omega (arith, longest-most f m (suc n) k h, h n)
 
-longest-same : (f : ℕ → Rule) (m T : ℕ) → 1 ≤ T → ((t : ℕ) → length (f t .list) ≡ m) → longest (map f (upTo T)) ≡ m
+longest-same : (f : ℕ → Listed) (m T : ℕ) → 1 ≤ T → ((t : ℕ) → length (f t .members) ≡ m) → longest (map f (upTo T)) ≡ m
 unfolding longest from
 longest-same f m zero p h = let z : ⊥ = omega arith in elim z [ ]
 longest-same f m (suc k) p h = omega (arith, longest-most f m 2 k h, h 1)
@@ -112,11 +114,11 @@ pub list-length : (T : ℕ) (used : ℕ → ℕ) (es : List Event) (gs : List (L
     → 1 ≤ T
     → ((r : ℕ) → used r ≡ length (users r es))
     → Each (Ascending T 0) gs
-    → longest (rulesOf T es gs k) ≡ listLength T used gs k
-unfolding rulesOf listLength
+    → longestOf T es gs k ≡ listLength T used gs k
+unfolding countedOf listLength
 list-length T used es gs (clash r) p u a =
-    longest-same (λ t. between 0 1 (map (λ e. atom (Y e t)) (users r es))) (used r) T p
-    (λ t. length-map (users r es) (λ e. atom (Y e t)) ∙ sym (u r))
+    longest-same (λ t. entries (map (λ e. atom (Y e t)) (users r es))) (used r) T p
+    (λ t. length-members (map (λ e. atom (Y e t)) (users r es)) 0 ∙ length-map (users r es) (λ e. atom (Y e t)) ∙ sym (u r))
 list-length T used es gs (unavailable r g) p u a = longest-one _ ∙ length-map (usesAt r (groupAt gs g)) atom ∙ length-map (groupAt gs g) (X r)
 list-length T used es gs (preferred e g) p u a =
     let o = outside-length T 0 T (groupAt gs g) (group-ascending gs g a) (omega arith) in

@@ -2,8 +2,8 @@
 use crate::length::list_length;
 use constraint::Constraint;
 use constraint::Head;
-use constraint::Kind;
 use constraint::Next;
+use constraint::bounds_of;
 use constraint::constraint_at;
 use scope::Refusal;
 use scope::refusals::BAD_BOUNDS;
@@ -11,35 +11,14 @@ use scope::refusals::LIST_TOO_LONG;
 ghost use mathlib.Core.Path.{_≡_};
 ghost use mathlib.Core.List.{List};
 ghost use Prim.Native.Nat.{ℕ};
-ghost use Rattle.scope.specs.Kinds.{lowOf, highOf};
 ghost use Rattle.scope.specs.Instance.{ended as endedAt};
 ghost use Rattle.constraint.specs.Answers.{kindOf, saidNext};
+ghost use Rattle.constraint.specs.Bounds.{lowOf, highOf};
 ghost use Rattle.instance.specs.Ready.{Ready, checkedBy, byCounts};
-
-struct Bounds {
-    lo: u32,
-    hi: u32,
-}
-
-// lo and hi as written; fixed for the kinds without them.
-fn bounds_of(k: Kind) -> Bounds
-    ensures { λ r. ⌜ ((l : List ℕ) → (r .lo ≡ lowOf (kindOf l k)) × (r .hi ≡ highOf (kindOf l k))) ⌝ }
-{
-    match k {
-        Kind::Clash(_) => Bounds { lo: 0, hi: 1 },
-        Kind::Unavailable(_) => Bounds { lo: 0, hi: 0 },
-        Kind::Preferred(_) => Bounds { lo: 0, hi: 0 },
-        Kind::Split(f) => Bounds { lo: f.lo, hi: f.hi },
-        Kind::Spread(f) => Bounds { lo: f.lo, hi: f.hi },
-        Kind::Busy(f) => Bounds { lo: f.lo, hi: f.hi },
-        Kind::Cluster(f) => Bounds { lo: f.lo, hi: f.hi },
-        Kind::Idle(f) => Bounds { lo: f.lo, hi: f.hi },
-    }
-}
 
 // A constraint whose kind stands at an offset and whose counted list has n members.
 fn ended(at: usize, n: u32, c: Constraint, end: usize) -> Next
-    ensures { λ r. ⌜ ((l : List ℕ) → saidNext l r ≡ endedAt at n (c .weight) (kindOf l (c .kind)) end) ⌝ }
+    ensures { λ r. ⌜ ((l : List ℕ) → saidNext l r ≡ endedAt at (lowOf (kindOf l (c .kind))) (highOf (kindOf l (c .kind))) n (c .weight) (kindOf l (c .kind)) end) ⌝ }
 {
     if 255 < n {
         return Next::Refused(Refusal {

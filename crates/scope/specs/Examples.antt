@@ -8,11 +8,11 @@ use lib.ListN.{drop, replicate}
 use lib.Dec.{eqb, ltb}
 use Rattle.scope.specs.Parsed.{Parsed, got, refused, Answer, answered, refusal, repeat}
 use Rattle.scope.specs.Number.{group, front, within, number, limited, reference, references, listed}
-use Rattle.scope.specs.Kinds.{Atom, Y, S, X, Entry, atom, spread, limit, upTo, usesAt, from, member, usersFrom, outside, gapsAfter, gaps, rulesOf, longest}
+use Rattle.scope.specs.Kinds.{Atom, Y, S, X, Rule, rule, Listed, atom, entriesNodes, entriesMembers, entries, spread, limit, upTo, usesAt, from, member, usersFrom, outside, groupAt, gapsAfter, gaps, countedOf, rulesOf, longest}
 use Rattle.scope.specs.Instance.{eventAt, pairAt, boundsAt, clashAt, unavailableAt, preferredAt, splitAt, spreadAt, busyAt, overGroupsAt, fieldsAt, ended, constraintAt, sizesAt, groupsAt, constraintsAt, parse}
 use Rattle.scope.specs.Cnf.{Item, gate, byte, bit, lit, clause, clauses, cube, hasTrue, withoutFalse, tidy, pairs, gateClauses, value, hardClauses, outputs, softUnits, falsified}
-use Rattle.scope.specs.Score.{trues, any, all, deviation, charged, entryTrue, deviations, truth, eventRight, firstWrong, infeasibilityOf, objectiveOf, firstAbove}
-use Rattle.scope.specs.Formula.{noRow, ones, row, counter, lastRow, lowUnits, highUnits, shortUnits, boundItems, countInto, allAdded, listGates, listLiterals, ruleItems, rulesItems, starts, uses, durationRules, constraintRules, formula, variables, hardOf, softOf, tail, bounded, boundedVariables, boundedHard, words}
+use Rattle.scope.specs.Score.{trues, any, all, deviation, charged, valuesAfter, count, deviations, truth, eventRight, firstWrong, infeasibilityOf, objectiveOf, firstAbove}
+use Rattle.scope.specs.Formula.{noRow, ones, row, counter, lastRow, lowUnits, highUnits, shortUnits, boundItems, countInto, ruleItems, rulesItems, starts, uses, durationRules, constraintRules, formula, variables, hardOf, softOf, tail, bounded, boundedVariables, boundedHard, words}
 use Rattle.scope.specs.Text.{digits, literalText, line, sumWeights, top, headerLine, text}
 use Rattle.scope.specs.Steps.{tokensAfter, numbers, readStep, allFalse, literalsOk, wellFormed, standing, hintsShow, deleted}
 use Rattle.scope.specs.PlainRun.{perform, run, start, plainRun}
@@ -121,8 +121,12 @@ listFile n =
     0x01 ∷ 0x01 ∷ 0x01 ∷ 0x01 ∷ 0x00
     ∷ (spelt n ++ replicate n 0 ++ 0x01 ∷ 0x07 ∷ 0x00 ∷ 0x01 ∷ (spelt n ++ flatMap spelt (from 1 n) ++ 0x00 ∷ 0x00 ∷ []))
 
-six : List Entry
-six = map atom (usesAt 1 (upTo 6))
+-- kind 6, 3 to 5, over six members
+six : Rule
+six = rule (limit 3 5 []) (entries (map atom (usesAt 1 (upTo 6))))
+
+idleSix : Listed
+idleSix = entries (gaps (usesAt 1 (upTo 6)))
 
 pub record Case : Type 0 where
   pub computed : List ℕ
@@ -180,13 +184,13 @@ cases =
     -- bounds 1 to 2: counts 0, 2, 3 deviate 1, 0, 1
     ∷ shows (deviation 1 2 0 ∷ deviation 1 2 2 ∷ deviation 1 2 3 ∷ []) (1 ∷ 0 ∷ 1 ∷ [])
     -- kind 6, 3 to 5: counts 0, 1 deviate 0, 2
-    ∷ shows (charged (limit 3 5 six) 0 ∷ charged (limit 3 5 six) 1 ∷ []) (0 ∷ 2 ∷ [])
+    ∷ shows (charged six 0 ∷ charged six 1 ∷ []) (0 ∷ 2 ∷ [])
     -- busy at members 2 and 5 of six: 2 idle
-    ∷ shows (trues (map (entryTrue (busyTimes 2 5)) (gaps (usesAt 1 (upTo 6)))) ∷ []) (2 ∷ [])
+    ∷ shows (count (busyTimes 2 5) idleSix ∷ []) (2 ∷ [])
     -- at members 2 and 4 of six: 1 idle
-    ∷ shows (trues (map (entryTrue (busyTimes 2 4)) (gaps (usesAt 1 (upTo 6)))) ∷ []) (1 ∷ [])
+    ∷ shows (count (busyTimes 2 4) idleSix ∷ []) (1 ∷ [])
     -- two starts of a spread group at one time count twice
-    ∷ shows (deviations startAt1 (rulesOf 1 [] ((1 ∷ []) ∷ []) (spread (1 ∷ 2 ∷ []) 1 0 1)) ∷ []) (1 ∷ [])
+    ∷ shows (deviations startAt1 (rulesOf 1 (λ r. []) (groupAt ((1 ∷ []) ∷ [])) (spread (1 ∷ 2 ∷ []) 1 0 1)) ∷ []) (1 ∷ [])
     -- literals 1, 0, 1 give last row 1, 1, 0; its clauses refuse a count that is too low or too high
     ∷ shows (drop 6 (outputs counter3 (1 ∷ 0 ∷ 1 ∷ []))) (1 ∷ 1 ∷ 0 ∷ [])
     ∷ shows (holds3 (1 ∷ 0 ∷ 1 ∷ 1 ∷ 0 ∷ 0 ∷ 1 ∷ 0 ∷ 0 ∷ 1 ∷ 1 ∷ 0 ∷ [])) (1 ∷ [])
@@ -202,5 +206,5 @@ cases =
 
 -- the definitions compute what the paper says
 pub examples : map (λ c. c .computed) cases ≡ map (λ c. c .expected) cases
-unfolding repeat group front within number limited reference references listed from member usersFrom outside gapsAfter gaps rulesOf longest eventAt pairAt boundsAt clashAt unavailableAt preferredAt splitAt spreadAt busyAt overGroupsAt fieldsAt ended constraintAt sizesAt groupsAt constraintsAt parse bit lit clause clauses cube hasTrue withoutFalse tidy pairs gateClauses value hardClauses outputs softUnits falsified trues any all deviation charged entryTrue deviations truth eventRight firstWrong infeasibilityOf objectiveOf firstAbove row counter lastRow lowUnits highUnits shortUnits boundItems countInto allAdded listGates listLiterals ruleItems rulesItems starts uses durationRules constraintRules formula variables hardOf softOf tail bounded boundedVariables boundedHard words digits literalText line sumWeights top headerLine text tokensAfter numbers readStep allFalse literalsOk wellFormed standing hintsShow deleted perform run start plainRun readOf scoreOf sameBytes sameSheetOf sizesOf textSizeOf textOf programPrints lowestFalse decodeOf formulaFits checkOf checkHardOf bestOf fileA fileHardA fileFree proofA listingA numberSaid stepsSaid scoreSaid decodeSaid bestSaid sizeSaid ample checkA roomA bestA busyTimes startAt1 counter3 holds3 timesFile spelt listFile six cases flatMap
+unfolding repeat group front within number limited reference references listed from member usersFrom outside gapsAfter gaps entriesNodes entriesMembers countedOf longest eventAt pairAt boundsAt clashAt unavailableAt preferredAt splitAt spreadAt busyAt overGroupsAt fieldsAt ended constraintAt sizesAt groupsAt constraintsAt parse bit lit clause clauses cube hasTrue withoutFalse tidy pairs gateClauses value hardClauses outputs softUnits falsified trues any all deviation charged valuesAfter count deviations truth eventRight firstWrong infeasibilityOf objectiveOf firstAbove row counter lastRow lowUnits highUnits shortUnits boundItems countInto ruleItems rulesItems starts uses durationRules constraintRules formula variables hardOf softOf tail bounded boundedVariables boundedHard words digits literalText line sumWeights top headerLine text tokensAfter numbers readStep allFalse literalsOk wellFormed standing hintsShow deleted perform run start plainRun readOf scoreOf sameBytes sameSheetOf sizesOf textSizeOf textOf programPrints lowestFalse decodeOf formulaFits checkOf checkHardOf bestOf fileA fileHardA fileFree proofA listingA numberSaid stepsSaid scoreSaid decodeSaid bestSaid sizeSaid ample checkA roomA bestA busyTimes startAt1 counter3 holds3 timesFile spelt listFile six idleSix cases flatMap
 examples = refl

@@ -1,10 +1,10 @@
 -- The formula of an instance: its items in the order of clauses and variables, the tail for a bound, and their sizes.
-use mathlib.Core.Bool.{cond}
+use mathlib.Core.Bool.{Bool, cond}
 use mathlib.Core.List.{List, [], _∷_, _++_, map, flatMap}
 use Prim.Native.Nat.{ℕ, zero, suc, _+_, _-_, _*_, min}
 use lib.ListN.{length}
 use lib.Dec.{leb, ltb}
-use Rattle.scope.specs.Kinds.{Event, Constraint, Atom, Y, S, Entry, atom, anyOf, gap, Rule, between, from, upTo, users, takesAt}
+use Rattle.scope.specs.Kinds.{Event, Constraint, Atom, Y, S, Thing, anAtom, aNode, Ref, Node, someOf, allOf, entries, Rule, rule, between, from, upTo, users, takesAt}
 use Rattle.scope.specs.Instance.{Instance}
 use Rattle.scope.specs.Cnf.{pos, neg, opp, Gate, or, and, cell, Item, gate, hard, soft, hardClauses, gates, softUnits}
 use Rattle.scope.specs.Score.{layout, var, rules, eventCount}
@@ -76,42 +76,25 @@ countInto J w r xs v =
 abbrev pub countItems : ℕ → Rule → List ℕ → ℕ → List Item
 countItems w r xs v = countInto (columns w (r .hi) (length xs)) w r xs v
 
--- how many variables an entry adds
-abbrev pub added : Entry → ℕ
-added (atom a) = 0
-added (anyOf xs) = 1
-added (gap earlier here later) = 3
-
-unfoldable pub allAdded : List Entry → ℕ
-allAdded [] = 0
-allAdded (x ∷ xs) = added x + allAdded xs
-
 -- where num gives the literal of an atom
 module _ (num : Atom → ℕ) where
-  -- the gates that an entry adds from the variable v on, and the literal that is counted: for an idle time G, H and I, which is
-  -- true where the time has no X and G and H are true
-  abbrev pub entryGates : Entry → ℕ → List Gate
-  entryGates (atom a) v = []
-  entryGates (anyOf xs) v = or (map num xs) ∷ []
-  entryGates (gap earlier here later) v =
-      or (map num earlier) ∷ or (map num later) ∷ and (opp (num here) ∷ pos v ∷ pos (v + 1) ∷ []) ∷ []
+  -- the literal of a reference and the gate of a node, in a list whose first node is the variable v
+  abbrev pub thingLiteral : ℕ → Thing → ℕ
+  thingLiteral v (anAtom a) = num a
+  thingLiteral v (aNode k) = pos (v + k)
 
-  abbrev pub entryLiteral : Entry → ℕ → ℕ
-  entryLiteral (atom a) v = num a
-  entryLiteral (anyOf xs) v = pos v
-  entryLiteral (gap earlier here later) v = pos (v + 2)
+  abbrev pub refLiteral : ℕ → Ref → ℕ
+  refLiteral v r = cond (r .negated) (opp (thingLiteral v (r .thing))) (thingLiteral v (r .thing))
 
-  unfoldable pub listGates : List Entry → ℕ → List Gate
-  listGates [] v = []
-  listGates (x ∷ xs) v = entryGates x v ++ listGates xs (v + added x)
+  abbrev pub nodeGate : ℕ → Node → Gate
+  nodeGate v (someOf rs) = or (map (refLiteral v) rs)
+  nodeGate v (allOf rs) = and (map (refLiteral v) rs)
 
-  unfoldable pub listLiterals : List Entry → ℕ → List ℕ
-  listLiterals [] v = []
-  listLiterals (x ∷ xs) v = entryLiteral x v ∷ listLiterals xs (v + added x)
-
-  -- a rule of the weight w, from the variable v on
+  -- a rule of the weight w, from the variable v on: the gates of its nodes, and its members counted
   unfoldable pub ruleItems : ℕ → Rule → ℕ → List Item
-  ruleItems w r v = map gate (listGates (r .list) v) ++ countItems w r (listLiterals (r .list) v) (v + allAdded (r .list))
+  ruleItems w r v =
+      map gate (map (nodeGate v) (r .list .nodes))
+      ++ countItems w r (map (refLiteral v) (r .list .members)) (v + length (r .list .nodes))
 
   -- rules with their weights, one after the other
   unfoldable pub rulesItems : List (ℕ × Rule) → ℕ → List Item
@@ -144,7 +127,8 @@ module _ (i : Instance) where
   -- 3. "each event: Y counted, lo = hi = duration, hard"; the first of the list has the number e
   unfoldable pub durationRules : ℕ → List Event → List (ℕ × Rule)
   durationRules e [] = []
-  durationRules e (v ∷ vs) = (0, between (v .duration) (v .duration) (takesAt e (upTo (i .times)))) ∷ durationRules (suc e) vs
+  durationRules e (v ∷ vs) =
+      (0, rule (between (v .duration) (v .duration) []) (entries (takesAt e (upTo (i .times))))) ∷ durationRules (suc e) vs
 
   -- 4. "constraints in file order"
   unfoldable pub constraintRules : List Constraint → List (ℕ × Rule)

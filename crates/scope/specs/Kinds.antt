@@ -32,26 +32,92 @@ pub data Atom : Type 0 where
   S : (e t : ℕ) → Atom
   X : (r t : ℕ) → Atom
 
--- a member of a counted list: an atom; whether some atom of a group is true; whether a member of a group is idle:
--- false itself, with a true one earlier and a true one later
+-- A counted list is nodes and members. A node is an OR or an AND of references; a reference is to an atom or to an earlier node
+-- of the same list, nodes counted from 0, as it is or negated; the members are references, and the true ones are counted
+pub data Thing : Type 0 where
+  anAtom : Atom → Thing
+  aNode : ℕ → Thing
+
+pub record Ref : Type 0 where
+  pub negated : Bool
+  pub thing : Thing
+
+pub data Node : Type 0 where
+  someOf : List Ref → Node
+  allOf : List Ref → Node
+
+pub record Listed : Type 0 where
+  pub nodes : List Node
+  pub members : List Ref
+
+abbrev pub is : Thing → Ref
+is x = record { negated = false; thing = x }
+
+abbrev pub isNot : Thing → Ref
+isNot x = record { negated = true; thing = x }
+
+abbrev pub atoms : List Atom → List Ref
+atoms xs = map (λ a. is (anAtom a)) xs
+
+-- the members of today's kinds: an atom; whether some atom of a group is true; whether a member of a group is idle: false
+-- itself, with a true one earlier and a true one later
 pub data Entry : Type 0 where
   atom : Atom → Entry
   anyOf : List Atom → Entry
   gap : (earlier : List Atom) (here : Atom) (later : List Atom) → Entry
 
--- a counted list with its bounds; in a busy limit a count of 0 deviates by 0
+-- the nodes of an entry that stands after k others, and its member: for an idle time G, H and I, which is true where the time
+-- has no X and G and H are true
+abbrev pub entryNodes : Entry → ℕ → List Node
+entryNodes (atom a) k = []
+entryNodes (anyOf xs) k = someOf (atoms xs) ∷ []
+entryNodes (gap earlier here later) k =
+    someOf (atoms earlier) ∷ someOf (atoms later) ∷ allOf (isNot (anAtom here) ∷ is (aNode k) ∷ is (aNode (k + 1)) ∷ []) ∷ []
+
+abbrev pub entryMember : Entry → ℕ → Ref
+entryMember (atom a) k = is (anAtom a)
+entryMember (anyOf xs) k = is (aNode k)
+entryMember (gap earlier here later) k = is (aNode (k + 2))
+
+-- how many nodes an entry has
+abbrev pub added : Entry → ℕ
+added (atom a) = 0
+added (anyOf xs) = 1
+added (gap earlier here later) = 3
+
+unfoldable pub entriesNodes : List Entry → ℕ → List Node
+entriesNodes [] k = []
+entriesNodes (x ∷ xs) k = entryNodes x k ++ entriesNodes xs (k + added x)
+
+unfoldable pub entriesMembers : List Entry → ℕ → List Ref
+entriesMembers [] k = []
+entriesMembers (x ∷ xs) k = entryMember x k ∷ entriesMembers xs (k + added x)
+
+abbrev pub entries : List Entry → Listed
+entries xs = record { nodes = entriesNodes xs 0; members = entriesMembers xs 0 }
+
+-- what a kind counts: its lists, lo and hi as written; in a busy limit a count of 0 deviates by 0
+pub record Counted : Type 0 where
+  pub lo : ℕ
+  pub hi : ℕ
+  pub zeroFree : Bool
+  pub lists : List Listed
+
+-- a counted list with its bounds: hi is lowered to the list's length
 pub record Rule : Type 0 where
   pub lo : ℕ
   pub hi : ℕ
   pub zeroFree : Bool
-  pub list : List Entry
+  pub list : Listed
 
--- hi is lowered to the list's length
-abbrev pub between : ℕ → ℕ → List Entry → Rule
-between lo hi l = record { lo = lo; hi = min hi (length l); zeroFree = false; list = l }
+abbrev pub rule : Counted → Listed → Rule
+rule c l = record { lo = c .lo; hi = min (c .hi) (length (l .members)); zeroFree = c .zeroFree; list = l }
 
-abbrev pub limit : ℕ → ℕ → List Entry → Rule
-limit lo hi l = record { lo = lo; hi = min hi (length l); zeroFree = true; list = l }
+abbrev pub between : ℕ → ℕ → List Listed → Counted
+between lo hi ls = record { lo = lo; hi = hi; zeroFree = false; lists = ls }
+
+abbrev pub limit : ℕ → ℕ → List Listed → Counted
+limit lo hi ls = record { lo = lo; hi = hi; zeroFree = true; lists = ls }
 
 -- k numbers from n on; 1 up to n
 unfoldable pub from : ℕ → ℕ → List ℕ
@@ -102,40 +168,22 @@ unfoldable pub gaps : List Atom → List Entry
 gaps [] = []
 gaps (x ∷ xs) = gapsAfter (x ∷ []) xs
 
--- the counted lists of a kind, for T times, the events and the groups of an instance
-module _ (T : ℕ) (es : List Event) (gs : List (List ℕ)) where
-  unfoldable pub rulesOf : Kind → List Rule
-  rulesOf (clash r) = map (λ t. between 0 1 (map (λ e. atom (Y e t)) (users r es))) (upTo T)
-  rulesOf (unavailable r g) = between 0 0 (map atom (usesAt r (groupAt gs g))) ∷ []
-  rulesOf (preferred e g) = between 0 0 (takesAt e (outside (groupAt gs g) (upTo T))) ∷ []
-  rulesOf (split e lo hi) = between lo hi (startsAt e (upTo T)) ∷ []
-  rulesOf (spread vs g lo hi) = between lo hi (flatMap (λ e. startsAt e (groupAt gs g)) vs) ∷ []
-  rulesOf (busy r g lo hi) = limit lo hi (map atom (usesAt r (groupAt gs g))) ∷ []
-  rulesOf (cluster r hs lo hi) = between lo hi (map (λ g. anyOf (usesAt r (groupAt gs g))) hs) ∷ []
-  rulesOf (idle r hs lo hi) = between lo hi (flatMap (λ g. gaps (usesAt r (groupAt gs g))) hs) ∷ []
+-- The table of kinds, for T times, the users of a resource and the times of a group
+module _ (T : ℕ) (us group : ℕ → List ℕ) where
+  unfoldable pub countedOf : Kind → Counted
+  countedOf (clash r) = between 0 1 (map (λ t. entries (map (λ e. atom (Y e t)) (us r))) (upTo T))
+  countedOf (unavailable r g) = between 0 0 (entries (map atom (usesAt r (group g))) ∷ [])
+  countedOf (preferred e g) = between 0 0 (entries (takesAt e (outside (group g) (upTo T))) ∷ [])
+  countedOf (split e lo hi) = between lo hi (entries (startsAt e (upTo T)) ∷ [])
+  countedOf (spread vs g lo hi) = between lo hi (entries (flatMap (λ e. startsAt e (group g)) vs) ∷ [])
+  countedOf (busy r g lo hi) = limit lo hi (entries (map atom (usesAt r (group g))) ∷ [])
+  countedOf (cluster r hs lo hi) = between lo hi (entries (map (λ g. anyOf (usesAt r (group g))) hs) ∷ [])
+  countedOf (idle r hs lo hi) = between lo hi (entries (flatMap (λ g. gaps (usesAt r (group g))) hs) ∷ [])
 
--- lo and hi as written; the kinds without them have fixed bounds
-abbrev pub lowOf : Kind → ℕ
-lowOf (clash r) = 0
-lowOf (unavailable r g) = 0
-lowOf (preferred e g) = 0
-lowOf (split e lo hi) = lo
-lowOf (spread vs g lo hi) = lo
-lowOf (busy r g lo hi) = lo
-lowOf (cluster r hs lo hi) = lo
-lowOf (idle r hs lo hi) = lo
-
-abbrev pub highOf : Kind → ℕ
-highOf (clash r) = 1
-highOf (unavailable r g) = 0
-highOf (preferred e g) = 0
-highOf (split e lo hi) = hi
-highOf (spread vs g lo hi) = hi
-highOf (busy r g lo hi) = hi
-highOf (cluster r hs lo hi) = hi
-highOf (idle r hs lo hi) = hi
+  abbrev pub rulesOf : Kind → List Rule
+  rulesOf k = map (rule (countedOf k)) (countedOf k .lists)
 
 -- the length of the longest of some counted lists
-unfoldable pub longest : List Rule → ℕ
+unfoldable pub longest : List Listed → ℕ
 longest [] = 0
-longest (r ∷ rs) = max (length (r .list)) (longest rs)
+longest (l ∷ ls) = max (length (l .members)) (longest ls)

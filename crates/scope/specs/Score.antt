@@ -1,12 +1,12 @@
 -- Timetables, refusals 10 to 12, and the score.
 use mathlib.Core.Bool.{Bool, true, false, not, _&&_, _||_, cond}
-use mathlib.Core.List.{List, [], _∷_, map}
+use mathlib.Core.List.{List, [], _∷_, _++_, map}
 use mathlib.Core.Option.{Option, none, some}
 use Prim.Native.Nat.{ℕ, zero, suc, _+_, _-_, _*_}
-use lib.ListN.{length}
+use lib.ListN.{length, getD}
 use lib.Dec.{leb, ltb, eqb}
 use Rattle.scope.specs.Parsed.{Answer, refusal, provided}
-use Rattle.scope.specs.Kinds.{Event, Constraint, Atom, Y, S, X, Entry, atom, anyOf, gap, Rule, upTo, users, rulesOf}
+use Rattle.scope.specs.Kinds.{Event, Constraint, Atom, Y, S, X, Thing, anAtom, aNode, Ref, Node, someOf, allOf, Listed, Rule, upTo, users, groupAt, rulesOf}
 use Rattle.scope.specs.Instance.{Instance}
 use Rattle.scope.specs.Cnf.{bit}
 use Rattle.scope.specs.declared.Infeasibility.{Infeasibility}
@@ -34,25 +34,42 @@ deviation lo hi c = cond (ltb c lo) (lo - c) (cond (ltb hi c) (c - hi) 0)
 unfoldable pub charged : Rule → ℕ → ℕ
 charged r c = cond (r .zeroFree && eqb c 0) 0 (deviation (r .lo) (r .hi) c)
 
--- where τ says which atoms are true
+-- where τ says which atoms are true, and vs which of the nodes before
 module _ (τ : Atom → Bool) where
-  unfoldable pub entryTrue : Entry → Bool
-  entryTrue (atom a) = τ a
-  entryTrue (anyOf xs) = any (map τ xs)
-  entryTrue (gap earlier here later) = not (τ here) && any (map τ earlier) && any (map τ later)
+  abbrev pub thingTrue : List Bool → Thing → Bool
+  thingTrue vs (anAtom a) = τ a
+  thingTrue vs (aNode k) = getD vs k false
 
-  abbrev pub count : Rule → ℕ
-  count r = trues (map entryTrue (r .list))
+  abbrev pub refTrue : List Bool → Ref → Bool
+  refTrue vs r = cond (r .negated) (not (thingTrue vs (r .thing))) (thingTrue vs (r .thing))
+
+  abbrev pub nodeTrue : List Bool → Node → Bool
+  nodeTrue vs (someOf rs) = any (map (refTrue vs) rs)
+  nodeTrue vs (allOf rs) = all (map (refTrue vs) rs)
+
+  -- the values of nodes, one after the other
+  unfoldable pub valuesAfter : List Bool → List Node → List Bool
+  valuesAfter vs [] = vs
+  valuesAfter vs (n ∷ ns) = valuesAfter (vs ++ nodeTrue vs n ∷ []) ns
+
+  unfoldable pub count : Listed → ℕ
+  count l = trues (map (refTrue (valuesAfter [] (l .nodes))) (l .members))
 
   -- the deviations of some rules, summed
   unfoldable pub deviations : List Rule → ℕ
   deviations [] = 0
-  deviations (r ∷ rs) = charged r (count r) + deviations rs
+  deviations (r ∷ rs) = charged r (count (r .list)) + deviations rs
 
 -- The numbering of variables, for T times, E events and R resources: E×T for Y, as many for S, R×T for X, then the others. The
 -- primary ones are no gate's output: Y and S
 abbrev pub layoutAt : (T E R : ℕ) → Layout
 layoutAt T E R = record { starts = E * T; primary = 2 * (E * T); uses = 2 * (E * T); others = 2 * (E * T) + R * T }
+
+-- the variables of atoms: row by row, each (e − 1)×T + t after those before its sort
+abbrev pub varAt : (T : ℕ) → Layout → Atom → ℕ
+varAt T L (Y e t) = (e - 1) * T + t
+varAt T L (S e t) = L .starts + ((e - 1) * T + t)
+varAt T L (X r t) = L .uses + ((r - 1) * T + t)
 
 module _ (i : Instance) where
   abbrev pub eventCount : ℕ
@@ -65,11 +82,8 @@ module _ (i : Instance) where
   abbrev pub layout : Layout
   layout = layoutAt (i .times) eventCount (i .resources)
 
-  -- the variables of atoms: row by row, each (e − 1)×T + t after those before its sort
   abbrev pub var : Atom → ℕ
-  var (Y e t) = (e - 1) * i .times + t
-  var (S e t) = layout .starts + ((e - 1) * i .times + t)
-  var (X r t) = layout .uses + ((r - 1) * i .times + t)
+  var a = varAt (i .times) layout a
 
   -- which atoms are true in the bytes of a timetable
   unfoldable pub truth : List ℕ → Atom → Bool
@@ -78,7 +92,7 @@ module _ (i : Instance) where
   truth b (X r t) = any (map (λ e. bit b (var (Y e t))) (users r (i .events)))
 
   abbrev pub rules : Constraint → List Rule
-  rules c = rulesOf (i .times) (i .events) (i .groups) (c .kind)
+  rules c = rulesOf (i .times) (λ r. users r (i .events)) (groupAt (i .groups)) (c .kind)
 
   module _ (τ : Atom → Bool) where
     -- time t − 1 is taken

@@ -3,7 +3,7 @@ use Prim.Native.Nat.{ℕ, _*_}
 use mathlib.Core.Path.{_≡_, refl, ap, _∙_}
 use mathlib.Core.List.{List}
 use lib.ListN.{length}
-use Rattle.scope.specs.Kinds.{Kind, rulesOf}
+use Rattle.scope.specs.Kinds.{Kind, users, groupAt, rulesOf}
 use Rattle.scope.specs.Score.{truth, deviations, infeasibility, objective}
 use Rattle.scope.specs.declared.Infeasibility.{Infeasibility}
 use Rattle.scope.specs.declared.Objective.{Objective}
@@ -31,7 +31,7 @@ module _
   charged : (k : Kind) → InRange (countsIn h) k
       → chargeOf (h .events * h .times) (h .times) b u x tg k
       ≡ deviations (truth (instanceOf s d te tg h) b)
-      (rulesOf (h .times) (instanceOf s d te tg h .events) (instanceOf s d te tg h .groups) k)
+      (rulesOf (h .times) (λ r. users r (instanceOf s d te tg h .events)) (groupAt (instanceOf s d te tg h .groups)) k)
   charged k v =
       rw (length-events d te (h .events)) at
       (charge-right (instanceOf s d te tg h) b u x tg (h .groups)

@@ -2,22 +2,24 @@
 use mathlib.Core.Path.{_≡_, refl}
 use mathlib.Core.Bool.{false}
 use mathlib.Core.List.{List, [], _∷_, map, flatMap}
-use Prim.Native.Nat.{ℕ, zero, suc, _-_, _*_}
+use Prim.Native.Nat.{ℕ, zero, suc, _+_, _-_, _*_}
 use native.Mathlib.Omega.{arith}
 use lib.ListN.{length, length-map}
 use Rattle.scope.specs.Cnf.{Item, or}
-use Rattle.scope.specs.Kinds.{Event, Y, from, upTo, users}
+use Rattle.scope.specs.Kinds.{Event, Atom, Y, atom, entries, entriesNodes, rule, between, from, upTo, users}
 use Rattle.scope.specs.Instance.{Instance}
 use Rattle.scope.specs.Score.{eventCount}
 use Rattle.scope.specs.Formula.{words, num, startItems, starts, uses, durationRules}
 use Rattle.theory.specs.Ranges.{length-from}
+use Rattle.theory.specs.Nodes.{length-members}
 use Rattle.sizing.specs.declared.Size.{Size}
-use Rattle.sizing.specs.Sums.{equal, none, sum, multiple, multiple-zero, multiple-suc}
+use Rattle.sizing.specs.Sums.{equal, none, sum, multiple, none-sum, multiple-zero, multiple-suc}
 use Rattle.sizing.specs.Measure.{clausesSize, sizeOf, size-nil, size-gate, size-hard, size-append}
 use Rattle.sizing.specs.Gates.{orSize, or-size}
 use Rattle.sizing.specs.Rows.{gatesSize, gates-append}
-use Rattle.sizing.specs.Rules.{rulesSize}
-use Rattle.sizing.specs.KindSizes.{listSize, atoms-rule}
+use Rattle.sizing.specs.NodeSizes.{nodeSizes, allInputs}
+use Rattle.sizing.specs.Counts.{listSize}
+use Rattle.sizing.specs.Rules.{ruleSize, rulesSize}
 
 -- the clauses of an event's starts at T times; at time 1 the second has a literal less
 unfoldable pub startClauses : ℕ → Size
@@ -51,6 +53,19 @@ same-sizes f s h (x ∷ xs) = rw (size-append, h x, same-sizes f s h xs, multipl
 -- the two clauses of a start, with w words
 abbrev startPair : ℕ → Size
 startPair w = record { variables = 0; clauses = 2; words = w; units = 0; weight = 0 }
+
+-- atoms have no nodes
+atoms-nodes : {A : Type 0} (f : A → Atom) (xs : List A) (k : ℕ) → entriesNodes (map (λ x. atom (f x)) xs) k ≡ []
+unfolding entriesNodes
+atoms-nodes f [] k = refl
+atoms-nodes f (x ∷ xs) k = atoms-nodes f xs (k + 0)
+
+-- a rule over atoms
+atoms-rule : {A : Type 0} (w lo hi : ℕ) (f : A → Atom) (xs : List A)
+    → ruleSize w (rule (between lo hi []) (entries (map (λ x. atom (f x)) xs))) ≡ listSize w lo hi false (length xs)
+unfolding ruleSize listSize nodeSizes allInputs none
+atoms-rule w lo hi f xs =
+    rw (atoms-nodes f xs 0, length-members, length-map xs (λ x. atom (f x))) (none-sum _)
 
 module _ (i : Instance) where
   -- at time 1, and at a later time

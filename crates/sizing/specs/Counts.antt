@@ -41,6 +41,10 @@ unfoldable pub countSize : ℕ → ℕ → ℕ → Bool → ℕ → Size
 countSize w lo hi zeroFree n =
     sum (equalRows (columns w hi n) n 1) (sum (lowSize w lo zeroFree) (unitsSize w (n - hi)))
 
+-- the same with hi as written, which is lowered to n
+unfoldable pub listSize : ℕ → ℕ → ℕ → Bool → ℕ → Size
+listSize w lo hi zeroFree n = countSize w lo (min hi n) zeroFree n
+
 -- soft units of one weight
 soft-units : (w : ℕ) (f : ℕ → ℕ) (js : List ℕ) → sizeOf (map (λ j. soft w (f j)) js) ≡ multiple (length js) (softSize w)
 soft-units w f [] = rw (size-nil, multiple-zero)

@@ -34,7 +34,7 @@ pub and-size : (ls : List ℕ) → gateSize (and ls) ≡ orSize (length ls)
 and-size ls = gate-size (and ls) (length ls) (and-clauses ls 1)
 
 -- the opposite of a literal from 2 on is one
-opp-proper : (l : ℕ) → 2 ≤ l → 2 ≤ opp l
+pub opp-proper : (l : ℕ) → 2 ≤ l → 2 ≤ opp l
 opp-proper l h = omega arith
 
 -- the cell of a literal x under no row, in a column up to x's weight and past it; then the same under a row

@@ -3,13 +3,11 @@ pub mod Measure
 pub mod Gates
 pub mod Rows
 pub mod Tail
+pub mod NodeSizes
 pub mod Counts
 pub mod Softs
 pub mod Rules
-pub mod KindSizes
 pub mod Countable
 pub mod Blocks
 pub mod Whole
 pub mod Limits
-pub mod WholeLimits
-pub mod Outside

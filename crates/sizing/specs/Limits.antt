@@ -16,9 +16,9 @@ use Rattle.sizing.specs.Gates.{orSize, hardUnit}
 use Rattle.sizing.specs.Rows.{firstRow, laterRow, equalRows}
 use Rattle.sizing.specs.Rules.{rows-units}
 use Rattle.sizing.specs.Tail.{tailAdd}
-use Rattle.sizing.specs.Counts.{unitsSize, shortsSize, lowSize, countSize, units-hard, units-soft, shorts-hard, shorts-soft}
-use Rattle.sizing.specs.Blocks.{startClauses, startsSize, useSize, usesSize, durationsSize}
-use Rattle.sizing.specs.KindSizes.{listSize, clashSize, gapSize, gapsSize}
+use Rattle.sizing.specs.Counts.{unitsSize, shortsSize, lowSize, countSize, listSize, units-hard, units-soft, shorts-hard, shorts-soft}
+use Rattle.sizing.specs.NodeSizes.{nodeSizes}
+use Rattle.sizing.specs.Blocks.{startClauses, startsSize}
 
 -- numbers of 32 bits multiplied, and of 63 bits added, have 64
 pub fits-multiple : (k m : ℕ) (a : Size) → k ≤ 4294967295 → m ≤ 4294967295 → Within m a → Fits64 (multiple k a)
@@ -104,20 +104,21 @@ pub list-most : (w lo hi : ℕ) (free : Bool) (n : ℕ) → lo ≤ hi → lo ≤
 unfolding listSize
 list-most w lo hi free n h l = count-most w lo (min hi n) free n (omega arith) (omega arith)
 
--- a clash's lists
-pub clash-within : (T w n : ℕ) → T ≤ 125 → w ≤ 1000 → n ≤ 255 → Within 153159375 (clashSize T w n)
-unfolding clashSize
-clash-within T w n h j k =
-    within-more (omega arith) (within-multiple T 1225275 (listSize w 0 1 false n) (list-within w 0 1 false n j (omega arith) k))
+-- the nodes of a list, at most 32,768 with 65,536 inputs; and with them its counted list
+pub nodes-within : (n k : ℕ) → n ≤ 32768 → k ≤ 65536 → Within 229376 (nodeSizes n k)
+unfolding nodeSizes
+nodes-within n k h j = omega arith
 
--- groups of up to 125 members
-pub gaps-within : (n : ℕ) → n ≤ 125 → Within 48000 (gapsSize n)
-unfolding gapsSize
-gaps-within n h =
-    let g : Within 384 (gapSize n) = unfold gapSize in omega arith in
-    let k : n - 2 ≤ 125 = omega arith in
-    let j : 384 ≤ 384 = omega arith in
-    within-more (omega (arith, mul-le-mul k j)) (within-multiple (n - 2) 384 (gapSize n) g)
+module _ (w lo hi : ℕ) (free : Bool) (n nodes inputs : ℕ) (short : n ≤ 255) (low : lo ≤ n) where
+  pub listed-within : w ≤ 1000 → nodes ≤ 32768 → inputs ≤ 65536
+      → Within 1454651 (sum (nodeSizes nodes inputs) (listSize w lo hi free n))
+  listed-within h j k =
+      within-sum 229376 1225275 (nodeSizes nodes inputs) (listSize w lo hi free n) (nodes-within nodes inputs j k)
+      (list-within w lo hi free n h (omega arith) short)
+
+  pub listed-most : lo ≤ hi → (sum (nodeSizes nodes inputs) (listSize w lo hi free n)) .units ≤ 255
+  unfolding sum nodeSizes
+  listed-most h = omega (arith, list-most w lo hi free n h low)
 
 -- the tail grows by at most 2 ^ 31 with each constraint
 pub tail-within : (m cols : ℕ) (s : Size) (n w : ℕ) → cols ≤ 4096 → n ≤ 32768 → Within m s
@@ -159,23 +160,3 @@ users-most r e (x ∷ vs) = go (member r (x .resources)) (users-most r (suc e) v
         → length (cond b (e ∷ usersFrom r (suc e) vs) (usersFrom r (suc e) vs)) ≤ suc (length vs)
     go true h = omega arith
     go false h = omega arith
-
-module _ (T : ℕ) (es : List Event) (h : T ≤ 125) where
-  pub uses-within : length es ≤ 1024 → (rs : List ℕ) → Within (length rs * 384125) (usesSize T es rs)
-  unfolding usesSize useSize
-  uses-within k [] = within-none 0
-  uses-within k (r ∷ rs) =
-      let n = length (users r es) in
-      let one = within-multiple T 3073 (orSize n) (or-within n (omega (arith, users-most r 1 es))) in
-      within-more (omega arith)
-      (within-sum (T * 3073) (length rs * 384125) (multiple T (orSize n)) (usesSize T es rs) one (uses-within k rs))
-
-pub durations-within : (T : ℕ) (vs : List Event) → T ≤ 125 → All (λ v. v .duration ≤ T) vs
-    → Within (length vs * 1225275) (durationsSize T vs)
-unfolding durationsSize
-durations-within T [] h a = within-none 0
-durations-within T (v ∷ vs) h a =
-    let d = v .duration in
-    within-more (omega arith)
-    (within-sum 1225275 (length vs * 1225275) (listSize 0 d d false T) (durationsSize T vs)
-    (list-within 0 d d false T (omega arith) (omega (arith, a .0)) (omega arith)) (durations-within T vs h (a .1)))

@@ -6,7 +6,7 @@ use native.Mathlib.Nat.{zero-add}
 use native.Mathlib.Omega.{arith}
 use lib.ListN.{length, replicate, replicate-append-replicate}
 use Rattle.scope.specs.Cnf.{Item, softUnits}
-use Rattle.scope.specs.Kinds.{Event, Constraint, Rule, between, upTo, takesAt}
+use Rattle.scope.specs.Kinds.{Event, Constraint, Rule, rule, between, entries, upTo, takesAt}
 use Rattle.scope.specs.Instance.{Instance}
 use Rattle.scope.specs.Score.{eventCount, rules}
 use Rattle.scope.specs.Text.{sumWeights}
@@ -22,7 +22,6 @@ use Rattle.sizing.specs.Rows.{Proper, weights}
 use Rattle.sizing.specs.Tail.{tailSize, tail-size, tailAdd, tail-add}
 use Rattle.sizing.specs.Softs.{soft-append, soft-gates}
 use Rattle.sizing.specs.Rules.{rulesSize, rulesWeights, hard-rule, rules-size, rules-weights, rules-proper}
-use Rattle.sizing.specs.KindSizes.{kindSize, kind-size}
 use Rattle.sizing.specs.Blocks.{startClauses, startsSize, usesSize, durationsSize, starts-size, uses-size, durations-size}
 use Rattle.sizing.specs.Countable.{rules-countable}
 
@@ -41,10 +40,14 @@ formulaOf i =
 unfoldable pub stored : Size → FormulaSize
 stored s = record { variables = s .variables; clauses = s .clauses; words = s .words }
 
--- the sizes of some constraints
 module _ (i : Instance) where
+  -- the rules of a constraint with its weight
+  abbrev pub weighedRules : Constraint → List (ℕ × Rule)
+  weighedRules c = map (λ r. (c .weight, r)) (rules i c)
+
+  -- the sizes of some constraints
   abbrev pub constraintSize : Constraint → Size
-  constraintSize c = kindSize (i .times) (i .events) (i .groups) (c .weight) (c .kind)
+  constraintSize c = rulesSize (weighedRules c)
 
   unfoldable pub constraintsSize : List Constraint → Size
   constraintsSize [] = none
@@ -84,14 +87,10 @@ one-weight w (r ∷ rs) = rw (one-weight w rs, replicate-append-replicate)
 
 module _ (i : Instance) where
   -- the rules of constraints
-  constraint-size : (c : Constraint) → rulesSize (map (λ r. (c .weight, r)) (rules i c)) ≡ constraintSize i c
-  constraint-size c = kind-size (i .times) (i .events) (i .groups) (c .weight) (c .kind)
-
   constraints-size : (cs : List Constraint) → rulesSize (constraintRules i cs) ≡ constraintsSize i cs
   unfolding constraintRules constraintsSize flatMap rulesSize
   constraints-size [] = refl
-  constraints-size (c ∷ cs) =
-      rw (rules-append (map (λ r. (c .weight, r)) (rules i c)), constraint-size c, constraints-size cs)
+  constraints-size (c ∷ cs) = rw (rules-append (weighedRules i c), constraints-size cs)
 
   -- the tail grows by the soft units of each constraint
   tail-after : (cols : ℕ) → 1 ≤ cols → (ws : List ℕ) (cs : List Constraint)
@@ -104,14 +103,15 @@ module _ (i : Instance) where
       let us = replicate n (c .weight) in
       let rest = tail-after cols h (ws ++ us) cs in
       rw
-      (weights-of-append (map (λ r. (c .weight, r)) (rules i c)), e, constraint-size c, ← append-assoc ws us, rest, ← tail-add cols ws n (c .weight) h)
+      (weights-of-append (weighedRules i c), e, ← append-assoc ws us, rest, ← tail-add cols ws n (c .weight) h)
 
   -- hard rules have no soft units
   durations-weights : (e : ℕ) (vs : List Event) → rulesWeights (durationRules i e vs) ≡ []
   unfolding durationRules rulesWeights
   durations-weights e [] = refl
   durations-weights e (v ∷ vs) =
-      rw (hard-rule (between (v .duration) (v .duration) (takesAt e (upTo (i .times)))), durations-weights (suc e) vs)
+      let r = rule (between (v .duration) (v .duration) []) (entries (takesAt e (upTo (i .times)))) in
+      rw (hard-rule r, durations-weights (suc e) vs)
 
   -- all rules
   rules-of-size : rulesSize (allRules i) ≡ sum (durationsSize (i .times) (i .events)) (constraintsSize i (i .constraints))

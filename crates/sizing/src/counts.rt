@@ -2,7 +2,7 @@
 ghost use mathlib.Core.Path.{_≡_};
 ghost use Prim.Native.Nat.{_≤_};
 ghost use Rattle.scope.specs.Formula.{columns};
-ghost use Rattle.sizing.specs.Counts.{unitsSize, shortsSize, lowSize, countSize};
+ghost use Rattle.sizing.specs.Counts.{unitsSize, shortsSize, lowSize, countSize, listSize};
 use crate::Size;
 use crate::rows::rows_size;
 use crate::sums::beyond;
@@ -91,4 +91,13 @@ pub fn count_size(weight: u64, lo: u64, hi: u64, free: bool, n: u64) -> Size
     let high = units_size(weight, above);
     let bounds = plus(low, high);
     plus(counter, bounds)
+}
+
+// A counted list of n members between lo and hi as written; where free, a count of 0 is.
+pub fn list_size(weight: u64, lo: u64, hi: u64, free: bool, n: u64) -> Size
+    requires { ⌜ (weight ≤ 1000) × (n ≤ 255) × (lo ≤ hi) × (lo ≤ n) ⌝ }
+    ensures { λ r. ⌜ r ≡ listSize weight lo hi free n ⌝ }
+{
+    let lowered = lower(hi, n);
+    count_size(weight, lo, lowered, free, n)
 }

@@ -8,7 +8,7 @@ use borrow.Author.Tests.{leb-true, ltb-true}
 use Rattle.laws.specs.Lists.{All, All-at, All-weaken}
 use Rattle.scope.specs.Parsed.{Parsed, andThen, repeat}
 use Rattle.scope.specs.Number.{number, limited, reference, references, listed}
-use Rattle.scope.specs.Kinds.{Event, Kind, clash, unavailable, preferred, split, spread, busy, cluster, idle, Constraint, groupAt, rulesOf, lowOf, highOf, longest}
+use Rattle.scope.specs.Kinds.{Event, Kind, clash, unavailable, preferred, split, spread, busy, cluster, idle, Constraint, Counted, users, groupAt, countedOf, longest}
 use Rattle.scope.specs.Instance.{Instance, Counts, countsOf, eventAt, pairAt, boundsAt, clashAt, unavailableAt, preferredAt, splitAt, spreadAt, busyAt, overGroupsAt, fieldsAt, ended, constraintAt, sizesAt, groupsAt, constraintsAt, parse}
 use Rattle.scope.specs.Demands.{Accepted}
 use Rattle.theory.specs.Readings.{Gives, gives-value, gives-andThen, gives-unless, gives-cons, gives-either, gives-repeat}
@@ -42,13 +42,17 @@ ValidFields n (busy r g lo hi) = Within 1 (n .resources) r × Within 1 (n .group
 ValidFields n (cluster r hs lo hi) = Within 1 (n .resources) r × Ascending 0 (n .groups) hs × Bounds lo hi
 ValidFields n (idle r hs lo hi) = Within 1 (n .resources) r × Ascending 0 (n .groups) hs × Bounds lo hi
 
+-- what a kind counts in an instance
+abbrev pub counted : ℕ → List Event → List (List ℕ) → Kind → Counted
+counted T es gs k = countedOf T (λ r. users r es) (groupAt gs) k
+
 pub record ValidConstraint (T R : ℕ) (es : List Event) (gs : List (List ℕ)) (c : Constraint) : Type 0 where
   pub weight : Within 0 1000 (c .weight)
   pub fields : ValidFields (countsOf T R es gs) (c .kind)
   -- its counted lists have up to 255 members, its lo is at most its hi as written and at most their length
-  pub lists : longest (rulesOf T es gs (c .kind)) ≤ 255
-  pub bounds : lowOf (c .kind) ≤ highOf (c .kind)
-  pub reached : lowOf (c .kind) ≤ longest (rulesOf T es gs (c .kind))
+  pub lists : longest (counted T es gs (c .kind) .lists) ≤ 255
+  pub bounds : counted T es gs (c .kind) .lo ≤ counted T es gs (c .kind) .hi
+  pub reached : counted T es gs (c .kind) .lo ≤ longest (counted T es gs (c .kind) .lists)
 
 pub record ValidInstance (i : Instance) : Type 0 where
   pub times : Within 1 125 (i .times)
@@ -181,20 +185,21 @@ gives-constraint T R es gs s at =
     (λ weight more w.
     gives-andThen (gives-fields (countsOf T R es gs) s more kind)
     (λ k end f.
-    let n = longest (rulesOf T es gs k) in
+    let x = counted T es gs k in
+    let n = longest (x .lists) in
     gives-unless (leb n 255) 4 at
     (λ a.
-    gives-unless (leb (lowOf k) (highOf k)) 5 at
+    gives-unless (leb (x .lo) (x .hi)) 5 at
     (λ b.
-    gives-unless (leb (lowOf k) n) 5 at
+    gives-unless (leb (x .lo) n) 5 at
     (λ c.
     gives-value
     (record {
       weight = w;
       fields = f;
       lists = leb-true n 255 a;
-      bounds = leb-true (lowOf k) (highOf k) b;
-      reached = leb-true (lowOf k) n c;
+      bounds = leb-true (x .lo) (x .hi) b;
+      reached = leb-true (x .lo) n c;
     })))))))
 
 -- three sizes
@@ -212,12 +217,12 @@ gives-sizes s =
     (λ E b q. gives-andThen (gives-limited 0 99 s b) (λ R c r. gives-value (record { times = p; events = q; resources = r }))))
 
 -- a count within its limits, then so many things
-record Counted {A : Type 0} (P : A → Type 0) (most : ℕ) (xs : List A) : Type 0 where
+record Several {A : Type 0} (P : A → Type 0) (most : ℕ) (xs : List A) : Type 0 where
   count : Within 0 most (length xs)
   each : All P xs
 
 gives-counted : {A : Type 0} {P : A → Type 0} {f : ℕ → Parsed A} → ((at : ℕ) → Gives P (f at)) → (most : ℕ) (s : List ℕ) (at : ℕ)
-    → Gives (Counted P most) (andThen (limited 0 most s at) (λ count next. repeat count f next))
+    → Gives (Several P most) (andThen (limited 0 most s at) (λ count next. repeat count f next))
 gives-counted h most s at =
     gives-andThen (gives-limited 0 most s at)
     (λ count next w.
@@ -225,12 +230,12 @@ gives-counted h most s at =
       known = λ xs end e. let m = gives-repeat h count next .known xs end e in record { count = rw (m .count) w; each = m .each };
     })
 
-gives-groups : (T : ℕ) (s : List ℕ) (at : ℕ) → Gives (Counted (Ascending 0 T) 1024) (groupsAt T s at)
+gives-groups : (T : ℕ) (s : List ℕ) (at : ℕ) → Gives (Several (Ascending 0 T) 1024) (groupsAt T s at)
 unfolding groupsAt
 gives-groups T s at = gives-counted (gives-listed T s) 1024 s at
 
 gives-constraints : (T R : ℕ) (es : List Event) (gs : List (List ℕ)) (s : List ℕ) (at : ℕ)
-    → Gives (Counted (ValidConstraint T R es gs) 4096) (constraintsAt T R es gs s at)
+    → Gives (Several (ValidConstraint T R es gs) 4096) (constraintsAt T R es gs s at)
 unfolding constraintsAt
 gives-constraints T R es gs s at = gives-counted (gives-constraint T R es gs s) 4096 s at
 

@@ -13,13 +13,15 @@ use lib.ListN.{length, length-map}
 use borrow.Author.Tests.{eqb-true, eq-eqb}
 use Rattle.laws.specs.Booleans.{cond-none}
 use Rattle.laws.specs.Lists.{All, All-append, All-split}
-use Rattle.scope.specs.Kinds.{Event, Constraint, Atom, Y, Rule, between, from, upTo, takesAt}
+use Rattle.scope.specs.Kinds.{Event, Constraint, Atom, Y, Rule, rule, between, entries, entriesMembers, from, upTo, takesAt}
 use Rattle.scope.specs.Instance.{Instance}
-use Rattle.scope.specs.Score.{trues, all, charged, entryTrue, deviations, eventCount, rules, startRight, eventRight, firstWrong, infeasibilityOf, objectiveOf}
+use Rattle.scope.specs.Score.{trues, all, charged, count, deviations, eventCount, rules, startRight, eventRight, firstWrong, infeasibilityOf, objectiveOf}
 use Rattle.scope.specs.Formula.{durationRules, constraintRules, allRules}
 use Rattle.theory.specs.Accepted.{ValidEvent}
 use Rattle.theory.specs.Bounds.{deviation-parts}
 use Rattle.theory.specs.Ranges.{length-from}
+use Rattle.theory.specs.Nodes.{length-members}
+use Rattle.theory.specs.Entries.{entryTrue, entries-count}
 use Rattle.theory.specs.Rules.{charge, Kept, weighed}
 
 all-true : {A : Type 0} (f : A → Bool) (xs : List A) → (all (map f xs) ≡ true) ↔ All (λ x. f x ≡ true) xs
@@ -87,16 +89,19 @@ module _ (i : Instance) (τ : Atom → Bool) where
   taken e [] = refl
   taken e (t ∷ ts) = ap (λ bs. τ (Y e t) ∷ bs) (taken e ts)
 
+  abbrev durationRule : ℕ → ℕ → Rule
+  durationRule e d = rule (between d d []) (entries (takesAt e (upTo (i .times))))
+
   -- an event takes its duration exactly where its rule charges nothing
   duration-kept : (e d : ℕ) → d ≤ i .times
-      → (charge τ (between d d (takesAt e (upTo (i .times)))) ≡ 0) ↔ (trues (map (λ t. τ (Y e t)) (upTo (i .times))) ≡ d)
+      → (charge τ (durationRule e d) ≡ 0) ↔ (trues (map (λ t. τ (Y e t)) (upTo (i .times))) ≡ d)
   unfolding charged
   duration-kept e d h =
-      let n : length (takesAt e (upTo (i .times))) ≡ i .times = rw (length-map, length-from) in
+      let n : length (entriesMembers (takesAt e (upTo (i .times))) 0) ≡ i .times = rw (length-members, length-map, length-from) in
       let c = trues (map (λ t. τ (Y e t)) (upTo (i .times))) in
       let m : min d (i .times) ≡ d = omega arith in
       let p = deviation-parts d d c (omega arith) in
-      rw (taken e (upTo (i .times)), n, m) (λ z. omega (arith, p), λ z. omega (arith, p))
+      rw (entries-count, taken e (upTo (i .times)), n, m) (λ z. omega (arith, p), λ z. omega (arith, p))
 
   -- the starts of an event
   abbrev pub StartsRight : ℕ → Type 0
@@ -104,7 +109,7 @@ module _ (i : Instance) (τ : Atom → Bool) where
 
   event-right : (e : ℕ) (v : Event) → v .duration ≤ i .times
       → (eventRight i τ e v ≡ true)
-      ↔ (StartsRight e × (charge τ (between (v .duration) (v .duration) (takesAt e (upTo (i .times)))) ≡ 0))
+      ↔ (StartsRight e × (charge τ (durationRule e (v .duration)) ≡ 0))
   unfolding eventRight
   event-right e v h =
       let d = v .duration in

@@ -19,7 +19,8 @@ use Rattle.theory.specs.Gates.{lit-pos, lit-neg, clause-append, clause-a
 use Rattle.theory.specs.Circuit.{Holds}
 use Rattle.theory.specs.Extension.{bit-append}
 use Rattle.theory.specs.Costs.{Scores, Scores-same, Scores-append, Scores-gates, Scores-flatMap}
-use Rattle.theory.specs.Rules.{weighed, Agrees, rules-score}
+use Rattle.theory.specs.Values.{Agrees}
+use Rattle.theory.specs.Rules.{weighed, rules-score}
 use Rattle.theory.specs.KindRules.{InRange, users-within, times-within, events-within, allRules-valid}
 use Rattle.theory.specs.Charges.{StartsRight, score-hard, score-cost}
 use Rattle.theory.specs.Variables.{place-within, use-holds, atomsEnd, formula-parts, formula-holds}

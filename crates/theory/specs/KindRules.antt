@@ -1,19 +1,20 @@
 -- The rules of an accepted instance: their bounds are within their lists, and their atoms speak of events, resources and
 -- times that there are.
-use mathlib.Core.Path.{_≡_}
+use mathlib.Core.Path.{_≡_, refl}
 use mathlib.Core.Bool.{Bool, true, false, cond}
 use mathlib.Core.List.{List, [], _∷_, _++_, map}
-use Prim.Native.Nat.{ℕ, suc, _+_, _≤_, min, max}
+use Prim.Native.Nat.{ℕ, suc, _+_, _≤_, max}
 use native.Mathlib.Omega.{arith}
 use lib.ListN.{length, length-map}
 use Rattle.laws.specs.Lists.{All, All-append, All-weaken, All-map, All-flatMap}
-use Rattle.scope.specs.Kinds.{Event, Kind, clash, unavailable, preferred, split, spread, busy, cluster, idle, Constraint, Atom, Y, S, X, Entry, atom, anyOf, Rule, between, upTo, member, usersFrom, users, outside, groupAt, usesAt, takesAt, startsAt, gapsAfter, gaps, rulesOf, lowOf, highOf, longest}
+use Rattle.scope.specs.Kinds.{Event, Kind, clash, unavailable, preferred, split, spread, busy, cluster, idle, Constraint, Atom, Y, S, X, Entry, atom, anyOf, Listed, entries, entriesMembers, Counted, Rule, rule, between, limit, upTo, member, usersFrom, users, outside, groupAt, usesAt, takesAt, startsAt, gapsAfter, gaps, countedOf, rulesOf, longest}
 use Rattle.scope.specs.Instance.{Instance, countsOf}
 use Rattle.scope.specs.Score.{eventCount, rules}
 use Rattle.scope.specs.Formula.{durationRules, constraintRules, allRules}
-use Rattle.theory.specs.Accepted.{Within, ascending-within, ValidEvent, ValidFields, ValidConstraint, ValidInstance, group-within}
+use Rattle.theory.specs.Accepted.{Within, ascending-within, ValidEvent, ValidFields, counted, ValidConstraint, ValidInstance, group-within}
 use Rattle.theory.specs.Ranges.{length-from, from-all}
-use Rattle.theory.specs.Rules.{Atoms, ValidRule, ValidRule-weaken}
+use Rattle.theory.specs.Nodes.{ListKnown, Atoms, length-members, entries-known}
+use Rattle.theory.specs.Rules.{ValidRule, ValidRule-weaken}
 
 -- an atom of an event, a resource and a time that there are
 abbrev pub InRange : Instance → Atom → Type 0
@@ -63,15 +64,17 @@ unfolding gaps
 gaps-atoms P [] h = tt
 gaps-atoms P (x ∷ xs) h = gapsAfter-atoms P (x ∷ []) xs (h .0, tt) (h .1)
 
--- bounds as the reader checks them, over a list of entries
-bounds-valid : (P : Atom → Type 0) (lo hi : ℕ) (zeroFree : Bool) (l : List Entry) → lo ≤ hi → lo ≤ length l → All (Atoms P) l
-    → ValidRule P (record { lo = lo; hi = min hi (length l); zeroFree = zeroFree; list = l })
-bounds-valid P lo hi zeroFree l a b h = record { order = omega arith; reach = omega arith; atoms = h }
+-- a list, with bounds as the reader checks them
+list-valid : (P : Atom → Type 0) (c : Counted) (l : Listed) → c .lo ≤ c .hi → c .lo ≤ length (l .members) → ListKnown P l
+    → ValidRule P (rule c l)
+list-valid P c l a b h = record { order = omega arith; reach = omega arith; atoms = h }
 
--- a kind with one rule
-one-valid : (P : Atom → Type 0) (lo hi : ℕ) (zeroFree : Bool) (l : List Entry) → lo ≤ hi → lo ≤ max (length l) 0 → All (Atoms P) l
-    → All (ValidRule P) (record { lo = lo; hi = min hi (length l); zeroFree = zeroFree; list = l } ∷ [])
-one-valid P lo hi zeroFree l a b h = (bounds-valid P lo hi zeroFree l a (omega arith) h, tt)
+-- a kind with one list
+abbrev OneList : (Atom → Type 0) → Counted → Listed → Type 0
+OneList P c l = c .lo ≤ c .hi → c .lo ≤ max (length (l .members)) 0 → All (ValidRule P) (rule c l ∷ [])
+
+one-valid : (P : Atom → Type 0) (c : Counted) (l : List Entry) → All (Atoms P) l → OneList P c (entries l)
+one-valid P c l h a b = (list-valid P c (entries l) a (omega arith) (entries-known P l h), tt)
 
 module _ (i : Instance) (v : ValidInstance i) where
   -- X at the members of a group, and of each of some groups
@@ -84,46 +87,52 @@ module _ (i : Instance) (v : ValidInstance i) where
   group-atoms r g a b =
       All-map (InRange i) (Atoms (InRange i)) atom (λ x h. h) (usesAt r (groupAt (i .groups) g)) (group-range r g a b)
 
-  clash-valid : (us : List ℕ) → All (Within 1 (length (i .events))) us
-      → All (ValidRule (InRange i)) (map (λ t. between 0 1 (map (λ e. atom (Y e t)) us)) (upTo (i .times)))
-  clash-valid us h =
-      All-map _ (ValidRule (InRange i)) (λ t. between 0 1 (map (λ e. atom (Y e t)) us))
+  clash-valid : (c : Counted) (us : List ℕ) → c .lo ≡ 0 → All (Within 1 (length (i .events))) us
+      → All (ValidRule (InRange i)) (map (rule c) (map (λ t. entries (map (λ e. atom (Y e t)) us)) (upTo (i .times))))
+  clash-valid c us z h =
+      All-map _ (ValidRule (InRange i)) (rule c)
+      (λ l k. list-valid (InRange i) c l (omega arith) (omega arith) k)
+      (map (λ t. entries (map (λ e. atom (Y e t)) us)) (upTo (i .times)))
+      (All-map _ (ListKnown (InRange i)) (λ t. entries (map (λ e. atom (Y e t)) us))
       (λ t w.
-      bounds-valid (InRange i) 0 1 false (map (λ e. atom (Y e t)) us) (omega arith) (omega arith)
-      (All-map _ (Atoms (InRange i)) (λ e. atom (Y e t)) (λ e x. (x, w)) us h)) (upTo (i .times)) (times-within i)
+      entries-known (InRange i) (map (λ e. atom (Y e t)) us)
+      (All-map _ (Atoms (InRange i)) (λ e. atom (Y e t)) (λ e x. (x, w)) us h)) (upTo (i .times)) (times-within i))
 
-  kind-valid : (k : Kind) → ValidFields (countsOf (i .times) (i .resources) (i .events) (i .groups)) k → lowOf k ≤ highOf k
-      → lowOf k ≤ longest (rulesOf (i .times) (i .events) (i .groups) k)
-      → All (ValidRule (InRange i)) (rulesOf (i .times) (i .events) (i .groups) k)
-  unfolding rulesOf longest
-  kind-valid (clash r) f a b = clash-valid (users r (i .events)) (users-within i r)
-  kind-valid (unavailable r g) f a b = one-valid (InRange i) 0 0 false _ a b (group-atoms r g (f .0) (f .1))
+  abbrev countedIn : Kind → Counted
+  countedIn k = counted (i .times) (i .events) (i .groups) k
+
+  kind-valid : (k : Kind) → ValidFields (countsOf (i .times) (i .resources) (i .events) (i .groups)) k
+      → countedIn k .lo ≤ countedIn k .hi → countedIn k .lo ≤ longest (countedIn k .lists)
+      → All (ValidRule (InRange i)) (rulesOf (i .times) (λ r. users r (i .events)) (groupAt (i .groups)) k)
+  unfolding countedOf longest
+  kind-valid (clash r) f a b = clash-valid (between 0 1 []) (users r (i .events)) refl (users-within i r)
+  kind-valid (unavailable r g) f a b = one-valid (InRange i) (between 0 0 []) _ (group-atoms r g (f .0) (f .1)) a b
   kind-valid (preferred e g) f a b =
       let P = Atoms (InRange i) in
       let members = groupAt (i .groups) g in
       let times = outside-all _ members (upTo (i .times)) (times-within i) in
-      one-valid (InRange i) 0 0 false _ a b
-      (All-map _ P (λ t. atom (Y e t)) (λ t w. (f .0, w)) (outside members (upTo (i .times))) times)
+      one-valid (InRange i) (between 0 0 []) _
+      (All-map _ P (λ t. atom (Y e t)) (λ t w. (f .0, w)) (outside members (upTo (i .times))) times) a b
   kind-valid (split e lo hi) f a b =
-      one-valid (InRange i) lo hi false _ a b
-      (All-map _ (Atoms (InRange i)) (λ t. atom (S e t)) (λ t w. (f .0, w)) (upTo (i .times)) (times-within i))
+      one-valid (InRange i) (between lo hi []) _
+      (All-map _ (Atoms (InRange i)) (λ t. atom (S e t)) (λ t w. (f .0, w)) (upTo (i .times)) (times-within i)) a b
   kind-valid (spread vs g lo hi) f a b =
       let P = Atoms (InRange i) in
       let ts = groupAt (i .groups) g in
       let times = group-within i v g (f .1) in
-      one-valid (InRange i) lo hi false _ a b
+      one-valid (InRange i) (between lo hi []) _
       (All-flatMap _ P (λ e. startsAt e ts) (λ e x. All-map _ P (λ t. atom (S e t)) (λ t w. (x, w)) ts times) vs
-      (ascending-within 0 (length (i .events)) vs (f .0)))
-  kind-valid (busy r g lo hi) f a b = one-valid (InRange i) lo hi true _ a b (group-atoms r g (f .0) (f .1))
+      (ascending-within 0 (length (i .events)) vs (f .0))) a b
+  kind-valid (busy r g lo hi) f a b = one-valid (InRange i) (limit lo hi []) _ (group-atoms r g (f .0) (f .1)) a b
   kind-valid (cluster r hs lo hi) f a b =
-      one-valid (InRange i) lo hi false _ a b
+      one-valid (InRange i) (between lo hi []) _
       (All-map _ (Atoms (InRange i)) (λ g. anyOf (usesAt r (groupAt (i .groups) g))) (λ g. group-range r g (f .0)) hs
-      (ascending-within 0 (length (i .groups)) hs (f .1)))
+      (ascending-within 0 (length (i .groups)) hs (f .1))) a b
   kind-valid (idle r hs lo hi) f a b =
       let xs : ℕ → List Atom = λ g. usesAt r (groupAt (i .groups) g) in
-      one-valid (InRange i) lo hi false _ a b
+      one-valid (InRange i) (between lo hi []) _
       (All-flatMap _ (Atoms (InRange i)) (λ g. gaps (xs g)) (λ g w. gaps-atoms (InRange i) (xs g) (group-range r g (f .0) w)) hs
-      (ascending-within 0 (length (i .groups)) hs (f .1)))
+      (ascending-within 0 (length (i .groups)) hs (f .1))) a b
 
   durations-valid : (e : ℕ) (vs : List Event) → 1 ≤ e → e + length vs ≤ suc (length (i .events))
       → All (ValidEvent (i .times) (i .resources)) vs → All (λ r. ValidRule (InRange i) (r .1)) (durationRules i e vs)
@@ -132,10 +141,11 @@ module _ (i : Instance) (v : ValidInstance i) where
   durations-valid e (x ∷ xs) l h a =
       let ts = upTo (i .times) in
       let d = x .duration in
-      let n : length (takesAt e ts) ≡ i .times = rw (length-map, length-from) in
+      let n : length (entriesMembers (takesAt e ts) 0) ≡ i .times = rw (length-members, length-map, length-from) in
       let w : Within 1 (length (i .events)) e = record { low = l; high = omega arith } in
       let atoms = All-map _ (Atoms (InRange i)) (λ t. atom (Y e t)) (λ t u. (w, u)) ts (times-within i) in (
-        bounds-valid (InRange i) d d false (takesAt e ts) (omega arith) (omega (arith, n, a .0 .duration .high)) atoms,
+        list-valid (InRange i) (between d d []) (entries (takesAt e ts)) (omega arith) (omega (arith, n, a .0 .duration .high))
+            (entries-known (InRange i) (takesAt e ts) atoms),
         durations-valid (suc e) xs (omega arith) (omega arith) (a .1),
       )
 

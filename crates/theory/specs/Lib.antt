@@ -8,6 +8,9 @@ pub mod Counter
 pub mod Costs
 pub mod Ranges
 pub mod Bounds
+pub mod Nodes
+pub mod Values
+pub mod Entries
 pub mod Rules
 pub mod RuleOrder
 pub mod KindRules

@@ -9,14 +9,15 @@ use lib.Dec.{leb, ltb}
 use lib.ListN.{length, length-map}
 use borrow.Author.Tests.{leb-true, ltb-true}
 use Rattle.laws.specs.Lists.{All, All-map, All-weaken, map-append}
-use Rattle.scope.specs.Kinds.{Atom, Entry, atom, anyOf, gap, Rule, from}
+use Rattle.scope.specs.Kinds.{Atom, Thing, anAtom, aNode, Ref, Node, someOf, allOf, Rule, from}
 use Rattle.scope.specs.Cnf.{neg, opp, Item, gate, hard, gates}
-use Rattle.scope.specs.Formula.{noRow, rowAt, row, counter, lastRow, ones, columns, unit, lowUnits, highUnits, shortUnits, boundItems, countInto, countItems, added, allAdded, entryGates, entryLiteral, listGates, listLiterals, ruleItems, rulesItems}
-use Rattle.theory.specs.Order.{Proper, ItemReads, Ordered, Ordered-append, Ordered-gates, Ordered-all, opp-proper, proper-up}
+use Rattle.scope.specs.Formula.{noRow, rowAt, row, counter, lastRow, ones, columns, unit, lowUnits, highUnits, shortUnits, boundItems, countInto, countItems, thingLiteral, refLiteral, nodeGate, ruleItems, rulesItems}
+use Rattle.theory.specs.Order.{Proper, Reads, ItemReads, Ordered, Ordered-append, Ordered-gates, Ordered-all, opp-proper, proper-up}
 use Rattle.theory.specs.Counter.{length-row, length-counter, rowOf, lastRow-row}
 use Rattle.theory.specs.Bounds.{columns-reach}
 use Rattle.theory.specs.Ranges.{from-all}
-use Rattle.theory.specs.Rules.{Atoms, ValidRule, length-entryGates, length-listGates, length-listLiterals}
+use Rattle.theory.specs.Nodes.{ThingKnown, Known, NodeKnown, NodesKnown}
+use Rattle.theory.specs.Rules.{ValidRule}
 
 -- the literals of a counter, which have weights
 abbrev pub Literals : ℕ → List (ℕ × ℕ) → Type 0
@@ -149,49 +150,46 @@ module _ (num : Atom → ℕ) (m : ℕ) where
   abbrev pub Below : Atom → Type 0
   Below a = Proper m (num a)
 
-  below-map : (xs : List Atom) (v : ℕ) → m ≤ v → All Below xs → All (Proper v) (map num xs)
-  below-map xs v h a = All-map Below (Proper v) num (λ x. proper-up m v (num x) h) xs a
+  -- where the first node of a list is the variable v
+  module _ (v : ℕ) (p : 1 ≤ m) (h : m ≤ v) where
+    thing-proper : (k : ℕ) (x : Thing) → ThingKnown Below k x → Proper (v + k) (thingLiteral num v x)
+    thing-proper k (anAtom a) g = proper-up m (v + k) (num a) (omega arith) g
+    thing-proper k (aNode j) g = omega arith
 
-  entry-order : (x : Entry) (v : ℕ) → 1 ≤ m → m ≤ v → Atoms Below x → Ordered v (map gate (entryGates num x v))
-  entry-order (atom a) v p h g = tt
-  entry-order (anyOf xs) v p h g = (below-map xs v h g, tt)
-  entry-order (gap earlier here later) v p h g = (
-    below-map earlier v h (g .0),
-    (
-      below-map later (suc v) (omega arith) (g .2),
-      ((opp-proper (suc (suc v)) (num here) (proper-up m (suc (suc v)) (num here) (omega arith) (g .1)), (omega arith, (omega arith, tt))), tt),
-    ),
-  )
+    ref-proper : (k : ℕ) (r : Ref) → Known Below k r → Proper (v + k) (refLiteral num v r)
+    ref-proper k r g = go (r .negated) (thing-proper k (r .thing) g)
+      where
+        go : (b : Bool) → Proper (v + k) (thingLiteral num v (r .thing))
+            → Proper (v + k) (cond b (opp (thingLiteral num v (r .thing))) (thingLiteral num v (r .thing)))
+        go true q = opp-proper (v + k) (thingLiteral num v (r .thing)) q
+        go false q = q
 
-  entry-proper : (x : Entry) (v n : ℕ) → 1 ≤ m → m ≤ v → v + added x ≤ n → Atoms Below x → Proper n (entryLiteral num x v)
-  entry-proper (atom a) v n p h l g = proper-up m n (num a) (omega arith) g
-  entry-proper (anyOf xs) v n p h l g = omega arith
-  entry-proper (gap earlier here later) v n p h l g = omega arith
+    node-reads : (k : ℕ) (n : Node) → NodeKnown Below k n → Reads (v + k) (nodeGate num v n)
+    node-reads k (someOf rs) g = All-map (Known Below k) (Proper (v + k)) (refLiteral num v) (ref-proper k) rs g
+    node-reads k (allOf rs) g = All-map (Known Below k) (Proper (v + k)) (refLiteral num v) (ref-proper k) rs g
 
-  list-order : (xs : List Entry) (v : ℕ) → 1 ≤ m → m ≤ v → All (Atoms Below) xs → Ordered v (map gate (listGates num xs v))
-  unfolding listGates
-  list-order [] v p h g = tt
-  list-order (x ∷ xs) v p h g =
-      rw map-append
-      (Ordered-gates v (entryGates num x v) _ (entry-order x v p h (g .0))
-      (rw length-entryGates (list-order xs (v + added x) p (omega arith) (g .1))))
+    -- each node reads earlier variables only
+    nodes-order : (k : ℕ) (ns : List Node) → NodesKnown Below k ns → Ordered (v + k) (map gate (map (nodeGate num v) ns))
+    nodes-order k [] g = tt
+    nodes-order k (n ∷ ns) g =
+        let e : v + suc k ≡ suc (v + k) = omega arith in
+        (node-reads k n (g .0), rw e at (nodes-order (suc k) ns (g .1)))
 
-  list-proper : (xs : List Entry) (v n : ℕ) → 1 ≤ m → m ≤ v → v + allAdded xs ≤ n → All (Atoms Below) xs
-      → All (Proper n) (listLiterals num xs v)
-  unfolding listLiterals allAdded
-  list-proper [] v n p h l g = tt
-  list-proper (x ∷ xs) v n p h l g =
-      (entry-proper x v n p h (omega arith) (g .0), list-proper xs (v + added x) n p (omega arith) (omega arith) (g .1))
+    members-proper : (k : ℕ) (rs : List Ref) → All (Known Below k) rs → All (Proper (v + k)) (map (refLiteral num v) rs)
+    members-proper k rs g = All-map (Known Below k) (Proper (v + k)) (refLiteral num v) (ref-proper k) rs g
 
   rule-order : (w : ℕ) (r : Rule) (v : ℕ) → 1 ≤ m → m ≤ v → ValidRule Below r → Ordered v (ruleItems num w r v)
   unfolding ruleItems
   rule-order w r v p h g =
-      let xs = listLiterals num (r .list) v in
-      let n = v + allAdded (r .list) in
-      Ordered-gates v (listGates num (r .list) v) _ (list-order (r .list) v p h (g .atoms))
-      (rw length-listGates
-      (count-order w r xs n (omega arith) (g .order) (rw length-listLiterals (g .reach))
-      (list-proper (r .list) v n p h (le-refl n) (g .atoms))))
+      let l = r .list in
+      let gs = map (nodeGate num v) (l .nodes) in
+      let xs = map (refLiteral num v) (l .members) in
+      let n = v + length (l .nodes) in
+      let e : v + 0 ≡ v = omega arith in
+      Ordered-gates v gs _ (rw e at (nodes-order v p h 0 (l .nodes) (g .atoms .nodes)))
+      (rw length-map
+      (count-order w r xs n (omega arith) (g .order) (rw length-map (g .reach))
+      (members-proper v p h (length (l .nodes)) (l .members) (g .atoms .members))))
 
   -- rules with weights, one after the other
   pub rules-order : (rs : List (ℕ × Rule)) (v : ℕ) → 1 ≤ m → m ≤ v → All (λ r. ValidRule Below (r .1)) rs

@@ -2,9 +2,17 @@
 use borrow.Author.Needs.{needs}
 use borrow.Author.Tests.{le-leb, lt-leb}
 use native.Mathlib.Omega.{arith}
+use mathlib.Core.Path.{_≡_, ap}
 use Rattle.scope.specs.Instance.{ended}
+use Rattle.constraint.specs.declared.bounds.Bounds.{Bounds}
 use Rattle.instance.proofs.check.ended.Statement.{statement}
 use Rattle.instance.proofs.check.ended.Tie as tie
+
+lo : {a b : Bounds} → a ≡ b → a .lo ≡ b .lo
+lo e = ap (λ (x : Bounds). x .lo) e
+
+hi : {a b : Bounds} → a ≡ b → a .hi ≡ b .hi
+hi e = ap (λ (x : Bounds). x .hi) e
 
 returns : tie.Need-returns
 unfolding ended
@@ -18,7 +26,7 @@ unfolding ended
 returns-2 c =
     λ l.
     let b = c .before .bounds-of .ensures l in
-    rw (le-leb (c .before .before .before .args .n) 255 (omega arith), ← (b .0), ← (b .1), lt-leb _ _ (c .if2 .taken))
+    rw (le-leb (c .before .before .before .args .n) 255 (omega arith), ← (lo b), ← (hi b), lt-leb _ _ (c .if2 .taken))
 
 returns-3 : tie.Need-returns-3
 unfolding ended
@@ -26,7 +34,7 @@ returns-3 c =
     λ l.
     let b = c .before .before .bounds-of .ensures l in
     let n = le-leb (c .before .before .before .before .args .n) 255 (omega arith) in
-    rw (n, ← (b .0), ← (b .1), le-leb _ _ (c .before .if2 .left), lt-leb _ _ (c .if3 .taken))
+    rw (n, ← (lo b), ← (hi b), le-leb _ _ (c .before .if2 .left), lt-leb _ _ (c .if3 .taken))
 
 returns-4 : tie.Need-returns-4
 unfolding ended
@@ -34,7 +42,7 @@ returns-4 c =
     λ l.
     let b = c .before .before .bounds-of .ensures l in
     let n = le-leb (c .before .before .before .before .args .n) 255 (omega arith) in
-    rw (n, ← (b .0), ← (b .1), le-leb _ _ (c .before .if2 .left), le-leb _ _ (c .if3 .left))
+    rw (n, ← (lo b), ← (hi b), le-leb _ _ (c .before .if2 .left), le-leb _ _ (c .if3 .left))
 
 pub ended-spec : {M : Type 1} → statement M
 ended-spec = tie.close (tie.spec returns bounds-of-requires returns-2 returns-3 returns-4)

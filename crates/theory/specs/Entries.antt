@@ -1,4 +1,4 @@
--- The entries of the eight kinds as nodes and members: valued in a timetable they count the same.
+-- The entries of the eight kinds, valued in a timetable: their nodes and members count the same.
 use mathlib.Core.Path.{_≡_, refl, sym, ap, ap₂, _∙_}
 use mathlib.Core.Bool.{Bool, true, false, not, _&&_, and-true, and-assoc}
 use mathlib.Core.List.{List, [], _∷_, _++_, map}
@@ -6,18 +6,16 @@ use Prim.Native.Nat.{ℕ, suc, _+_, _<_}
 use native.Mathlib.Omega.{arith}
 use lib.ListN.{length, getD, length-append, List·getD-append}
 use lib.Seq.{getD-append-seam}
-use Rattle.scope.specs.Kinds.{Atom, Entry, atom, anyOf, gap}
-use Rattle.scope.specs.Formula.{added}
-use Rattle.scope.specs.Score.{any, all, trues, entryTrue}
-use Rattle.nodes.specs.Nodes.{Ref, Node, some-of, all-of, is, an-atom, refTrue, nodeTrue, valuesAfter, countOf}
-use Rattle.nodes.specs.Values.{length-more, length-values}
-use Rattle.nodes.specs.Entries.{atomsOf, entryNodes, entryMember, entriesNodes, entriesMembers, listed}
+use Rattle.scope.specs.Kinds.{Atom, Entry, atom, anyOf, gap, Ref, Node, someOf, allOf, is, anAtom, atoms, entryNodes, entryMember, added, entriesNodes, entriesMembers, entries}
+use Rattle.scope.specs.Score.{any, all, trues, refTrue, nodeTrue, valuesAfter, count}
+use Rattle.theory.specs.Nodes.{length-entry}
+use Rattle.theory.specs.Values.{length-more, length-values}
 
--- how many nodes an entry has
-pub length-entry : (x : Entry) (k : ℕ) → length (entryNodes x k) ≡ added x
-length-entry (atom a) k = refl
-length-entry (anyOf xs) k = refl
-length-entry (gap earlier here later) k = refl
+-- an idle time is false itself, with a true one earlier and a true one later
+unfoldable pub entryTrue : (Atom → Bool) → Entry → Bool
+entryTrue τ (atom a) = τ a
+entryTrue τ (anyOf xs) = any (map τ xs)
+entryTrue τ (gap earlier here later) = not (τ here) && any (map τ earlier) && any (map τ later)
 
 module _ (τ : Atom → Bool) where
   -- nodes one after the other; the values before them stay
@@ -37,7 +35,7 @@ module _ (τ : Atom → Bool) where
   value-last : (vs : List Bool) (b : Bool) (k : ℕ) → length vs ≡ k → getD (vs ++ b ∷ []) k false ≡ b
   value-last vs b k e = rw (← e) (getD-append-seam vs b [] false)
 
-  atoms-true : (vs : List Bool) (xs : List Atom) → map (refTrue τ vs) (atomsOf xs) ≡ map τ xs
+  atoms-true : (vs : List Bool) (xs : List Atom) → map (refTrue τ vs) (atoms xs) ≡ map τ xs
   atoms-true vs [] = refl
   atoms-true vs (x ∷ xs) = ap (_∷_ (τ x)) (atoms-true vs xs)
 
@@ -47,12 +45,12 @@ module _ (τ : Atom → Bool) where
   unfolding valuesAfter entryTrue any all
   entry-true (atom a) vs k ms e = refl
   entry-true (anyOf xs) vs k ms e =
-      let b = any (map (refTrue τ vs) (atomsOf xs)) in
+      let b = any (map (refTrue τ vs) (atoms xs)) in
       values-keep (vs ++ b ∷ []) ms k (omega (arith, length-more vs b)) ∙ value-last vs b k e ∙ ap any (atoms-true vs xs)
   entry-true (gap earlier here later) vs k ms e =
-      let g = any (map (refTrue τ vs) (atomsOf earlier)) in
+      let g = any (map (refTrue τ vs) (atoms earlier)) in
       let ws = vs ++ g ∷ [] in
-      let h = any (map (refTrue τ ws) (atomsOf later)) in
+      let h = any (map (refTrue τ ws) (atoms later)) in
       let us = ws ++ h ∷ [] in
       let i = not (τ here) && (getD us k false && (getD us (k + 1) false && true)) in
       let lw = length-more vs g in
@@ -75,6 +73,6 @@ module _ (τ : Atom → Bool) where
       (ap₂ (λ b bs. b ∷ bs) (entry-true x vs k ms e) (entries-true xs ws (k + added x) l))
 
   -- as many members are true as entries
-  pub listed-counts : (xs : List Entry) → countOf τ (listed xs) ≡ trues (map (entryTrue τ) xs)
-  unfolding countOf
-  listed-counts xs = ap trues (entries-true xs [] 0 refl)
+  pub entries-count : (xs : List Entry) → count τ (entries xs) ≡ trues (map (entryTrue τ) xs)
+  unfolding count
+  entries-count xs = ap trues (entries-true xs [] 0 refl)

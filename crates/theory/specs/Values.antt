@@ -1,7 +1,7 @@
 -- Where the gates of the nodes hold, and the literals of atoms say whether they are true, the literals of the members say whether
 -- the members are true: whatever the kind, the count of the clauses is that of the timetable.
 use mathlib.Core.Path.{_≡_, refl, sym, ap, ap₂, _∙_}
-use mathlib.Core.Bool.{Bool, true, false, not, _&&_}
+use mathlib.Core.Bool.{Bool, true, false, not, _&&_, cond}
 use mathlib.Core.List.{List, [], _∷_, _++_, map}
 use Prim.Native.Nat.{ℕ, zero, suc, _+_, _<_}
 use native.Mathlib.Nat.{add-zero}
@@ -11,13 +11,17 @@ use lib.ListN.{length, getD, length-append, List·getD-append}
 use lib.Seq.{getD-append-seam}
 use borrow.Author.Tests.{ltb-true, ltb-false}
 use Rattle.laws.specs.Lists.{All, All-weaken}
-use Rattle.scope.specs.Kinds.{Atom}
-use Rattle.scope.specs.Cnf.{Assignment, lit, clause, cube, value, gate}
-use Rattle.scope.specs.Score.{any, all}
+use Rattle.scope.specs.Kinds.{Atom, Thing, anAtom, aNode, Ref, Node, someOf, allOf, Listed}
+use Rattle.scope.specs.Cnf.{opp, Assignment, lit, clause, cube, value, gate}
+use Rattle.scope.specs.Score.{any, all, thingTrue, refTrue, nodeTrue, valuesAfter}
+use Rattle.scope.specs.Formula.{thingLiteral, refLiteral, nodeGate}
 use Rattle.theory.specs.Gates.{lit-pos, lit-opp, clause-any}
 use Rattle.theory.specs.Circuit.{Holds}
-use Rattle.theory.specs.Rules.{Agrees}
-use Rattle.nodes.specs.Nodes.{Thing, an-atom, a-node, Ref, Node, some-of, all-of, Listed, turned, signed, thingTrue, refTrue, nodeTrue, valuesAfter, thingLiteral, refLiteral, nodeGate, ThingKnown, Known, NodeKnown, NodesKnown}
+use Rattle.theory.specs.Nodes.{ThingKnown, Known, NodeKnown, NodesKnown, ListKnown}
+
+-- the literal of an atom says whether it is true
+abbrev pub Agrees : (Atom → ℕ) → Assignment → (Atom → Bool) → Atom → Type 0
+Agrees num ν τ a = lit ν (num a) ≡ τ a
 
 pub length-more : (vs : List Bool) (b : Bool) → length (vs ++ b ∷ []) ≡ suc (length vs)
 length-more vs b = length-append vs (b ∷ []) ∙ omega arith
@@ -52,14 +56,14 @@ module _ (num : Atom → ℕ) (ν : Assignment) (τ : Atom → Bool) (v : ℕ) w
 
   module _ (vs : List Bool) (w : Valued vs) where
     thing-agrees : (x : Thing) → ThingKnown (Agrees num ν τ) (length vs) x → lit ν (thingLiteral num v x) ≡ thingTrue τ vs x
-    thing-agrees (an-atom a) k = k
-    thing-agrees (a-node j) k = lit-pos ν (v + j) ∙ w j k
+    thing-agrees (anAtom a) k = k
+    thing-agrees (aNode j) k = lit-pos ν (v + j) ∙ w j k
 
     ref-agrees : (r : Ref) → Known (Agrees num ν τ) (length vs) r → lit ν (refLiteral num v r) ≡ refTrue τ vs r
     ref-agrees r k = go (r .negated) (thing-agrees (r .thing) k)
       where
         go : (b : Bool) → lit ν (thingLiteral num v (r .thing)) ≡ thingTrue τ vs (r .thing)
-            → lit ν (signed b (thingLiteral num v (r .thing))) ≡ turned b (thingTrue τ vs (r .thing))
+            → lit ν (cond b (opp (thingLiteral num v (r .thing))) (thingLiteral num v (r .thing))) ≡ cond b (not (thingTrue τ vs (r .thing))) (thingTrue τ vs (r .thing))
         go true e = lit-opp ν (thingLiteral num v (r .thing)) ∙ ap not e
         go false e = e
 
@@ -68,8 +72,8 @@ module _ (num : Atom → ℕ) (ν : Assignment) (τ : Atom → Bool) (v : ℕ) w
 
     node-agrees : (n : Node) → NodeKnown (Agrees num ν τ) (length vs) n → value ν (nodeGate num v n) ≡ nodeTrue τ vs n
     unfolding value
-    node-agrees (some-of rs) k = clause-any ν (refLiteral num v) (refTrue τ vs) rs (refs-agree rs k)
-    node-agrees (all-of rs) k = cube-all ν (refLiteral num v) (refTrue τ vs) rs (refs-agree rs k)
+    node-agrees (someOf rs) k = clause-any ν (refLiteral num v) (refTrue τ vs) rs (refs-agree rs k)
+    node-agrees (allOf rs) k = cube-all ν (refLiteral num v) (refTrue τ vs) rs (refs-agree rs k)
 
     members-agree : (rs : List Ref) → All (Known (Agrees num ν τ) (length vs)) rs
         → map (lit ν) (map (refLiteral num v) rs) ≡ map (refTrue τ vs) rs
@@ -88,11 +92,10 @@ module _ (num : Atom → ℕ) (ν : Assignment) (τ : Atom → Bool) (v : ℕ) w
       nodes-agree (vs ++ b ∷ []) ns (valued-more vs b w e) (rw l (k .1)) (rw s (h .1))
 
   -- the law of lists
-  pub listed-agrees : (l : Listed) → NodesKnown (Agrees num ν τ) 0 (l .nodes) → All (Known (Agrees num ν τ) (length (l .nodes))) (l .members)
-      → Holds ν v (map gate (map (nodeGate num v) (l .nodes)))
+  pub list-agrees : (l : Listed) → ListKnown (Agrees num ν τ) l → Holds ν v (map gate (map (nodeGate num v) (l .nodes)))
       → map (lit ν) (map (refLiteral num v) (l .members)) ≡ map (refTrue τ (valuesAfter τ [] (l .nodes))) (l .members)
-  listed-agrees l k m h =
+  list-agrees l k h =
       let vs = valuesAfter τ [] (l .nodes) in
       let n : length vs ≡ length (l .nodes) = length-values τ [] (l .nodes) ∙ omega arith in
-      let w = nodes-agree [] (l .nodes) (λ j q. absurd (omega arith)) k (rw add-zero h) in
-      members-agree vs w (l .members) (rw n m)
+      let w = nodes-agree [] (l .nodes) (λ j q. absurd (omega arith)) (k .nodes) (rw add-zero h) in
+      members-agree vs w (l .members) (rw n (k .members))

@@ -1,7 +1,7 @@
--- `instance::check::bounds_of` meets its contract: a case for each kind.
+-- `constraint::bounds::bounds_of` meets its contract: a case for each kind.
 use borrow.Author.Needs.{needs}
-use Rattle.instance.proofs.check.bounds_of.Statement.{statement}
-use Rattle.instance.proofs.check.bounds_of.Tie as tie
+use Rattle.constraint.proofs.bounds.bounds_of.Statement.{statement}
+use Rattle.constraint.proofs.bounds.bounds_of.Tie as tie
 
 enum-told : tie.Need-enum-told
 enum-told c = search needs
@@ -28,28 +28,28 @@ enum-known-k-5 : tie.Need-enum-known-k-5
 enum-known-k-5 c = search needs
 
 returns : tie.Need-returns
-returns c = λ l. (rw (c .enum-told .given .1), rw (c .enum-told .given .1))
+returns c = λ l. rw (c .enum-told .given .1)
 
 returns-2 : tie.Need-returns-2
-returns-2 c = λ l. (rw (c .enum-told2 .given .1), rw (c .enum-told2 .given .1))
+returns-2 c = λ l. rw (c .enum-told2 .given .1)
 
 returns-3 : tie.Need-returns-3
-returns-3 c = λ l. (rw (c .enum-told3 .given .1), rw (c .enum-told3 .given .1))
+returns-3 c = λ l. rw (c .enum-told3 .given .1)
 
 returns-4 : tie.Need-returns-4
-returns-4 c = λ l. (rw (c .before .k .given .1), rw (c .before .k .given .1))
+returns-4 c = λ l. rw (c .before .k .given .1)
 
 returns-5 : tie.Need-returns-5
-returns-5 c = λ l. (rw (c .before .k2 .given .1), rw (c .before .k2 .given .1))
+returns-5 c = λ l. rw (c .before .k2 .given .1)
 
 returns-6 : tie.Need-returns-6
-returns-6 c = λ l. (rw (c .before .k3 .given .1), rw (c .before .k3 .given .1))
+returns-6 c = λ l. rw (c .before .k3 .given .1)
 
 returns-7 : tie.Need-returns-7
-returns-7 c = λ l. (rw (c .before .k4 .given .1), rw (c .before .k4 .given .1))
+returns-7 c = λ l. rw (c .before .k4 .given .1)
 
 returns-8 : tie.Need-returns-8
-returns-8 c = λ l. (rw (c .before .k5 .given .1), rw (c .before .k5 .given .1))
+returns-8 c = λ l. rw (c .before .k5 .given .1)
 
 pub bounds-of-spec : {M : Type 1} → statement M
 bounds-of-spec =

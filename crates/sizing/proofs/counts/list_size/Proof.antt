@@ -1,9 +1,9 @@
--- `kinds::list_size` meets its contract.
+-- `counts::list_size` meets its contract.
 -- Assumes nothing.
 use borrow.Author.Needs.{needs}
-use Rattle.sizing.specs.KindSizes.{listSize}
-use Rattle.sizing.proofs.kinds.list_size.Statement.{statement}
-use Rattle.sizing.proofs.kinds.list_size.Tie as tie
+use Rattle.sizing.specs.Counts.{listSize}
+use Rattle.sizing.proofs.counts.list_size.Statement.{statement}
+use Rattle.sizing.proofs.counts.list_size.Tie as tie
 
 lower-requires : tie.Need-lower-requires
 lower-requires c κs = search needs
