@@ -4,6 +4,7 @@ pub mod Users
 pub mod Filled
 pub mod Outputs
 pub mod Proper
+pub mod NodeWords
 pub mod Numbered
 pub mod Entries
 pub mod Laws

@@ -1,16 +1,15 @@
 -- The formula's lists by numbers: for T times and the numbering L, from the users of a resource, the times of a group and the durations.
--- No atom or entry is left. Laws and Blocks have the equations with the formula.
+-- Laws and Blocks have the equations with the formula.
 use Prim.Native.Nat.{ℕ, zero, suc, _+_, _-_, _*_, min}
 use mathlib.Core.Bool.{Bool, true, false}
 use mathlib.Core.List.{List, [], _∷_, _++_, map, flatMap}
-use lib.ListN.{length, getD, take, drop}
+use lib.ListN.{length}
 use Rattle.scope.specs.declared.Layout.{Layout}
-use Rattle.scope.specs.Kinds.{Constraint, Kind, clash, unavailable, preferred, split, spread, busy, cluster, idle, upTo, outside}
-use Rattle.scope.specs.Cnf.{pos, opp, Gate, or, and, Item, gate, hard, gates}
-use Rattle.scope.specs.Score.{layoutAt}
-use Rattle.scope.specs.Formula.{countItems}
-use Rattle.literals.specs.Variables.{inBlock, yAt, sAt, xAt}
-use Rattle.literals.specs.Outputs.{every}
+use Rattle.scope.specs.Kinds.{Constraint, Kind, Atom, Listed, Counted, upTo, countedOf}
+use Rattle.scope.specs.Cnf.{pos, Gate, or, Item, gate, hard, gates}
+use Rattle.scope.specs.Score.{layoutAt, varAt}
+use Rattle.scope.specs.Formula.{refLiteral, nodeGate, countItems}
+use Rattle.literals.specs.Variables.{inBlock, yAt}
 
 -- a counted list: its bounds, its gates and the literals that it counts, from a variable on
 pub record Numbered : Type 0 where
@@ -24,11 +23,14 @@ pub record Numbered : Type 0 where
 abbrev pub plain : (lo hi : ℕ) → List ℕ → Numbered
 plain lo hi xs = record { lo = lo; hi = hi; zeroFree = false; gates = λ v. []; literals = λ v. xs }
 
+abbrev pub noList : Listed
+noList = record { nodes = []; members = [] }
+
 -- its items of the weight w, from the variable v on: hi is lowered to the list's length
 unfoldable pub numberedItems : (w : ℕ) → Numbered → ℕ → List Item
 numberedItems w c v =
     map gate (c .gates v)
-    ++ countItems w (record { lo = c .lo; hi = min (c .hi) (length (c .literals v)); zeroFree = c .zeroFree; list = [] }) (c .literals v)
+    ++ countItems w (record { lo = c .lo; hi = min (c .hi) (length (c .literals v)); zeroFree = c .zeroFree; list = noList }) (c .literals v)
     (v + length (c .gates v))
 
 -- one counted list after another
@@ -36,54 +38,24 @@ unfoldable pub allNumbered : (w : ℕ) → List Numbered → ℕ → List Item
 allNumbered w [] v = []
 allNumbered w (c ∷ cs) v = numberedItems w c v ++ allNumbered w cs (v + gates (numberedItems w c v))
 
--- the gates of n idle times from member k on, of a group whose X literals are xs: G over those before, H over those after, I
-unfoldable pub gapGates : (xs : List ℕ) (k n v : ℕ) → List Gate
-gapGates xs k zero v = []
-gapGates xs k (suc n) v =
-    or (take k xs) ∷ or (drop (suc k) xs) ∷ and (opp (getD xs k 0) ∷ pos v ∷ pos (v + 1) ∷ []) ∷ gapGates xs (suc k) n (v + 3)
+-- a list of nodes and members with its bounds, where num gives the literal of an atom
+abbrev pub numberOf : (Atom → ℕ) → Counted → Listed → Numbered
+numberOf num c l =
+    record {
+      lo = c .lo;
+      hi = c .hi;
+      zeroFree = c .zeroFree;
+      gates = λ v. map (nodeGate num v) (l .nodes);
+      literals = λ v. map (refLiteral num v) (l .members);
+    }
 
--- for each group, and each member but first and last
-unfoldable pub idleGates : List (List ℕ) → ℕ → List Gate
-idleGates [] v = []
-idleGates (xs ∷ xss) v = gapGates xs 1 (length xs - 2) v ++ idleGates xss (v + 3 * (length xs - 2))
+-- the literal of an atom
+abbrev pub numAt : (T : ℕ) → Layout → Atom → ℕ
+numAt T L a = pos (varAt T L a)
 
--- how many these are
-unfoldable pub innerCount : List (List ℕ) → ℕ
-innerCount [] = 0
-innerCount (xs ∷ xss) = (length xs - 2) + innerCount xss
-
--- X of resource r in each of some groups, in the block after `uses` variables
-abbrev pub xsOf : (T uses : ℕ) (group : ℕ → List ℕ) (r : ℕ) → List ℕ → List (List ℕ)
-xsOf T uses group r hs = map (λ g. map (inBlock T uses r) (group g)) hs
-
-module _ (T : ℕ) (L : Layout) (users group : ℕ → List ℕ) where
-  -- the counted lists of a kind
-  unfoldable pub numbered : Kind → List Numbered
-  numbered (clash r) = map (λ t. plain 0 1 (map (λ e. yAt T e t) (users r))) (upTo T)
-  numbered (unavailable r g) = plain 0 0 (map (xAt T L r) (group g)) ∷ []
-  numbered (preferred e g) = plain 0 0 (map (yAt T e) (outside (group g) (upTo T))) ∷ []
-  numbered (split e lo hi) = plain lo hi (map (sAt T L e) (upTo T)) ∷ []
-  numbered (spread vs g lo hi) = plain lo hi (flatMap (λ e. map (sAt T L e) (group g)) vs) ∷ []
-  numbered (busy r g lo hi) =
-      record { lo = lo; hi = hi; zeroFree = true; gates = λ v. []; literals = λ v. map (xAt T L r) (group g) } ∷ []
-  numbered (cluster r hs lo hi) =
-      record {
-        lo = lo;
-        hi = hi;
-        zeroFree = false;
-        gates = λ v. map or (xsOf T (L .uses) group r hs);
-        literals = λ v. every 1 v (length hs);
-      }
-      ∷ []
-  numbered (idle r hs lo hi) =
-      record {
-        lo = lo;
-        hi = hi;
-        zeroFree = false;
-        gates = idleGates (xsOf T (L .uses) group r hs);
-        literals = λ v. every 3 (v + 2) (innerCount (xsOf T (L .uses) group r hs));
-      }
-      ∷ []
+-- the counted lists of a kind
+unfoldable pub numbered : (T : ℕ) (L : Layout) (users group : ℕ → List ℕ) → Kind → List Numbered
+numbered T L users group k = map (numberOf (numAt T L) (countedOf T users group k)) (countedOf T users group k .lists)
 
 -- Y of each event counted, to its duration; the first has the number e
 unfoldable pub durationLists : (T e : ℕ) → List ℕ → List Numbered

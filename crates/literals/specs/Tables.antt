@@ -1,12 +1,12 @@
 -- The formula of an instance that stands in tables, by numbers and the tables' rows.
 use Prim.Native.Nat.{ℕ, zero, suc, _-_, _*_, _≤_}
 use mathlib.Core.Path.{_≡_, refl, sym, ap, _∙_}
-use mathlib.Core.List.{List, [], _∷_, map, map-append}
+use mathlib.Core.List.{List, [], _∷_, map, flatMap, map-append}
 use native.Mathlib.Omega.{arith}
 use lib.ListN.{length, getD, take}
 use lib.Seq.{take-suc}
 use Rattle.scope.specs.declared.Layout.{Layout}
-use Rattle.scope.specs.Kinds.{Event, Kind, clash, unavailable, preferred, split, spread, busy, cluster, idle, Constraint, users, groupAt, upTo}
+use Rattle.scope.specs.Kinds.{Event, Kind, clash, unavailable, preferred, split, spread, busy, cluster, idle, Constraint, anyOf, usesAt, gaps, countedOf, users, groupAt, upTo}
 use Rattle.scope.specs.Instance.{Instance}
 use Rattle.scope.specs.Score.{layoutAt}
 use Rattle.scope.specs.Formula.{formula}
@@ -15,7 +15,7 @@ use Rattle.tables.specs.Rows.{rowAt, rows, eventsOf}
 use Rattle.tables.specs.Laws.{length-events, group-row}
 use Rattle.literals.specs.Variables.{Within}
 use Rattle.literals.specs.Users.{usersIn, users-in}
-use Rattle.literals.specs.Numbered.{xsOf, numbered, useGates, constraintItems, listItems, numberedFormula}
+use Rattle.literals.specs.Numbered.{numbered, useGates, constraintItems, listItems, numberedFormula}
 use Rattle.literals.specs.Blocks.{flat-same, formula-numbers}
 
 -- the groups that a kind refers to
@@ -35,20 +35,32 @@ groupIn t g = rowAt t (g - 1)
 
 -- the times of the groups, and the users of the resources, found otherwise
 module _ (us vs f h : ℕ → List ℕ) (e : (r : ℕ) → us r ≡ vs r) where
-  xs-same : (T uses r : ℕ) {hs : List ℕ} → Each (λ g. f g ≡ h g) hs → xsOf T uses f r hs ≡ xsOf T uses h r hs
-  xs-same T uses r each-none = refl
-  xs-same T uses r (each-more p ps) = rw (p, xs-same T uses r ps)
+  any-same : (r : ℕ) {hs : List ℕ} → Each (λ g. f g ≡ h g) hs
+      → map (λ g. anyOf (usesAt r (f g))) hs ≡ map (λ g. anyOf (usesAt r (h g))) hs
+  any-same r each-none = refl
+  any-same r (each-more p ps) = rw (p, any-same r ps)
+
+  gaps-same : (r : ℕ) {hs : List ℕ} → Each (λ g. f g ≡ h g) hs
+      → flatMap (λ g. gaps (usesAt r (f g))) hs ≡ flatMap (λ g. gaps (usesAt r (h g))) hs
+  unfolding flatMap
+  gaps-same r each-none = refl
+  gaps-same r (each-more p ps) = rw (p, gaps-same r ps)
+
+  -- what a kind counts goes by the groups that it refers to
+  pub counted-same : (T : ℕ) (k : Kind) → Each (λ g. f g ≡ h g) (groupsOf k) → countedOf T us f k ≡ countedOf T vs h k
+  unfolding countedOf groupsOf
+  counted-same T (clash r) p = rw (e r)
+  counted-same T (unavailable r g) (each-more p ps) = rw p
+  counted-same T (preferred x g) (each-more p ps) = rw p
+  counted-same T (split x lo hi) p = refl
+  counted-same T (spread xs g lo hi) (each-more p ps) = rw p
+  counted-same T (busy r g lo hi) (each-more p ps) = rw p
+  counted-same T (cluster r hs lo hi) p = rw (any-same r p)
+  counted-same T (idle r hs lo hi) p = rw (gaps-same r p)
 
   pub numbered-same : (T : ℕ) (L : Layout) (k : Kind) → Each (λ g. f g ≡ h g) (groupsOf k) → numbered T L us f k ≡ numbered T L vs h k
-  unfolding numbered groupsOf
-  numbered-same T L (clash r) p = rw (e r)
-  numbered-same T L (unavailable r g) (each-more p ps) = rw p
-  numbered-same T L (preferred x g) (each-more p ps) = rw p
-  numbered-same T L (split x lo hi) p = refl
-  numbered-same T L (spread xs g lo hi) (each-more p ps) = rw p
-  numbered-same T L (busy r g lo hi) (each-more p ps) = rw p
-  numbered-same T L (cluster r hs lo hi) p = rw (xs-same T (L .uses) r p)
-  numbered-same T L (idle r hs lo hi) p = rw (xs-same T (L .uses) r p)
+  unfolding numbered
+  numbered-same T L k p = rw (counted-same T k p)
 
   constraints-same : (T : ℕ) (L : Layout) (cs : List Constraint) (v : ℕ)
       → Each (λ c. Each (λ g. f g ≡ h g) (groupsOf (c .kind))) cs
