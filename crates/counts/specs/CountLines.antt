@@ -16,11 +16,11 @@ use Rattle.sink.specs.World.{rowOver}
 use Rattle.counters.specs.Rows.{gates-map}
 use Rattle.gates.specs.Units.{unitLine}
 use Rattle.counts.specs.UnitLines.{unitsFrom, low-hard, low-soft, high-none, high-any}
-use Rattle.counts.specs.declared.Bounds.{Bounds}
+use Rattle.constraint.specs.declared.bounds.Bounds.{Bounds}
 
 -- the rule of some bounds, without its list
 abbrev pub ruleOf : Bounds → Rule
-ruleOf b = record { lo = b .lo; hi = b .hi; zeroFree = b .free; list = [] }
+ruleOf b = record { lo = b .lo; hi = b .hi; zeroFree = b .free; list = record { nodes = []; members = [] } }
 
 -- the low part, from the variable v on
 unfoldable pub lowItems : ℕ → Bounds → (ℕ → ℕ) → ℕ → List Item

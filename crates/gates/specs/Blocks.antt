@@ -35,7 +35,7 @@ small-append : (ls : List ℕ) (l : ℕ) → Small ls → l < 2147483648 → Sma
 small-append [] l h g = (g, tt)
 small-append (k ∷ ks) l h g = (h .0, small-append ks l (h .1) g)
 
-pub mark-append : (ls : List ℕ) (l : ℕ) → mark (ls ++ l ∷ []) ≡ ls ++ (l + 2147483648) ∷ []
+mark-append : (ls : List ℕ) (l : ℕ) → mark (ls ++ l ∷ []) ≡ ls ++ (l + 2147483648) ∷ []
 unfolding mark
 mark-append [] l = refl
 mark-append (k ∷ []) l = refl

@@ -12,7 +12,7 @@ use Rattle.sink.specs.World.{World}
 use Rattle.counters.specs.Rows.{gates-map}
 use Rattle.literals.specs.Words.{Holds}
 use Rattle.literals.specs.Numbered.{Numbered, numberedItems}
-use Rattle.counts.specs.declared.Bounds.{Bounds}
+use Rattle.constraint.specs.declared.bounds.Bounds.{Bounds}
 use Rattle.items.specs.Counted.{counted}
 use Rattle.items.specs.Lists.{boundsOf, list-items}
 use Rattle.kinds.specs.Counted.{listIn, GatesIn}

@@ -7,7 +7,7 @@ use Rattle.scope.specs.declared.Layout.{Layout}
 use Rattle.scope.specs.Kinds.{from, clash}
 use Rattle.constraint.specs.declared.kinds.Kind.{Kind}
 use Rattle.constraint.specs.Answers.{kindOf}
-use Rattle.counts.specs.declared.Bounds.{Bounds}
+use Rattle.constraint.specs.declared.bounds.Bounds.{Bounds}
 use Rattle.literals.specs.Numbered.{numbered}
 use Rattle.items.specs.Lists.{boundsOf}
 use Rattle.kinds.specs.Counted.{countedList}

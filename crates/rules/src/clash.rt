@@ -1,6 +1,6 @@
 // Kind 1: at each time, the events that use a resource are counted, to at most one.
+use constraint::Bounds;
 use constraint::Head;
-use counts::Bounds;
 use items::Written;
 use sink::Job;
 use sink::Sink;

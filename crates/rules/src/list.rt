@@ -1,9 +1,9 @@
 // A constraint that has one counted list.
 use crate::added::write_gates;
+use constraint::Bounds;
 use constraint::Constraint;
 use constraint::Head;
 use constraint::Kind;
-use counts::Bounds;
 use items::Written;
 use sink::Job;
 use sink::Sink;
