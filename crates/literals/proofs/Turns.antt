@@ -92,11 +92,22 @@ pub within-at : (m : ℕ) (l : List ℕ) (n k : ℕ) → Each (Within m) (take n
 within-at m l n k e h i =
     rw (getD-take n l k 0 h) at (each-at k 0 e (rw (length-take-le n l i) h))
 
--- the next of a gate's outputs
-pub next-output : (step first k v : ℕ) (words : List ℕ)
-    → Holds words k (every step first k)
-    → k < length words
+-- the next of gates' outputs, after words that stay
+pub next-output : (before : List ℕ) (step first k n v : ℕ) (words : List ℕ)
+    → Holds words n (before ++ every step first k)
+    → n < length words
     → v ≡ first + step * k
-    → Holds (set words k (2 * v)) (k + 1) (every step first (k + 1))
+    → (m : ℕ)
+    → m ≡ n + 1
+    → Holds (set words n (2 * v)) m (before ++ every step first (k + 1))
 unfolding every
-next-output step first k v words h l e = holds-as (rw e (sym (every-both step first k 1))) (holds-more h (2 * v) l)
+next-output before step first k n v words h l e m q =
+    rw q (holds-as (append-assoc before (every step first k) ((2 * v) ∷ []) ∙ rw e (ap (_++_ before) (sym (every-both step first k 1)))) (holds-more h (2 * v) l))
+
+-- words that stay, and nothing after them
+pub holds-before : (words : List ℕ) (n : ℕ) → n ≤ length words → Holds words (n + 0) (take n words ++ [])
+holds-before words n h =
+    record {
+      count = simp (length-append, length-take-le n words h);
+      front = rw (add-zero n) (sym (append-nil (take n words)));
+    }

@@ -1,0 +1,91 @@
+-- Nodes after words that stay.
+use Prim.Native.Nat.{ℕ, suc, _+_, _-_, _*_, _≤_, _<_}
+use mathlib.Core.Path.{_≡_, refl, sym, ap, _∙_}
+use mathlib.Core.List.{List, [], _∷_, _++_, append-assoc, append-nil}
+use native.Mathlib.Omega.{arith}
+use native.Mathlib.Numerals.{add-one}
+use lib.ListN.{length, getD, take, drop, set, length-set, length-append, length-drop, drop-of-length-le}
+use lib.Seq.{take-suc, take-suc-set, take-set-le, length-take-le, drop-append-le}
+use Rattle.scope.specs.Cnf.{pos, neg, opp, or, and}
+use Rattle.literals.specs.Words.{Holds, holds-as, holds-more}
+use Rattle.literals.specs.NodeWords.{nodeWords, or-words, and-words}
+
+-- a list and then more
+pub holds-then : {words after xs : List ℕ} {n m : ℕ} (ys : List ℕ) → Holds words n xs → Holds after m (take n words ++ ys) → Holds after m (xs ++ ys)
+holds-then ys h q = holds-as (ap (λ (l : List ℕ). l ++ ys) (h .front)) q
+
+-- words that stay
+pub holds-kept : (words : List ℕ) (n : ℕ) → n ≤ length words → Holds words n (take n words)
+holds-kept words n h = record { count = sym (length-take-le n words h); front = refl }
+
+-- a word more, at its place
+holds-put : {words xs : List ℕ} {n : ℕ} → Holds words n xs → (m x k : ℕ) → m ≡ n → m < length words → k ≡ n + 1
+    → Holds (set words m x) k (xs ++ (x ∷ []))
+holds-put h m x k e l q = rw (q, e) (holds-more h x (omega arith))
+
+-- an OR: its head word, its inputs ys, and the word w
+pub or-stored : (out : List ℕ) (at n : ℕ) (ys : List ℕ) → at < length out → n ≡ length ys → {after : List ℕ} {last : ℕ}
+    → Holds after last (take (at + 1) (set out at n) ++ ys)
+    → last < length after
+    → (o w : ℕ)
+    → w ≡ neg o + 2147483648
+    → Holds (set after last w) (last + 1) (take at out ++ nodeWords (or ys) o)
+or-stored out at n ys l e h k o w q =
+    let f : take (at + 1) (set out at n) ≡ take at out ++ (length ys ∷ []) = rw (add-one at, take-suc-set out at n l, e) in
+    holds-as (rw (f, q, or-words ys o) (simp append-assoc)) (holds-more h w k)
+
+-- where the inputs end
+pub or-place : (out : List ℕ) (at n : ℕ) (ys : List ℕ) → at < length out → {after : List ℕ} {last : ℕ}
+    → Holds after last (take (at + 1) (set out at n) ++ ys)
+    → last ≡ at + 1 + length ys
+or-place out at n ys l h =
+    h .count ∙ length-append (take (at + 1) (set out at n)) ys
+    ∙ rw (length-take-le (at + 1) (set out at n) (rw length-set (omega arith)))
+
+-- how long an OR's words are
+pub or-length : (ys : List ℕ) (o : ℕ) → length (nodeWords (or ys) o) ≡ length ys + 2
+or-length ys o = rw (or-words ys o, length-append) (omega arith)
+
+-- where an OR ends
+pub or-end : (words ys : List ℕ) (n o : ℕ) {after : List ℕ} {m : ℕ} → n ≤ length words
+    → Holds after m (take n words ++ nodeWords (or ys) o)
+    → m ≡ n + length ys + 2
+or-end words ys n o l h =
+    omega (arith, h .count, length-append (take n words) (nodeWords (or ys) o), length-take-le n words l, or-length ys o)
+
+-- an idle time's AND
+pub idling-stored : (out : List ℕ) (at x v : ℕ) → at + 5 ≤ length out
+    → Holds
+    (set (set (set (set (set out at 3) (at + 1) x) (at + 2) (2 * v + 1)) (at + 3) (2 * (v + 1) + 1)) (at + 4) (2 * (v + 2) + 2147483648))
+    (at + 5)
+    (take at out ++ nodeWords (and (opp x ∷ pos v ∷ pos (v + 1) ∷ [])) (v + 2))
+idling-stored out at x v l =
+    let a = holds-put (holds-kept out at (omega arith)) at 3 (at + 1) refl (omega arith) refl in
+    let b = holds-put a (at + 1) x (at + 2) refl (simp length-set (omega arith)) (omega arith) in
+    let c = holds-put b (at + 2) (2 * v + 1) (at + 3) refl (simp length-set (omega arith)) (omega arith) in
+    let d = holds-put c (at + 3) (2 * (v + 1) + 1) (at + 4) refl (simp length-set (omega arith)) (omega arith) in
+    let e = holds-put d (at + 4) (2 * (v + 2) + 2147483648) (at + 5) refl (simp length-set (omega arith)) (omega arith) in
+    let p : opp (opp x) ≡ x = omega arith in
+    let q : opp (pos v) ≡ 2 * v + 1 = omega arith in
+    let r : opp (pos (v + 1)) ≡ 2 * (v + 1) + 1 = omega arith in
+    holds-as (rw (and-words (opp x ∷ pos v ∷ pos (v + 1) ∷ []) (v + 2), p, q, r) (simp append-assoc)) e
+
+-- the words of a row from one place up to another: those up to place k, and one more
+pub copied-none : (row : List ℕ) (from : ℕ) (out : List ℕ) (at : ℕ) → at ≤ length out → from ≤ length row → Holds out at (take at out ++ drop from (take from row))
+copied-none row from out at h l =
+    let e : drop from (take from row) ≡ [] = drop-of-length-le (take from row) {i = from} (omega (arith, length-take-le from row l)) in
+    holds-as (sym (rw e (append-nil (take at out)))) (holds-kept out at h)
+
+pub copied-more : (row before : List ℕ) (from k : ℕ) {out : List ℕ} {n : ℕ}
+    → Holds out n (before ++ drop from (take k row))
+    → from ≤ k
+    → k < length row
+    → n < length out
+    → Holds (set out n (getD row k 0)) (n + 1) (before ++ drop from (take (k + 1) row))
+copied-more row before from k h f l j =
+    let e : drop from (take (k + 1) row) ≡ drop from (take k row) ++ (getD row k 0 ∷ []) =
+    rw (add-one k, take-suc row k 0 l) (drop-append-le from (take k row) (getD row k 0 ∷ []) (omega (arith, length-take-le k row (omega arith)))) in
+    holds-as (append-assoc before (drop from (take k row)) (getD row k 0 ∷ []) ∙ ap (_++_ before) (sym e)) (holds-more h (getD row k 0) j)
+
+pub part-length : (row : List ℕ) (from to : ℕ) → to ≤ length row → length (drop from (take to row)) ≡ to - from
+part-length row from to h = length-drop from (take to row) ∙ rw (length-take-le to row h)
