@@ -4,3 +4,6 @@ pub mod Atoms
 pub mod Plain
 pub mod Cluster
 pub mod Idle
+pub mod Fillable
+pub mod BoundsFor
+pub mod Literals

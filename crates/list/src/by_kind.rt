@@ -1,0 +1,42 @@
+// A constraint's list, by its kind.
+use crate::busy::fill_busy;
+use crate::clash::fill_clash;
+use crate::cluster::fill_cluster;
+use crate::filled::Filled;
+use crate::idle::fill_idle;
+use crate::preferred::fill_preferred;
+use crate::split::fill_split;
+use crate::spread::fill_spread;
+use crate::unavailable::fill_unavailable;
+use constraint::Head;
+use constraint::Kind;
+ghost use Rattle.constraint.specs.Answers.{kindOf};
+ghost use Rattle.literals.specs.Filled.{usersAt};
+ghost use Rattle.list.specs.Fillable.{Fillable};
+ghost use Rattle.list.specs.Stored.{listIn, numOf, Stored};
+
+// List number t, from 1; its first node is the variable v.
+pub fn fill(
+    kind: Kind,
+    t: u32,
+    head: Head,
+    users: &[u16],
+    groups: &[u8],
+    list: &[u16],
+    v: u32,
+    out: &mut [u32],
+) -> Filled
+    requires { ⌜ Fillable (now users) (now groups) (now list) head (kindOf (now list) kind) t v (now out) ⌝ }
+    ensures { λ r. ⌜ Stored (numOf head) (listIn (usersAt (now (users .entry))) (now (groups .entry)) head (kindOf (now (list .entry)) kind) t) v (now (out .exit)) r ⌝ }
+{
+    match kind {
+        Kind::Clash(f) => fill_clash(f, t, head, users, out),
+        Kind::Unavailable(f) => fill_unavailable(f, head, groups, out),
+        Kind::Preferred(f) => fill_preferred(f, head, groups, out),
+        Kind::Split(f) => fill_split(f, head, out),
+        Kind::Spread(f) => fill_spread(f, head, groups, list, out),
+        Kind::Busy(f) => fill_busy(f, head, groups, out),
+        Kind::Cluster(f) => fill_cluster(f, head, groups, list, v, out),
+        Kind::Idle(f) => fill_idle(f, head, groups, list, v, out),
+    }
+}
