@@ -10,12 +10,11 @@ use Rattle.scope.specs.Kinds.{Event, from, upTo, users}
 use Rattle.tables.specs.Rows.{rowAt, eventsOf}
 use Rattle.constraint.specs.declared.kinds.Head.{Head}
 use Rattle.sizing.specs.declared.Size.{Size}
-use Rattle.sizing.specs.Sums.{none, sum, Within, Fits64, within-more, within-sum, within-multiple, sum-none, none-sum, sum-assoc}
+use Rattle.sizing.specs.Sums.{none, sum, Within, within-more, within-sum, within-multiple, sum-none, none-sum, sum-assoc}
 use Rattle.sizing.specs.Gates.{orSize}
-use Rattle.sizing.specs.KindSizes.{listSize}
+use Rattle.sizing.specs.Counts.{listSize}
 use Rattle.sizing.specs.Blocks.{startsSize, useSize, usesSize, durationsSize}
 use Rattle.sizing.specs.Limits.{or-within, list-within, starts-within}
-use Rattle.sizes.specs.Sizable.{Users}
 
 -- starts, uses and durations
 unfoldable pub blocksSize : Head → List Event → Size
@@ -23,15 +22,19 @@ blocksSize h es =
     sum (startsSize (h .events) (h .times))
     (sum (usesSize (h .times) es (upTo (h .resources))) (durationsSize (h .times) es))
 
--- the counts of users, and the durations, of an accepted file
-pub record Begun (counts durations : List ℕ) (h : Head) : Type 0 where
+-- row r of the table begins with how many of the events use resource r
+pub record Users (table : List ℕ) (es : List Event) : Type 0 where
+  pub each : (r : ℕ) → getD table (r * 1025) 0 ≡ length (users r es)
+
+-- the table of users, and the durations, of an accepted file
+pub record Begun (table durations : List ℕ) (h : Head) : Type 0 where
   pub times-low : 1 ≤ h .times
   pub times-high : h .times ≤ 125
   pub events : h .events ≤ 1024
-  pub resources : h .resources ≤ 255
-  pub counts-long : length counts ≡ 256
+  pub resources : h .resources ≤ 99
+  pub table-long : length table ≡ 102500
   pub durations-long : length durations ≡ 1024
-  pub few : (r : ℕ) → getD counts r 0 ≤ 1024
+  pub few : (r : ℕ) → getD table (r * 1025) 0 ≤ 1024
   pub short : (e : ℕ) → e < h .events → getD durations e 0 ≤ h .times
 
 -- one resource more
@@ -47,9 +50,9 @@ uses-sum-within i T n {acc} {one} w h k e =
 pub uses-start : (T R : ℕ) (es : List Event) → usesSize T es (upTo R) ≡ sum none (usesSize T es (from 1 (R - 0)))
 uses-start T R es = let k : R - 0 ≡ R = omega arith in rw k (sym (none-sum _))
 
--- X of those from i + 1 on, for counts of the users of some events
-module _ (counts : List ℕ) (T R i : ℕ) (es : List Event) (u : Users counts es) where
-  pub uses-more : (acc : Size) {one r : Size} → i < R → one ≡ useSize T (getD counts (i + 1) 0) → r ≡ sum acc one
+-- X of those from i + 1 on, for a table of the users of some events
+module _ (table : List ℕ) (T R i : ℕ) (es : List Event) (u : Users table es) where
+  pub uses-more : (acc : Size) {one r : Size} → i < R → one ≡ useSize T (getD table ((i + 1) * 1025) 0) → r ≡ sum acc one
       → usesSize T es (upTo R) ≡ sum acc (usesSize T es (from (suc i) (R - i)))
       → usesSize T es (upTo R) ≡ sum r (usesSize T es (from (suc (i + 1)) (R - (i + 1))))
   unfolding usesSize from
@@ -87,14 +90,15 @@ durations-more T d t e f g q =
     rw (add-one e, durations-last T (eventsOf d t e) v, q, f, g)
 
 -- uses and durations together, and after the starts
-pub rest-within : (R E : ℕ) {uses durations : Size} → R ≤ 255 → E ≤ 1024 → Within (R * 384125) uses
-    → Within (E * 1225275) durations → Within 2147483648 (sum uses durations)
-rest-within R E {uses} {durations} h k u d = within-more (omega arith) (within-sum (R * 384125) (E * 1225275) uses durations u d)
+pub rest-within : (R E : ℕ) {uses durations rest : Size} → R ≤ 99 → E ≤ 1024 → Within (R * 384125) uses
+    → Within (E * 1225275) durations → rest ≡ sum uses durations → Within 1300000000 rest
+rest-within R E {uses} {durations} {rest} h k u d e =
+    rw e (within-more (omega arith) (within-sum (R * 384125) (E * 1225275) uses durations u d))
 
-pub blocks-fit : (E T : ℕ) {starts rest : Size} → E ≤ 1024 → T ≤ 125 → starts ≡ startsSize E T → Within 2147483648 rest
-    → Fits64 (sum starts rest)
-blocks-fit E T {starts} {rest} h k e w =
-    within-more (omega arith) (within-sum 640000 2147483648 starts rest (rw e (starts-within E T h k)) w)
+pub blocks-within : (E T : ℕ) {starts rest r : Size} → E ≤ 1024 → T ≤ 125 → starts ≡ startsSize E T → Within 1300000000 rest
+    → r ≡ sum starts rest → Within 2147483648 r
+blocks-within E T {starts} {rest} {r} h k e w f =
+    rw f (within-more (omega arith) (within-sum 640000 1300000000 starts rest (rw e (starts-within E T h k)) w))
 
 pub blocks-size : (h : Head) (es : List Event) {starts uses durations rest r : Size} → starts ≡ startsSize (h .events) (h .times)
     → uses ≡ usesSize (h .times) es (upTo (h .resources)) → durations ≡ durationsSize (h .times) es

@@ -1,8 +1,6 @@
-pub mod Shapes
-pub mod Groups
+pub mod Listed
 pub mod Sizable
 pub mod Before
-pub mod Meant
 pub mod Walked
 pub mod Whole
 pub mod Opened

@@ -122,7 +122,7 @@ module _ {s d te tg : List ℕ} {h : Head} (a : Accepted s d te tg h) where
   -- then 8, without and with the tail
   module _ {B : ℕ} {t : Total} (w : WholeOf (instanceOf s d te tg h) B t) where
     numbers : Numbers (instanceOf s d te tg h) (t .formula)
-    numbers = whole-numbers (instanceOf s d te tg h) (accepted-instance a) (w .formula)
+    numbers = whole-numbers (instanceOf s d te tg h) (accepted-instance a) (w .formula) (w .within)
 
     size-by : (b : Bool) → leb (t .formula .variables) mostVariables ≡ b
         → measuredAs s d te tg (cond b (Measured.Sized h (t .formula)) (Measured.Refused tooMany))

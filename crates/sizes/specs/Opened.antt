@@ -1,32 +1,29 @@
--- What is known of an accepted file, its tables and the counts of users, for the walk over them.
+-- What is known of an accepted file, its tables and the table of users, for the walk over them.
 use Prim.Native.Nat.{ℕ, zero, suc, _+_, _≤_, _<_}
-use mathlib.Core.Path.{_≡_, sym, _∙_}
+use mathlib.Core.Path.{_≡_, sym, ap, _∙_}
 use mathlib.Core.List.{List, [], _∷_}
 use mathlib.Core.Logic.{⊎-elim}
 use native.Mathlib.Nat.{not-suc-le-zero, le-of-suc-le-suc, eq-or-lt-of-le}
 use native.Mathlib.Omega.{arith}
 use lib.ListN.{length, getD}
-use Rattle.scope.specs.Kinds.{users}
 use Rattle.theory.specs.Accepted.{ValidInstance, gives-instance}
 use Rattle.number.specs.Each.{Each, each-front, each-last}
-use Rattle.tables.specs.Rows.{rowAt, rows, eventsOf, RowsIn}
+use Rattle.tables.specs.Rows.{rowAt, eventsOf}
 use Rattle.tables.specs.Laws.{length-events}
-use Rattle.tables.specs.Reading.{EventIn, event-row}
-use Rattle.tables.specs.Users.{Counted, users-counted}
+use Rattle.tables.specs.Reading.{EventIn}
 use Rattle.constraint.specs.declared.kinds.Head.{Head}
 use Rattle.instance.specs.Answers.{instanceOf}
-use Rattle.instance.specs.Laws.{Accepted, event-rows, group-rows}
+use Rattle.instance.specs.Laws.{Accepted}
 use Rattle.instance.specs.Stores.{Stores}
+use Rattle.literals.specs.Users.{usersIn, users-in}
+use Rattle.literals.specs.Filled.{Filled, EventRows, filled-rows}
+use Rattle.fitting.specs.Known.{known-rows}
 use Rattle.sizing.specs.declared.Size.{Size}
-use Rattle.sizing.specs.Sums.{sum, within-more}
-use Rattle.sizing.specs.Limits.{users-most}
-use Rattle.sizing.specs.Whole.{constraintsSize, beforeSize, wholeSize, tailOf}
-use Rattle.sizing.specs.WholeLimits.{whole-within}
+use Rattle.sizing.specs.Sums.{sum, Within, within-more}
+use Rattle.sizing.specs.Whole.{beforeSize, wholeSize, tailOf}
 use Rattle.sizes.specs.declared.walk.Total.{Total}
-use Rattle.sizes.specs.Sizable.{Users}
-use Rattle.sizes.specs.Before.{Begun, blocksSize}
-use Rattle.sizes.specs.Meant.{Meant}
-use Rattle.sizes.specs.Walked.{Walkable, TotalOf}
+use Rattle.sizes.specs.Before.{Users, Begun, blocksSize}
+use Rattle.sizes.specs.Walked.{Tabled, Walkable, TotalOf}
 use Rattle.sizes.specs.Whole.{WholeOf}
 
 -- an accepted file with its tables, a store for a list, and a bound within its limit
@@ -63,76 +60,56 @@ duration-in {T} d t (suc n) e a h =
     (eq-or-lt-of-le (le-of-suc-le-suc h))
 
 module _ {s d te tg list : List ℕ} {h : Head} {B : ℕ} (o : Opened s d te tg list h B) where
-  -- what the count of users asks for
-  pub opened-countable : (h .events ≤ 1024) × RowsIn te (h .events)
-  opened-countable = (o .accepted .sizes .events-high, event-rows (o .accepted) (o .stores .tables .resources-long))
+  -- the table of users can be filled
+  pub opened-rows : EventRows te (h .events)
+  opened-rows = known-rows (o .accepted) (o .stores .tables .resources-long)
 
-  module _ {counts : List ℕ} (l : length counts ≡ 256) (c : Counted te (h .events) counts) where
-    pub opened-users : Users counts (eventsOf d te (h .events))
-    opened-users =
-        record {
-          each =
-              λ r.
-              c .each r
-              ∙ sym (users-counted r (h .resources) d te (h .events) (λ g k. event-row d te (h .events) g (o .accepted .events) k));
-        }
+  module _ {us : List ℕ} (f : Filled us (usersIn te (h .events))) where
+    pub opened-users : Users us (eventsOf d te (h .events))
+    opened-users = record { each = λ r. f .each r .count ∙ ap length (sym (users-in d te (h .events) r)) }
 
-    pub opened-begun : Begun counts d h
+    pub opened-begun : Begun us d h
     opened-begun =
         let z = o .accepted .sizes in
-        let E = length-events d te (h .events) in
         record {
           times-low = z .times-low;
           times-high = z .times-high;
           events = z .events-high;
-          resources = omega (arith, z .resources-high);
-          counts-long = l;
+          resources = z .resources-high;
+          table-long = f .long;
           durations-long = o .stores .tables .durations-long;
-          few =
-              λ r.
-              omega
-              (arith, z .events-high, E, opened-users .each r, users-most r 1 (eventsOf d te (h .events)));
+          few = filled-rows te (h .events) f (z .events-high) .count;
           short = λ e k. duration-in d te (h .events) e (o .accepted .events) k;
         }
 
-    pub opened-meant : Meant s counts tg h (eventsOf d te (h .events)) (instanceOf s d te tg h .constraints)
-    opened-meant =
+    pub opened-tabled : Tabled s d te us tg h
+    opened-tabled = record { accepted = o .accepted; filled = f }
+
+    pub opened-walkable : {before : Size} {store : List ℕ} {cols : ℕ} → Within 2147483648 before → length store ≡ 65536 → cols ≡ B + 1
+        → Walkable s us tg list store h cols before
+    opened-walkable w l k =
         record {
-          users = opened-users;
-          ascending = o .accepted .groups;
-          valid = accepted-instance (o .accepted);
-          walk = rw (o .accepted .constraints) (o .accepted .walk);
+          durations = d;
+          resources = te;
+          tabled = opened-tabled;
+          groups-long = o .stores .tables .groups-long;
+          list-long = o .stores .list-long;
+          store-long = l;
+          columns = omega (arith, o .bound);
+          within = w;
         }
 
     -- with what stands before the constraints
-    module _ {before : Size} (e : before ≡ blocksSize h (eventsOf d te (h .events))) where
-      whole : sum before (constraintsSize (instanceOf s d te tg h) (instanceOf s d te tg h .constraints))
-          ≡ wholeSize (instanceOf s d te tg h)
-      unfolding wholeSize beforeSize blocksSize
-      whole = rw (e, length-events d te (h .events))
-
-      pub opened-walkable : {cols : ℕ} → cols ≡ B + 1 → Walkable s counts tg list h cols before
-      opened-walkable {cols} k =
-          let z = o .accepted .sizes in
-          record {
-            ready =
-                record {
-                  counts = l;
-                  room = o .stores .list-long;
-                  resources = omega (arith, z .resources-high);
-                  numbers = omega (arith, o .accepted .groups-high);
-                  events = omega (arith, z .events-high);
-                  rows = group-rows (o .accepted) (o .stores .tables .groups-long);
-                };
-            columns = omega (arith, o .bound);
-            events = eventsOf d te (h .events);
-            constraints = instanceOf s d te tg h .constraints;
-            meant = opened-meant;
-            fits = rw whole (within-more (omega arith) (whole-within (instanceOf s d te tg h) (accepted-instance (o .accepted))));
-          }
-
-      pub opened-whole : {r : Total}
-          → TotalOf tg h (eventsOf d te (h .events)) (instanceOf s d te tg h .constraints) (B + 1) before r
-          → WholeOf (instanceOf s d te tg h) B r
-      unfolding tailOf
-      opened-whole t = record { formula = t .formula ∙ whole; tail = t .tail }
+    pub opened-whole : {before : Size} {r : Total} → before ≡ blocksSize h (eventsOf d te (h .events))
+        → TotalOf s d te tg h (B + 1) before r
+        → WholeOf (instanceOf s d te tg h) B r
+    unfolding wholeSize beforeSize blocksSize tailOf
+    opened-whole {before} {r} e t =
+        let few = o .accepted .constraints-high in
+        let E = length-events d te (h .events) in
+        record {
+          formula = t .formula ∙ rw (e, E, o .accepted .constraints);
+          tail = t .tail ∙ rw (o .accepted .constraints);
+          within = within-more (omega arith) (t .within .formula);
+          tail-within = within-more (omega arith) (t .within .tail);
+        }

@@ -12,13 +12,14 @@ use Rattle.theory.specs.Accepted.{ValidInstance}
 use Rattle.sizing.specs.declared.Size.{Size}
 use Rattle.sizing.specs.Sums.{sum, Within, Fits64, within-more, within-sum}
 use Rattle.sizing.specs.Whole.{formulaOf, stored, wholeSize, tailOf, whole-size, bounded-size}
-use Rattle.sizing.specs.WholeLimits.{whole-within, tail-of-within}
 use Rattle.sizes.specs.declared.walk.Total.{Total}
 
--- the formula, and the tail for the bound B
+-- the formula, and the tail for the bound B, with numbers far below 2 ^ 64
 pub record WholeOf (i : Instance) (B : ℕ) (t : Total) : Type 0 where
   pub formula : t .formula ≡ wholeSize i
   pub tail : t .tail ≡ tailOf i B
+  pub within : Within 1101659111424 (t .formula)
+  pub tail-within : Within 8796093022208 (t .tail)
 
 -- the numbers of the formula without its tail, each far below 2 ^ 64
 pub record Numbers (i : Instance) (z : Size) : Type 0 where
@@ -29,10 +30,16 @@ pub record Numbers (i : Instance) (z : Size) : Type 0 where
   pub top : z .weight + 1 ≡ topOf i
   pub within : Within 1101659111424 z
 
+-- both together are numbers of 64 bits
+pub total-fits : {i : Instance} {B : ℕ} {t : Total} → WholeOf i B t → Fits64 (sum (t .formula) (t .tail))
+total-fits {t = t} w =
+    within-more (omega arith)
+    (within-sum 1101659111424 8796093022208 (t .formula) (t .tail) (w .within) (w .tail-within))
+
 module _ (i : Instance) (v : ValidInstance i) where
-  pub whole-numbers : {z : Size} → z ≡ wholeSize i → Numbers i z
+  pub whole-numbers : {z : Size} → z ≡ wholeSize i → Within 1101659111424 z → Numbers i z
   unfolding formulaOf topOf
-  whole-numbers {z} e =
+  whole-numbers {z} e w =
       let f : z ≡ formulaOf i = e ∙ sym (whole-size i v) in
       record {
         variables = ap (λ (z : Size). z .variables) f;
@@ -40,16 +47,10 @@ module _ (i : Instance) (v : ValidInstance i) where
         words = ap (λ (z : Size). z .words) f;
         units = ap (λ (z : Size). z .units) f;
         top = omega (arith, ap (λ (z : Size). z .weight) f);
-        within = rw e (whole-within i v);
+        within = w;
       }
 
   -- with the tail
   module _ (B : ℕ) {t : Total} (w : WholeOf i B t) where
-    pub total-fits : B ≤ 4095 → Fits64 (sum (t .formula) (t .tail))
-    total-fits h =
-        rw (w .formula, w .tail)
-        (within-more (omega arith)
-        (within-sum 1101659111424 8796093022208 (wholeSize i) (tailOf i B) (whole-within i v) (tail-of-within i v B h)))
-
     pub total-size : {s : Size} {z : FormulaSize} → s ≡ sum (t .formula) (t .tail) → z ≡ stored s → z ≡ formulaSize i B
     total-size e f = f ∙ rw (e, w .formula, w .tail) (sym (bounded-size i B v))

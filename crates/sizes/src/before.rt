@@ -3,7 +3,7 @@ use constraint::Head;
 use sizing::Size;
 use sizing::blocks::starts_size;
 use sizing::blocks::use_size;
-use sizing::kinds::list_size;
+use sizing::counts::list_size;
 use sizing::sums::nothing;
 use sizing::sums::plus;
 ghost use mathlib.Core.Path.{_≡_};
@@ -14,12 +14,11 @@ ghost use Rattle.scope.specs.Kinds.{Event, upTo};
 ghost use Rattle.tables.specs.Rows.{eventsOf};
 ghost use Rattle.sizing.specs.Sums.{Within};
 ghost use Rattle.sizing.specs.Blocks.{usesSize, durationsSize};
-ghost use Rattle.sizes.specs.Sizable.{Users};
-ghost use Rattle.sizes.specs.Before.{Begun, blocksSize};
+ghost use Rattle.sizes.specs.Before.{Users, Begun, blocksSize};
 
-// X of each resource, where users[r] is how many events use resource r.
-fn uses_size(times: u32, resources: u32, users: &[u32]) -> Size
-    requires { ⌜ (times ≤ 125) × (resources ≤ 255) × (length (now users) ≡ 256) × ((r : ℕ) → getD (now users) r 0 ≤ 1024) ⌝ }
+// X of each resource, where users is the table of the users of each resource.
+fn uses_size(times: u32, resources: u32, users: &[u16]) -> Size
+    requires { ⌜ (times ≤ 125) × (resources ≤ 99) × (length (now users) ≡ 102500) × ((r : ℕ) → getD (now users) (r * 1025) 0 ≤ 1024) ⌝ }
     ensures { λ r. ⌜ Within (resources * 384125) r × ((es : List Event) → Users (now (users .entry)) es → r ≡ usesSize times es (upTo resources)) ⌝ }
 {
     let t = times as u64;
@@ -27,7 +26,8 @@ fn uses_size(times: u32, resources: u32, users: &[u32]) -> Size
     let mut sum = nothing();
     let mut i: usize = 0;
     while i < most {
-        let n = users[i + 1] as u64;
+        let at = (i + 1) * 1025;
+        let n = users[at] as u64;
         let one = use_size(t, n);
         sum = plus(sum, one);
         i = i + 1;
@@ -54,9 +54,9 @@ fn durations_size(times: u32, events: u32, durations: &[u8]) -> Size
 }
 
 // All of them.
-pub fn before_size(head: Head, users: &[u32], durations: &[u8]) -> Size
+pub fn before_size(head: Head, users: &[u16], durations: &[u8]) -> Size
     requires { ⌜ Begun (now users) (now durations) head ⌝ }
-    ensures { λ r. ⌜ ((t : List ℕ) → Users (now (users .entry)) (eventsOf (now (durations .entry)) t (head .events))
+    ensures { λ r. ⌜ Within 2147483648 r × ((t : List ℕ) → Users (now (users .entry)) (eventsOf (now (durations .entry)) t (head .events))
         → r ≡ blocksSize head (eventsOf (now (durations .entry)) t (head .events))) ⌝ }
 {
     let starts = starts_size(head.events as u64, head.times as u64);

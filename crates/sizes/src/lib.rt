@@ -1,9 +1,8 @@
-// Refusals 7 and 8 and the sizes of a file's formula, by arithmetic: a walk over the tables and the constraints, with no
-// clause written.
+// Refusals 7 and 8 and the sizes of a file's formula: a walk over the tables and the constraints, whose counted lists are filled
+// but not written.
 mod answer;
 mod before;
 mod limits;
-mod shape;
 mod size;
 mod sized;
 mod walk;

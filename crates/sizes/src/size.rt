@@ -1,88 +1,78 @@
-// The size of a constraint by its kind: the gates of its groups, and its counted lists.
-use crate::shape::Shape;
-use crate::shape::shape_of;
+// The size of a constraint: its counted lists are filled one after another, and each is sized by what the store then holds.
+use constraint::Bounds;
 use constraint::Constraint;
 use constraint::Head;
-use instance::group_size;
-use instance::list_length;
+use constraint::bounds_of;
+use list::Filled;
+use list::fill;
+use list::lists;
 use sizing::Size;
-use sizing::blocks::or_size;
-use sizing::kinds::gaps_size;
-use sizing::kinds::list_size;
-use sizing::sums::multiply;
+use sizing::counts::list_size;
+use sizing::nodes::nodes_size;
 use sizing::sums::nothing;
 use sizing::sums::plus;
 ghost use mathlib.Core.Path.{_≡_};
-ghost use mathlib.Core.List.{List};
 ghost use Prim.Native.Nat.{_≤_};
 ghost use lib.ListN.{length};
-ghost use Rattle.scope.specs.Kinds.{Event};
-ghost use Rattle.number.specs.Each.{Each};
-ghost use Rattle.number.specs.Lists.{leading};
-ghost use Rattle.tables.specs.Rows.{rows};
 ghost use Rattle.constraint.specs.Answers.{constraintOf};
-ghost use Rattle.instance.specs.Inner.{GroupIn};
-ghost use Rattle.sizing.specs.KindSizes.{kindSize, listSize};
-ghost use Rattle.sizing.specs.Sums.{multiple};
-ghost use Rattle.sizes.specs.Shapes.{gateOf};
-ghost use Rattle.sizes.specs.Groups.{rowsSize};
-ghost use Rattle.sizes.specs.Sizable.{Users, Sizable};
+ghost use Rattle.literals.specs.Filled.{usersAt};
+ghost use Rattle.list.specs.Stored.{countedIn, listIn};
+ghost use Rattle.sizes.specs.Listed.{filledSize, Measurable, ListSized};
+ghost use Rattle.sizes.specs.Sizable.{Sizable, CountedSized};
 
-// The gates of a group of n members: its idle times, or an OR.
-fn gate_size(n: u64, idle: bool) -> Size
-    requires { ⌜ n ≤ 125 ⌝ }
-    ensures { λ r. ⌜ r ≡ gateOf idle n ⌝ }
+// A filled list. Each node has a head word and a last word beside its inputs.
+fn filled_size(f: Filled, weight: u32, b: Bounds) -> Size
+    requires { ⌜ Measurable weight b f ⌝ }
+    ensures { λ r. ⌜ r ≡ filledSize weight b f ⌝ }
 {
-    if idle {
-        return gaps_size(n);
-    }
-    or_size(n)
+    let inputs = (f.at - 2 * f.nodes) as u64;
+    let nodes = nodes_size(f.nodes as u64, inputs);
+    let n = (f.end - f.at) as u64;
+    let counted = list_size(weight as u64, b.lo as u64, b.hi as u64, b.free, n);
+    plus(nodes, counted)
 }
 
-// The gates of some groups of a list.
-fn groups_size(groups: &[u8], list: &[u16], count: u32, idle: bool) -> Size
-    requires { ⌜ (count ≤ length (now list)) × ((count ≤ 2048) × Each (GroupIn (now groups)) (leading count (now list))) ⌝ }
-    ensures { λ r. ⌜ r ≡ rowsSize (gateOf idle) (now (groups .entry)) (leading count (now (list .entry))) ⌝ }
+// List number t of a constraint, from 1; its size does not depend on its first variable.
+fn one_size(
+    c: Constraint,
+    t: u32,
+    head: Head,
+    users: &[u16],
+    groups: &[u8],
+    list: &[u16],
+    store: &mut [u32],
+) -> Size
+    requires { ⌜ Sizable (now users) (now groups) (now list) head (constraintOf (now list) c) × ((1 ≤ t)
+        × ((t ≤ length (countedIn (usersAt (now users)) (now groups) head (constraintOf (now list) c .kind) .lists)) × (length (now store) ≡ 65536))) ⌝ }
+    ensures { λ r. ⌜ ListSized (c .weight) (countedIn (usersAt (now (users .entry))) (now (groups .entry)) head (constraintOf (now (list .entry)) c .kind))
+        (listIn (usersAt (now (users .entry))) (now (groups .entry)) head (constraintOf (now (list .entry)) c .kind) t) r ⌝ }
 {
-    let most = count as usize;
-    let mut sum = nothing();
-    let mut i: usize = 0;
-    while i < most {
-        let h = list[i] as u32;
-        let n = group_size(groups, h) as u64;
-        let one = gate_size(n, idle);
-        sum = plus(sum, one);
-        i = i + 1;
-    }
-    sum
+    let kind = c.kind;
+    let f = fill(kind, t, head, users, groups, list, 1, store);
+    let b = bounds_of(kind);
+    filled_size(f, c.weight, b)
 }
 
-// The counted lists, n entries each.
-fn lists_size(weight: u32, n: u32, s: Shape) -> Size
-    requires { ⌜ (weight ≤ 1000) × (n ≤ 255) × (s .lists ≤ 125) × (s .lo ≤ s .hi) × (s .lo ≤ n) ⌝ }
-    ensures { λ r. ⌜ r ≡ multiple (s .lists) (listSize weight (s .lo) (s .hi) (s .free) n) ⌝ }
-{
-    let one = list_size(weight as u64, s.lo, s.hi, s.free, n as u64);
-    multiply(s.lists, one)
-}
-
-// A constraint, where users[r] is how many events use resource r.
+// A constraint, where users is the table of the users of each resource; store is overwritten.
 pub fn constraint_size(
     c: Constraint,
     head: Head,
-    users: &[u32],
+    users: &[u16],
     groups: &[u8],
     list: &[u16],
+    store: &mut [u32],
 ) -> Size
-    requires { ⌜ Sizable (now users) (now groups) (now list) head (constraintOf (now list) c) ⌝ }
-    ensures { λ r. ⌜ ((es : List Event) → Users (now (users .entry)) es
-        → r ≡ kindSize (head .times) es (rows (now (groups .entry)) (head .groups)) (c .weight)
-        (constraintOf (now (list .entry)) c .kind)) ⌝ }
+    requires { ⌜ Sizable (now users) (now groups) (now list) head (constraintOf (now list) c) × (length (now store) ≡ 65536) ⌝ }
+    ensures { λ r. ⌜ CountedSized (c .weight) (countedIn (usersAt (now (users .entry))) (now (groups .entry)) head (constraintOf (now (list .entry)) c .kind)) r ⌝ }
 {
     let kind = c.kind;
-    let n = list_length(kind, head, users, groups, list);
-    let s = shape_of(kind, head.times);
-    let gates = groups_size(groups, list, s.groups, s.idle);
-    let lists = lists_size(c.weight, n, s);
-    plus(gates, lists)
+    let most = lists(kind, head.times);
+    let mut sum = nothing();
+    let mut t: u32 = 0;
+    while t < most {
+        t = t + 1;
+        let one = one_size(c, t, head, users, groups, list, store);
+        sum = plus(sum, one);
+    }
+    sum
 }

@@ -9,9 +9,8 @@ use sizing::sums::nothing;
 use sizing::sums::plus;
 ghost use mathlib.Core.Path.{_≡_};
 ghost use mathlib.Core.List.{List};
-ghost use Rattle.scope.specs.Kinds.{Event, Constraint};
-ghost use Rattle.sizes.specs.Meant.{Meant};
-ghost use Rattle.sizes.specs.Walked.{Walkable, Addable, added, TotalOf};
+ghost use Prim.Native.Nat.{ℕ};
+ghost use Rattle.sizes.specs.Walked.{Walkable, Tabled, Addable, added, TotalOf};
 
 // The formula without its tail, and the tail.
 pub struct Total {
@@ -35,16 +34,16 @@ fn add(total: Total, columns: u64, one: Size, weight: u64) -> Total
 pub fn constraints_total(
     file: &[u8],
     head: Head,
-    users: &[u32],
+    users: &[u16],
     groups: &[u8],
     list: &mut [u16],
+    store: &mut [u32],
     columns: u64,
     before: Size,
 ) -> Total
-    requires { ⌜ Walkable (now file) (now users) (now groups) (now list) head columns before ⌝ }
-    ensures { λ r. ⌜ ((es : List Event) (cs : List Constraint)
-        → Meant (now (file .entry)) (now (users .entry)) (now (groups .entry)) head es cs
-        → TotalOf (now (groups .entry)) head es cs columns before r) ⌝ }
+    requires { ⌜ Walkable (now file) (now users) (now groups) (now list) (now store) head columns before ⌝ }
+    ensures { λ r. ⌜ ((d te : List ℕ) → Tabled (now (file .entry)) d te (now (users .entry)) (now (groups .entry)) head
+        → TotalOf (now (file .entry)) d te (now (groups .entry)) head columns before r) ⌝ }
 {
     let most = head.constraints as usize;
     let tail = nothing();
@@ -59,7 +58,7 @@ pub fn constraints_total(
         let Next::Read(c, after) = x else {
             return total;
         };
-        let one = constraint_size(c, head, users, groups, list);
+        let one = constraint_size(c, head, users, groups, list, store);
         total = add(total, columns, one, c.weight as u64);
         next = after;
         i = i + 1;

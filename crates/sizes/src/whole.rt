@@ -3,12 +3,13 @@ use crate::before::before_size;
 use crate::walk::Total;
 use crate::walk::constraints_total;
 use constraint::Head;
-use tables::count_members;
+use literals::fill_users;
 ghost use Rattle.instance.specs.Answers.{instanceOf};
 ghost use Rattle.sizes.specs.Opened.{Opened};
 ghost use Rattle.sizes.specs.Whole.{WholeOf};
 
-// The file's events and groups stand in the tables; list is a store for a constraint's list.
+// The file's events and groups stand in the tables; list is a store for a constraint's list of numbers. The users of each
+// resource are found once for all, and one store holds each counted list in turn.
 pub fn whole_size(
     file: &[u8],
     head: Head,
@@ -21,8 +22,18 @@ pub fn whole_size(
     requires { ⌜ Opened (now file) (now durations) (now resources) (now groups) (now list) head bound ⌝ }
     ensures { λ r. ⌜ WholeOf (instanceOf (now (file .entry)) (now (durations .entry)) (now (resources .entry)) (now (groups .entry)) head) bound r ⌝ }
 {
-    let mut users = [0u32; 256];
-    count_members(resources, head.events, &mut users);
+    let mut users = [0u16; 102500];
+    let mut store = [0u32; 65536];
+    fill_users(resources, head.events, &mut users);
     let before = before_size(head, &users, durations);
-    constraints_total(file, head, &users, groups, list, bound + 1, before)
+    constraints_total(
+        file,
+        head,
+        &users,
+        groups,
+        list,
+        &mut store,
+        bound + 1,
+        before,
+    )
 }

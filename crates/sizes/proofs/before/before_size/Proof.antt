@@ -1,8 +1,9 @@
 -- `before::before_size` meets its contract.
 use borrow.Author.Needs.{needs}
+use mathlib.Core.Path.{refl}
 use native.Mathlib.Omega.{arith}
 use Rattle.sizing.specs.Sums.{within-more}
-use Rattle.sizes.specs.Before.{rest-within, blocks-fit, blocks-size}
+use Rattle.sizes.specs.Before.{rest-within, blocks-within, blocks-size}
 use Rattle.sizes.proofs.before.before_size.Statement.{statement}
 use Rattle.sizes.proofs.before.before_size.Tie as tie
 
@@ -24,19 +25,23 @@ durations-size-requires c κs = search needs
 plus-requires : tie.Need-plus-requires
 plus-requires c κs =
     let p = c .before .before .before .before .before .before .before .pre in
-    within-more (omega arith) (rest-within _ _ (p .resources) (p .events) (c .before .uses-size .ensures .0) (c .durations-size .ensures .0))
+    within-more (omega arith) (rest-within _ _ (p .resources) (p .events) (c .before .uses-size .ensures .0) (c .durations-size .ensures .0) refl)
 
 plus-requires-2 : tie.Need-plus-requires-2
 plus-requires-2 c κs =
     let p = c .before .before .before .before .before .before .before .before .pre in
-    blocks-fit _ _ (p .events) (p .times-high) (c .before .before .before .starts-size .ensures)
-    (rw (c .plus .ensures) (rest-within _ _ (p .resources) (p .events) (c .before .before .uses-size .ensures .0) (c .before .durations-size .ensures .0)))
+    let w = rest-within _ _ (p .resources) (p .events) (c .before .before .uses-size .ensures .0) (c .before .durations-size .ensures .0) (c .plus .ensures) in
+    within-more (omega arith) (blocks-within _ _ (p .events) (p .times-high) (c .before .before .before .starts-size .ensures) w refl)
 
 returns : tie.Need-returns
 returns c =
-    λ t u.
-    blocks-size (c .before .before .before .before .before .before .before .before .before .args .head) _ (c .before .before .before .before .starts-size .ensures) (c .before .before .before .uses-size .ensures .1 _ u) (c .before .before .durations-size .ensures .1 t)
-    (c .before .plus .ensures) (c .plus2 .ensures)
+    let p = c .before .before .before .before .before .before .before .before .before .pre in
+    let w = rest-within _ _ (p .resources) (p .events) (c .before .before .before .uses-size .ensures .0) (c .before .before .durations-size .ensures .0) (c .before .plus .ensures) in (
+      blocks-within _ _ (p .events) (p .times-high) (c .before .before .before .before .starts-size .ensures) w (c .plus2 .ensures),
+      λ t u.
+          blocks-size (c .before .before .before .before .before .before .before .before .before .args .head) _ (c .before .before .before .before .starts-size .ensures) (c .before .before .before .uses-size .ensures .1 _ u) (c .before .before .durations-size .ensures .1 t)
+          (c .before .plus .ensures) (c .plus2 .ensures),
+    )
 
 pub before-size-spec : {M : Type 1} → statement M
 before-size-spec =

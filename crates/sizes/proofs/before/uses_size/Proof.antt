@@ -8,8 +8,7 @@ use native.Mathlib.Omega.{arith}
 use Rattle.scope.specs.Kinds.{Event, from, upTo}
 use Rattle.sizing.specs.Sums.{sum as together, Within, within-more, within-none}
 use Rattle.sizing.specs.Blocks.{usesSize}
-use Rattle.sizes.specs.Sizable.{Users}
-use Rattle.sizes.specs.Before.{uses-sum-within, uses-start, uses-more, uses-end}
+use Rattle.sizes.specs.Before.{Users, uses-sum-within, uses-start, uses-more, uses-end}
 use Rattle.sizes.proofs.before.uses_size.Statement.{statement}
 use Rattle.sizes.proofs.before.uses_size.Tie as tie
 
@@ -29,8 +28,11 @@ nothing-requires c κs = search needs
 loop-holds : tie.Need-loop-holds Inv-loop μ-loop
 loop-holds c = let e = c .nothing .ensures in (omega arith, rw e (within-none 0), λ es u. rw e (uses-start _ _ es))
 
-add-n : tie.Need-add-n Inv-loop μ-loop
-add-n c = search needs
+add-at : tie.Need-add-at Inv-loop μ-loop
+add-at c = search needs
+
+mul-at : tie.Need-mul-at Inv-loop μ-loop
+mul-at c = search needs
 
 mul-n : tie.Need-mul-n Inv-loop μ-loop
 mul-n c = search needs
@@ -39,16 +41,16 @@ shared-slice-read-n : tie.Need-shared-slice-read-n Inv-loop μ-loop
 shared-slice-read-n c = search needs
 
 cast-n : tie.Need-cast-n Inv-loop μ-loop
-cast-n c = omega (arith, c .shared-slice-known2 .given (c .before .before .loop .i + 1))
+cast-n c = omega (arith, c .shared-slice-known2 .given ((c .before .before .loop .i + 1) * 1025))
 
 use-size-requires : tie.Need-use-size-requires Inv-loop μ-loop
-use-size-requires c κs = (c .before .before .before .before .before .pre .0, c .before .before .before .before .before .pre .3 _)
+use-size-requires c κs = (c .before .before .before .before .before .pre .0, c .before .before .before .before .before .pre .3 (c .before .before .loop .i + 1))
 
 plus-requires : tie.Need-plus-requires Inv-loop μ-loop
 plus-requires c κs =
     let p = c .before .before .before .before .before .before .pre in
     let l = c .before .before .before .loop in
-    within-more (omega arith) (uses-sum-within (l .i) _ _ (l .inv .1) (p .0) (p .3 _) (c .use-size .ensures))
+    within-more (omega arith) (uses-sum-within (l .i) _ _ (l .inv .1) (p .0) (p .3 (l .i + 1)) (c .use-size .ensures))
 
 add-i : tie.Need-add-i Inv-loop μ-loop
 add-i c = search needs
@@ -62,7 +64,7 @@ loop-again c =
     let l = c .before .before .before .before .loop in
     let one = c .before .use-size .ensures in (
       omega arith,
-      rw (c .plus .ensures) (uses-sum-within (l .i) _ _ (l .inv .1) (p .0) (p .3 _) one),
+      rw (c .plus .ensures) (uses-sum-within (l .i) _ _ (l .inv .1) (p .0) (p .3 (l .i + 1)) one),
       λ es u. uses-more _ _ _ _ es u (l .sum) (c .before .before .before .loop-test .taken) one (c .plus .ensures) (l .inv .2 es u),
     )
 
@@ -80,7 +82,8 @@ uses-size-spec =
     μ-loop
     nothing-requires
     loop-holds
-    add-n
+    add-at
+    mul-at
     mul-n
     shared-slice-read-n
     cast-n

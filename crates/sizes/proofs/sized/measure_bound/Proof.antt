@@ -4,7 +4,7 @@ use mathlib.Core.Path.{sym, _∙_}
 use borrow.Author.Tests.{leb-true}
 use Rattle.instance.specs.Laws.{accepted}
 use Rattle.sizes.specs.Whole.{total-fits}
-use Rattle.sizes.specs.Opened.{accepted-instance, stores-kept}
+use Rattle.sizes.specs.Opened.{stores-kept}
 use Rattle.sizes.specs.Measured.{bound-refused, bound-high, bound-judged}
 use Rattle.sizes.proofs.sized.measure_bound.Statement.{statement}
 use Rattle.sizes.proofs.sized.measure_bound.Tie as tie
@@ -30,17 +30,13 @@ whole-size-requires c κs =
     }
 
 judge-total-requires : tie.Need-judge-total-requires
-judge-total-requires c κs =
-    let r = c .before .before .before .before .before .before .before .before .before .before .before .before .before .before .before .before .before .before .before .before .read in
-    let a = accepted _ (r .last .1 .0) (r .last .1 .1 .0) (r .last .1 .1 .1 .0) _ (rw (c .before .before .before .before .before .before .before .before .before .before .f .given .1) at (r .ensures)) in
-    let low = leb-true _ _ (sym (c .before .before .before .before .before .before .before .before .within-bound .ensures) ∙ c .before .before .before .before .before .before .before .if1 .taken) in
-    total-fits _ (accepted-instance a) _ (c .before .before .whole-size .ensures) low
+judge-total-requires c κs = total-fits (c .before .before .whole-size .ensures)
 
 same-length : tie.Need-same-length
 same-length c = c .before .before .before .before .before .before .before .before .before .before .before .before .before .before .before .before .before .before .before .before .before .read .kept .1 .0
 
 same-length-2 : tie.Need-same-length-2
-same-length-2 c = search needs
+same-length-2 c = c .before .before .before .before .before .before .before .before .before .before .before .before .before .before .before .before .before .before .before .before .before .read .kept .1 .1 .0
 
 same-length-3 : tie.Need-same-length-3
 same-length-3 c = search needs

@@ -1,2 +1,0 @@
--- What the proofs of functions share.
-pub mod Results
