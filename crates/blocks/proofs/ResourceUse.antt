@@ -1,17 +1,18 @@
 -- X of a resource at a time as the writer of an OR gives it.
 use mathlib.Core.Path.{_≡_, ap, _∙_}
 use mathlib.Core.List.{List, [], _∷_, _++_, map, flatMap}
-use Prim.Native.Nat.{ℕ, _+_, _-_, _≤_, _<_}
+use Prim.Native.Nat.{ℕ, _+_, _*_, _≤_, _<_}
 use native.Mathlib.Omega.{arith}
-use lib.ListN.{take, length-map}
+use lib.ListN.{length, take, set, length-map}
 use Rattle.scope.specs.Kinds.{upTo}
 use Rattle.scope.specs.Cnf.{or, Item, gate, gates}
 use Rattle.number.specs.Each.{Each}
 use Rattle.sink.specs.Run.{Ran}
-use Rattle.sink.specs.Lines.{Line, lines, map-append}
+use Rattle.sink.specs.Lines.{Line, clauseLine, lines, map-append}
 use Rattle.sink.specs.World.{World}
 use Rattle.counters.specs.Literals.{LiteralsTo}
 use Rattle.counters.specs.Rows.{gates-map}
+use Rattle.gates.specs.LongClauses.{LongClause, nodeClauses, or-long, or-ran}
 use Rattle.literals.specs.Variables.{yAt, Within}
 use Rattle.literals.specs.Words.{Holds}
 use Rattle.literals.specs.Proper.{events-proper}
@@ -41,13 +42,21 @@ module _ (T : ℕ) (us : List ℕ) where
 
   -- the literals gathered for a time, and the OR over them
   module _ {words : List ℕ} {m : ℕ} (t : ℕ) (h : Holds words m (ysAt T us (t + 1))) where
-    pub use-literals : Each (Within 1024) us → T ≤ 125 → t < T → LiteralsTo m words
-    use-literals a l k = held-literals h (events-proper T (t + 1) l (record { low = omega arith; high = omega arith }) a)
+    -- as many as there are events
+    pub use-few : m ≡ length us
+    use-few = h .count ∙ length-map us (λ e. yAt T e (t + 1))
 
-    pub use-wrote : {f : Line → World → World} (v : ℕ) {w w′ : World}
-        → Ran f (lines (v + t) (gate (or (take m words)) ∷ [])) w w′
-        → Wrote f (v + t) (gate (or (ysAt T us (t + 1))) ∷ []) w w′ (v + (t + 1))
-    use-wrote v r = record { ran = rw (h .front) at r; next = omega arith }
+    module _ (v : ℕ) (a : Each (Within 1024) us) (l : T ≤ 125) (k : t < T) (few : m < length words) where
+      use-literals : LiteralsTo m words
+      use-literals = held-literals h (events-proper T (t + 1) l (record { low = omega arith; high = omega arith }) a)
+
+      pub use-long : LongClause (take (m + 1) (set words m (2 * (v + t) + 1 + 2147483648)))
+      use-long = or-long m words (v + t) few use-literals
+
+      pub use-wrote : {f : Line → World → World} {w w′ : World} → v + t < 1073741824
+          → Ran f (map clauseLine (nodeClauses (take (m + 1) (set words m (2 * (v + t) + 1 + 2147483648))))) w w′
+          → Wrote f (v + t) (gate (or (ysAt T us (t + 1))) ∷ []) w w′ (v + (t + 1))
+      use-wrote s r = record { ran = rw (h .front) at (or-ran m words (v + t) few use-literals s r); next = omega arith }
 
   -- a resource's variables are as many as the times
   uses-gates : gates (map gate (useGates T us)) ≡ T

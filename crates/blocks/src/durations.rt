@@ -1,5 +1,5 @@
 // Block 3: Y of each event counted, to its duration.
-use counts::Bounds;
+use constraint::Bounds;
 use items::Written;
 use sink::Job;
 use sink::Sink;

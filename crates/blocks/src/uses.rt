@@ -34,7 +34,9 @@ fn write_resource_uses(
     let mut z = s;
     for t in 0..times {
         let m = literals::y_of_events(users, n, times, t + 1, &mut buf);
-        z = gates::clauses::write_or(job, model, text, words, z, &mut buf, m, v + t);
+        buf[m] = 2 * (v + t) + 1 + 2147483648;
+        let end = m + 1;
+        z = gates::nodes::write_node(job, model, text, words, z, &buf[..end]);
     }
     z
 }

@@ -10,6 +10,7 @@ ghost use Rattle.sink.specs.World.{world, step, rowOver};
 ghost use Rattle.counters.specs.Literals.{Literal, Literals};
 ghost use Rattle.counts.specs.UnitLines.{turned, unitsFrom, shortLines};
 ghost use Rattle.counts.specs.CountLines.{ruleOf, lowItems};
+use constraint::Bounds;
 use sink::Job;
 use sink::Sink;
 
@@ -116,13 +117,6 @@ fn write_shorts(
         );
     }
     z
-}
-
-// The bounds of a counted list, and whether a count of 0 is free of charge.
-pub struct Bounds {
-    pub lo: u32,
-    pub hi: u32,
-    pub free: bool,
 }
 
 // The low part of the bounds, on the row at q, from the variable v on.

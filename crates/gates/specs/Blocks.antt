@@ -14,16 +14,6 @@ pub use Rattle.counters.specs.Cells.{gate-ran}
 pub opposite-twice : (l : ℕ) → opp (opp l) ≡ l
 opposite-twice l = omega arith
 
--- an idle time, the AND of not x, g and h, and its clauses
-pub idling-block : {x g h o nx ng nh : ℕ} → x < 2147483648 → g < 2147483648 → h < 2147483648 → o < 1073741824
-    → nx ≡ opp x → ng ≡ opp g → nh ≡ opp h
-    → Marks (nx ∷ (2 * o + 1 + 2147483648) ∷ g ∷ (2 * o + 1 + 2147483648) ∷ h ∷ (2 * o + 1 + 2147483648) ∷ x ∷ ng ∷ nh ∷ (2 * o + 2147483648) ∷ [])
-    (gateClauses (and (opp x ∷ g ∷ h ∷ [])) o)
-unfolding gateClauses pairs mark flatMap
-idling-block {x} {g} {h} {o} sx sg sh so ex eg eh =
-    rw (ex, eg, eh, opposite-twice x)
-    (marks ((opp x ∷ neg o ∷ []) ∷ (g ∷ neg o ∷ []) ∷ (h ∷ neg o ∷ []) ∷ (x ∷ opp g ∷ opp h ∷ pos o ∷ []) ∷ []) (omega arith))
-
 -- kind 6's variable, the AND of c1 and not cj, and its clauses
 pub short-block : {c1 cj o n1 nj : ℕ} → c1 < 2147483648 → cj < 2147483648 → o < 1073741824 → n1 ≡ opp c1 → nj ≡ opp cj
     → Marks (c1 ∷ (2 * o + 1 + 2147483648) ∷ nj ∷ (2 * o + 1 + 2147483648) ∷ n1 ∷ cj ∷ (2 * o + 2147483648) ∷ []) (gateClauses (and (c1 ∷ opp cj ∷ [])) o)
@@ -35,7 +25,7 @@ small-append : (ls : List ℕ) (l : ℕ) → Small ls → l < 2147483648 → Sma
 small-append [] l h g = (g, tt)
 small-append (k ∷ ks) l h g = (h .0, small-append ks l (h .1) g)
 
-pub mark-append : (ls : List ℕ) (l : ℕ) → mark (ls ++ l ∷ []) ≡ ls ++ (l + 2147483648) ∷ []
+mark-append : (ls : List ℕ) (l : ℕ) → mark (ls ++ l ∷ []) ≡ ls ++ (l + 2147483648) ∷ []
 unfolding mark
 mark-append [] l = refl
 mark-append (k ∷ []) l = refl

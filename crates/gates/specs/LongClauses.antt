@@ -7,14 +7,13 @@ use native.Mathlib.Numerals.{add-one}
 use native.Mathlib.Omega.{arith}
 use lib.ListN.{length, take, getD, set, length-append, List·getD-append}
 use lib.Seq.{take-at, getD-at, take-all, take-suc, take-suc-set}
-use Rattle.scope.specs.Cnf.{pos, neg, opp, pairs, Gate, or, and, cell, gate, gateClauses}
+use Rattle.scope.specs.Cnf.{pos, neg, opp, pairs, or, and, gate, gateClauses}
 use Rattle.sink.specs.Run.{Ran, then}
 use Rattle.sink.specs.Lines.{Line, clauseLine, lines, map-append}
 use Rattle.sink.specs.World.{World}
-use Rattle.sink.specs.Block.{mark, split, Small, Whole, Marks}
+use Rattle.sink.specs.Block.{split, Small, Whole, Marks}
 use Rattle.counters.specs.Literals.{LiteralsTo, Literals, literal-opposite, small-all, literals-take}
-use Rattle.gates.specs.Blocks.{mark-append, long-block, opposite-twice}
-use Rattle.gates.specs.Nodes.{longClause, Node}
+use Rattle.gates.specs.Blocks.{long-block, opposite-twice}
 
 -- the words before the last, and the literal of the last
 abbrev pub others : List ℕ → List ℕ
@@ -44,14 +43,14 @@ module _ (ls : List ℕ) (p : ℕ) where
   joined-last : getD (ls ++ (p + 2147483648) ∷ []) (length (ls ++ (p + 2147483648) ∷ []) - 1) 0 ≡ p + 2147483648
   joined-last = rw joined-length (getD-at ls (p + 2147483648) [] 0 (length ls) refl)
 
-  joined-clauses : Small ls → p < 2147483648 → nodeClauses (ls ++ (p + 2147483648) ∷ []) ≡ pairs (map opp ls) (opp p) ++ (ls ++ p ∷ []) ∷ []
+  long-clause : Small ls → p < 2147483648 → nodeClauses (ls ++ (p + 2147483648) ∷ []) ≡ pairs (map opp ls) (opp p) ++ (ls ++ p ∷ []) ∷ []
   unfolding nodeClauses
-  joined-clauses h g =
+  long-clause h g =
       let e : p + 2147483648 - 2147483648 ≡ p = omega arith in
       rw (joined-others, joined-last, e, long-block ls p h g .clauses)
 
-  joined-long : Literals ls → LongClause (ls ++ (p + 2147483648) ∷ [])
-  joined-long h =
+  pub long-literals : Literals ls → LongClause (ls ++ (p + 2147483648) ∷ [])
+  long-literals h =
       record {
         some = rw length-append (omega arith);
         literals = λ i g. let k : i < length ls = rw joined-length at g in rw (List·getD-append ls ((p + 2147483648) ∷ []) 0 i k) (h i k);
@@ -59,7 +58,7 @@ module _ (ls : List ℕ) (p : ℕ) where
       }
 
 -- the opposites of literals
-literals-opposites : (ls : List ℕ) → Literals ls → Literals (map opp ls)
+pub literals-opposites : (ls : List ℕ) → Literals ls → Literals (map opp ls)
 literals-opposites [] h i g = absurd (omega arith)
 literals-opposites (l ∷ ls) h zero g = literal-opposite l (h 0 (omega arith))
 literals-opposites (l ∷ ls) h (suc i) g = literals-opposites ls (λ j k. h (suc j) (omega arith)) i (omega arith)
@@ -68,45 +67,36 @@ opposites-twice : (ls : List ℕ) → map opp (map opp ls) ≡ ls
 opposites-twice [] = refl
 opposites-twice (l ∷ ls) = rw (opposite-twice l) (ap (_∷_ l) (opposites-twice ls))
 
--- a node's long clause is one, and its clauses are the node's
-pub node-long : (g : Gate) (o : ℕ) → Node g → LongClause (mark (longClause g o))
-unfolding longClause
-node-long (or ls) o h = rw (mark-append ls (neg o)) (joined-long ls (neg o) h)
-node-long (and ls) o h = rw (mark-append (map opp ls) (pos o)) (joined-long (map opp ls) (pos o) (literals-opposites ls h))
-node-long (cell x a b) o h = absurd h
+-- the clauses of an OR and of an AND whose output is the variable o
+module _ (ls : List ℕ) (o : ℕ) (h : Literals ls) (s : o < 1073741824) where
+  pub or-clauses : nodeClauses (ls ++ (neg o + 2147483648) ∷ []) ≡ gateClauses (or ls) o
+  unfolding gateClauses
+  or-clauses =
+      let e : opp (neg o) ≡ pos o = omega arith in
+      rw (long-clause ls (neg o) (small-all ls h) (omega arith), e)
 
-pub node-clauses : (g : Gate) (o : ℕ) → Node g → o < 1073741824 → nodeClauses (mark (longClause g o)) ≡ gateClauses g o
-unfolding longClause gateClauses
-node-clauses (or ls) o h s =
-    let e : opp (neg o) ≡ pos o = omega arith in
-    rw (mark-append ls (neg o), joined-clauses ls (neg o) (small-all ls h) (omega arith), e)
-node-clauses (and ls) o h s =
-    let e : opp (pos o) ≡ neg o = omega arith in
-    rw (mark-append (map opp ls) (pos o), joined-clauses (map opp ls) (pos o) (small-all (map opp ls) (literals-opposites ls h)) (omega arith), e, opposites-twice ls)
-node-clauses (cell x a b) o h s = absurd h
-
--- a run over the clauses of a long clause is one over the lines of its node
-pub node-ran : {f : Line → World → World} (g : Gate) (o : ℕ) {ws : List ℕ} {w w′ : World} → Node g → o < 1073741824 → ws ≡ mark (longClause g o)
-    → Ran f (map clauseLine (nodeClauses ws)) w w′ → Ran f (lines o (gate g ∷ [])) w w′
-unfolding lines
-node-ran g o h s e r = rw (append-nil (map clauseLine (gateClauses g o)), ← (node-clauses g o h s), ← e) r
+  pub and-clauses : nodeClauses (map opp ls ++ (pos o + 2147483648) ∷ []) ≡ gateClauses (and ls) o
+  unfolding gateClauses
+  and-clauses =
+      let e : opp (pos o) ≡ neg o = omega arith in
+      rw (long-clause (map opp ls) (pos o) (small-all (map opp ls) (literals-opposites ls h)) (omega arith), e, opposites-twice ls)
 
 -- an OR of the first n words of a list, stored with its output after them
 module _ (n : ℕ) (xs : List ℕ) (o : ℕ) (h : n < length xs) (f : LiteralsTo n xs) where
-  or-stored : take (n + 1) (set xs n (2 * o + 1 + 2147483648)) ≡ mark (longClause (or (take n xs)) o)
-  unfolding longClause
-  or-stored = rw (add-one n, take-suc-set xs n (2 * o + 1 + 2147483648) h) (sym (mark-append (take n xs) (neg o)))
+  or-stored : take (n + 1) (set xs n (2 * o + 1 + 2147483648)) ≡ take n xs ++ (neg o + 2147483648) ∷ []
+  or-stored = rw (add-one n) (take-suc-set xs n (2 * o + 1 + 2147483648) h)
 
   or-literals : Literals (take n xs)
   or-literals = literals-take n xs (omega arith) f
 
   pub or-long : LongClause (take (n + 1) (set xs n (2 * o + 1 + 2147483648)))
-  or-long = subst LongClause (sym or-stored) (node-long (or (take n xs)) o or-literals)
+  or-long = subst LongClause (sym or-stored) (long-literals (take n xs) (neg o) or-literals)
 
   pub or-ran : {s : Line → World → World} {w w′ : World} → o < 1073741824
       → Ran s (map clauseLine (nodeClauses (take (n + 1) (set xs n (2 * o + 1 + 2147483648))))) w w′
       → Ran s (lines o (gate (or (take n xs)) ∷ [])) w w′
-  or-ran g r = node-ran (or (take n xs)) o or-literals g or-stored r
+  unfolding lines
+  or-ran g r = rw (append-nil (map clauseLine (gateClauses (or (take n xs)) o)), ← (or-clauses (take n xs) o or-literals g), ← or-stored) r
 
 -- a long clause as a block
 module _ {ws : List ℕ} (h : LongClause ws) where

@@ -1,57 +1,15 @@
-// Starts, ORs, idle times, kind 6's variable.
-ghost use mathlib.Core.Path.{_≡_};
+// Starts, and kind 6's variable.
 ghost use mathlib.Core.List.{[], _∷_, map};
-ghost use Prim.Native.Nat.{_+_, _*_, _≤_, _<_};
-ghost use lib.ListN.{length, take, set};
-ghost use Rattle.scope.specs.Cnf.{opp, or, and, gate};
+ghost use Prim.Native.Nat.{_≤_, _<_};
+ghost use Rattle.scope.specs.Cnf.{opp, and, gate};
 ghost use Rattle.sink.specs.Run.{Ran};
 ghost use Rattle.sink.specs.Lines.{clauseLine, lines};
 ghost use Rattle.sink.specs.World.{world, step};
-ghost use Rattle.counters.specs.Literals.{Literal, LiteralsTo};
+ghost use Rattle.counters.specs.Literals.{Literal};
 ghost use Rattle.gates.specs.Units.{startClauses};
 use super::LAST;
-use super::nodes::write_node;
 use sink::Job;
 use sink::Sink;
-
-// An idle time: o is the AND of not x, g and h.
-pub fn write_idling(
-    job: Job,
-    model: &[u8],
-    text: &mut [u8],
-    words: &mut [u32],
-    s: Sink,
-    x: u32,
-    g: u32,
-    h: u32,
-    o: u32,
-) -> Sink
-    requires { ⌜ Literal x × Literal g × Literal h × (o < 1073741824) ⌝ }
-    ensures { λ r. ⌜ Ran (step job (now (model .entry))) (lines o (gate (and (opp x ∷ g ∷ h ∷ [])) ∷ []))
-        (world s (now (text .entry)) (now (words .entry))) (world r (now (text .exit)) (now (words .exit))) ⌝ }
-{
-    let yes = 2 * o + LAST;
-    let no = 2 * o + 1 + LAST;
-    sink::emit(
-        job,
-        model,
-        text,
-        words,
-        s,
-        &[
-            counters::opposite(x),
-            no,
-            g,
-            no,
-            h,
-            no,
-            x,
-            counters::opposite(g),
-            counters::opposite(h),
-            yes,
-        ],
-    )
-}
 
 // Kind 6's variable: o is the AND of c1 and not cj.
 pub fn write_short(
@@ -86,27 +44,6 @@ pub fn write_short(
             yes,
         ],
     )
-}
-
-// o is the OR of the first n literals of buf, which has room for one word more.
-pub fn write_or(
-    job: Job,
-    model: &[u8],
-    text: &mut [u8],
-    words: &mut [u32],
-    s: Sink,
-    buf: &mut [u32],
-    n: usize,
-    o: u32,
-) -> Sink
-    requires { ⌜ (n < length (now buf)) × LiteralsTo n (now buf) × (o < 1073741824) ⌝ }
-    ensures { λ r. ⌜ Ran (step job (now (model .entry))) (lines o (gate (or (take n (now (buf .entry)))) ∷ []))
-        (world s (now (text .entry)) (now (words .entry))) (world r (now (text .exit)) (now (words .exit))) ⌝ }
-    ensures { λ r. ⌜ now (buf .exit) ≡ set (now (buf .entry)) n (2 * o + 1 + 2147483648) ⌝ }
-{
-    buf[n] = 2 * o + 1 + LAST;
-    let m = n + 1;
-    write_node(job, model, text, words, s, &buf[..m])
 }
 
 // The two clauses of an event's start, where y and v are its variables Y and S at a time that is the first or not.

@@ -7,7 +7,7 @@ ghost use Rattle.sink.specs.World.{world, step};
 ghost use Rattle.counters.specs.Literals.{Literals};
 ghost use Rattle.items.specs.Written.{Room, Wrote};
 ghost use Rattle.items.specs.Counted.{counted, shorts as shortsOf};
-use counts::Bounds;
+use constraint::Bounds;
 use sink::Job;
 use sink::Sink;
 

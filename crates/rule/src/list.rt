@@ -1,5 +1,5 @@
 // The nodes of a list, and its members counted.
-use counts::Bounds;
+use constraint::Bounds;
 use items::Written;
 use sink::Job;
 use sink::Sink;
@@ -11,7 +11,8 @@ ghost use Rattle.scope.specs.Cnf.{Gate, gate};
 ghost use Rattle.sink.specs.World.{world, step};
 ghost use Rattle.items.specs.Written.{Wrote};
 ghost use Rattle.items.specs.Counted.{counted};
-ghost use Rattle.rule.specs.Stored.{Stored, ListStored, members};
+ghost use Rattle.rule.specs.Stored.{ListStored, members};
+ghost use Rattle.rule.specs.Filled.{Stored};
 
 // The members stand in the store from a place on, up to an end; the first node's output is the variable v.
 pub fn write_list(

@@ -1,4 +1,1 @@
-pub mod GatesOf
-pub mod CountedList
-pub mod ClashTimes
-pub mod Others
+pub mod ListTurn

@@ -1,4 +1,1 @@
 pub mod Fits
-pub mod BoundsFor
-pub mod Clash
-pub mod OneList

@@ -1,8 +1,5 @@
 // The clauses of a constraint.
-mod added;
-mod clash;
-mod list;
+mod lists;
 mod part;
-mod rules;
 
 pub use part::write_constraint;

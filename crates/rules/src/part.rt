@@ -1,5 +1,5 @@
 // A constraint as a part of the formula.
-use crate::rules::write_rules;
+use crate::lists::write_lists;
 use constraint::Constraint;
 use constraint::Head;
 use items::Written;
@@ -39,7 +39,8 @@ pub fn write_constraint(
     let t = sink::lesser(base, text.len());
     let w = sink::lesser(base, words.len());
     let z = sink::placed(s, s.at - base);
-    let r = write_rules(
+    let mut store = [0u32; 65536];
+    let r = write_lists(
         job,
         model,
         &mut text[t..],
@@ -51,6 +52,7 @@ pub fn write_constraint(
         groups,
         list,
         v,
+        &mut store,
     );
     let y = r.sink;
     let next = r.next;

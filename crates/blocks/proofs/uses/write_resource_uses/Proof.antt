@@ -1,13 +1,11 @@
--- `blocks::uses::write_resource_uses` meets its contract. The loop's invariant: the ORs of the times that are left.
-use mathlib.Core.Path.{_≡_, refl}
+use mathlib.Core.Path.{_≡_, refl, sym}
 use Prim.Native.Nat.{_+_, _-_, _≤_}
 use native.Mathlib.Omega.{arith}
-use lib.ListN.{length, take, length-map}
+use lib.ListN.{length, take, length-set}
 use lib.Seq.{length-take-le}
-use Rattle.literals.specs.Variables.{yAt}
 use Rattle.sink.specs.World.{world, step}
 use Rattle.items.specs.Written.{Left, left-start, left-turn, left-end}
-use Rattle.blocks.proofs.ResourceUse.{usesLeft, uses-start, uses-turn, uses-end, use-literals, use-wrote}
+use Rattle.blocks.proofs.ResourceUse.{usesLeft, uses-start, uses-turn, uses-end, use-few, use-long, use-wrote}
 use borrow.Author.Needs.{needs}
 use Rattle.blocks.proofs.uses.write_resource_uses.Statement.{statement}
 use Rattle.blocks.proofs.uses.write_resource_uses.Tie as tie
@@ -31,22 +29,60 @@ slice-aggregate-y-of-events : tie.Need-slice-aggregate-y-of-events Inv-loop μ-l
 slice-aggregate-y-of-events c = search needs
 
 y-of-events-requires : tie.Need-y-of-events-requires Inv-loop μ-loop
-y-of-events-requires c κs = let p = c .before .before .before .before .before .before .before .pre in (p .0, (p .1 .0, (omega arith, (p .1 .1 .1 .0, omega arith))))
+y-of-events-requires c κs =
+    let p = c .before .before .before .before .before .before .before .pre in (p .0, (p .1 .0, (omega arith, (p .1 .1 .1 .0, omega arith))))
 
-slice-aggregate-write-or : tie.Need-slice-aggregate-write-or Inv-loop μ-loop
-slice-aggregate-write-or c = search needs
+add-buf : tie.Need-add-buf Inv-loop μ-loop
+add-buf c = search needs
 
-add-write-or : tie.Need-add-write-or Inv-loop μ-loop
-add-write-or c = search needs
+mul-buf : tie.Need-mul-buf Inv-loop μ-loop
+mul-buf c = search needs
 
-write-or-requires : tie.Need-write-or-requires Inv-loop μ-loop
-write-or-requires c κs =
+add-buf-2 : tie.Need-add-buf-2 Inv-loop μ-loop
+add-buf-2 c = search needs
+
+add-buf-3 : tie.Need-add-buf-3 Inv-loop μ-loop
+add-buf-3 c = search needs
+
+mul-buf-2 : tie.Need-mul-buf-2 Inv-loop μ-loop
+mul-buf-2 c =
+    let a = c .before .before .before .before .before .before .before .before .before in
+    let us = take (a .args .n) (a .args .users .now) in
+    let m = use-few (a .args .times) us (c .before .before .before .before .loop .t) (c .before .y-of-events .ensures) in
+    let n = length-take-le (a .args .n) (a .args .users .now) (a .pre .1 .0) in
+    search needs
+
+array-write-buf : tie.Need-array-write-buf Inv-loop μ-loop
+array-write-buf c =
+    let a = c .before .before .before .before .before .before .before .before .before in
+    let us = take (a .args .n) (a .args .users .now) in
+    omega (arith, use-few (a .args .times) us (c .before .before .before .before .loop .t) (c .before .y-of-events .ensures), length-take-le (a .args .n) (a .args .users .now) (a .pre .1 .0), c .buf2 .given)
+
+add-end : tie.Need-add-end Inv-loop μ-loop
+add-end c =
+    let a = c .before .before .before .before .before .before .before .before .before in
+    let us = take (a .args .n) (a .args .users .now) in
+    omega (arith, use-few (a .args .times) us (c .before .before .before .before .loop .t) (c .before .y-of-events .ensures), length-take-le (a .args .n) (a .args .users .now) (a .pre .1 .0))
+
+array-share-prefix-buf : tie.Need-array-share-prefix-buf Inv-loop μ-loop
+array-share-prefix-buf c =
+    let a = c .before .before .before .before .before .before .before .before .before .before .before in
+    let us = take (a .args .n) (a .args .users .now) in
+    simp length-set (omega (arith, use-few (a .args .times) us (c .before .before .before .before .before .before .loop .t) (c .before .before .before .y-of-events .ensures), length-take-le (a .args .n) (a .args .users .now) (a .pre .1 .0), c .before .before .buf2 .given))
+
+slice-aggregate-write-node : tie.Need-slice-aggregate-write-node Inv-loop μ-loop
+slice-aggregate-write-node c =
     let a = c .before .before .before .before .before .before .before .before .before .before .before .before in
-    let h = c .before .before .before .before .y-of-events .ensures in (
-      omega (arith, h .count, length-map (take (a .args .n) (a .args .users .now)) (λ e. yAt (a .args .times) e (c .before .before .before .before .before .before .before .loop .t + 1)), length-take-le (a .args .n) (a .args .users .now) (a .pre .1 .0), c .before .before .before .buf2 .given),
-      use-literals (a .args .times) (take (a .args .n) (a .args .users .now)) (c .before .before .before .before .before .before .before .loop .t) h (a .pre .0) (a .pre .1 .1 .1 .0) (c .before .before .before .before .before .before .loop-test .taken),
-      omega arith,
-    )
+    let us = take (a .args .n) (a .args .users .now) in
+    sym (length-take-le _ _ (simp length-set (omega (arith, use-few (a .args .times) us (c .before .before .before .before .before .before .before .loop .t) (c .before .before .before .before .y-of-events .ensures), length-take-le (a .args .n) (a .args .users .now) (a .pre .1 .0), c .before .before .before .buf2 .given))))
+
+write-node-requires : tie.Need-write-node-requires Inv-loop μ-loop
+write-node-requires c κs =
+    let a = c .before .before .before .before .before .before .before .before .before .before .before .before in
+    let us = take (a .args .n) (a .args .users .now) in
+    let l = c .before .before .before .before .before .before .before .loop in
+    let h = c .before .before .before .before .y-of-events .ensures in
+    use-long (a .args .times) us (l .t) h (a .args .v) (a .pre .0) (a .pre .1 .1 .1 .0) (c .before .before .before .before .before .before .loop-test .taken) (omega (arith, use-few (a .args .times) us (l .t) h, length-take-le (a .args .n) (a .args .users .now) (a .pre .1 .0), c .before .before .before .buf2 .given))
 
 add-t : tie.Need-add-t Inv-loop μ-loop
 add-t c = search needs
@@ -56,15 +92,17 @@ loop-less c = search needs
 
 loop-again : tie.Need-loop-again Inv-loop μ-loop
 loop-again c =
-    let a = c .before .before .before .before .before .before .before .before .before .before .before .before .before .before .before .before .before .before .args in
-    let l = c .before .before .before .before .before .before .before .before .before .before .before .before .before .loop in
-    let us = take (a .n) (a .users .now) in (
+    let a = c .before .before .before .before .before .before .before .before .before .before .before .before .before .before .before .before .before in
+    let us = take (a .args .n) (a .args .users .now) in
+    let l = c .before .before .before .before .before .before .before .before .before .before .before .before .loop in
+    let h = c .before .before .before .before .before .before .before .before .before .y-of-events .ensures in
+    let k = c .before .before .before .before .before .before .before .before .before .before .before .loop-test .taken in (
       omega arith,
       search needs,
       search needs,
-      search needs,
-      left-turn (uses-turn (a .times) us (l .t) (c .before .before .before .before .before .before .before .before .before .before .before .before .loop-test .taken)) (l .inv .4)
-          (use-wrote (a .times) us (l .t) (c .before .before .before .before .before .before .before .before .before .before .y-of-events .ensures) (a .v) (c .before .before .before .before .before .write-or .ensures .0)),
+      simp length-set (search needs),
+      left-turn (uses-turn (a .args .times) us (l .t) k) (l .inv .4)
+          (use-wrote (a .args .times) us (l .t) h (a .args .v) (a .pre .0) (a .pre .1 .1 .1 .0) k (omega (arith, use-few (a .args .times) us (l .t) h, length-take-le (a .args .n) (a .args .users .now) (a .pre .1 .0), c .before .before .before .before .before .before .before .before .buf2 .given)) (omega arith) (c .before .before .before .before .write-node .ensures)),
     )
 
 same-length : tie.Need-same-length Inv-loop μ-loop
@@ -90,9 +128,16 @@ write-resource-uses-spec =
     add-y-of-events
     slice-aggregate-y-of-events
     y-of-events-requires
-    slice-aggregate-write-or
-    add-write-or
-    write-or-requires
+    add-buf
+    mul-buf
+    add-buf-2
+    add-buf-3
+    mul-buf-2
+    array-write-buf
+    add-end
+    array-share-prefix-buf
+    slice-aggregate-write-node
+    write-node-requires
     add-t
     loop-less
     loop-again

@@ -1,4 +1,4 @@
-use Rattle.rule.specs.Stored.{list-wrote}
+use Rattle.rule.specs.Filled.{list-wrote}
 use borrow.Author.Needs.{needs}
 use borrow.Author.Needs.{needs}
 use Rattle.rule.proofs.list.write_list.Statement.{statement}

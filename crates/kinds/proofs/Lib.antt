@@ -1,2 +1,0 @@
-pub mod IdleTimes
-pub mod GroupGaps
