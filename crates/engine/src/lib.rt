@@ -15,12 +15,11 @@ use calls::leave_sameness;
 use calls::leave_sizes;
 use calls::leave_steps;
 use calls::leave_written;
-use calls::refuse;
 pub use check_hard::timetable_check_hard;
 use checker::check;
 use claims::claim::Claim;
+use decode_call::leave_evaluation;
 use instance::read_instance;
-use model::Evaluation;
 use model::evaluate;
 use sheet::same_sheet;
 use sheet::score;
@@ -134,14 +133,7 @@ pub extern "C" fn timetable_decode(
         ≡ decodeCall (now (file .entry)) (now (model .entry)) (now (objective .entry)) ⌝ }
 {
     let answer = evaluate(file, model);
-    match answer {
-        Evaluation::Refused(f) => refuse(f, value),
-        Evaluation::Holds(bytes, cost) => {
-            *objective = cost.0;
-            *value = bytes as u64;
-            0
-        }
-    }
+    leave_evaluation(answer, objective, value)
 }
 
 // "No timetable", with the number of steps in *value; or 1 to 9, 14 to 18. The stores are zero afterwards.

@@ -9,8 +9,8 @@ use Rattle.number.specs.declared.Number.{Number}
 use Rattle.number.specs.Answers.{refusalOf}
 use Rattle.number.specs.Ladder.{step, ladder as numberLadder}
 use Rattle.tables.specs.Rows.{rows, eventsOf}
-use Rattle.lists.specs.Answers.{saidRows, saidEvents}
-use Rattle.lists.specs.Ladder.{rows-value, rows-refused, events-value, events-refused}
+use Rattle.table_lists.specs.Answers.{saidRows, saidEvents}
+use Rattle.table_lists.specs.Ladder.{rows-value, rows-refused, events-value, events-refused}
 use Rattle.instance.specs.declared.reader.Sizes.{Sizes}
 use Rattle.instance.specs.declared.reader.SizesRead.{SizesRead}
 use Rattle.instance.specs.Answers.{saidSizes, saidTables, startOf, refusalOfSizes}

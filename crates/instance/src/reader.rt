@@ -1,12 +1,12 @@
 // Reading the whole file: sizes, events and groups into tables, then the constraints.
 use crate::walk::constraints_whole;
 use constraint::Head;
-use lists::events_at;
-use lists::groups_at;
 use number::Number;
 use number::limited;
 use number::refusal_of;
 use scope::Refusal;
+use table_lists::events_at;
+use table_lists::groups_at;
 ghost use mathlib.Core.Path.{_≡_};
 ghost use Rattle.scope.specs.Instance.{sizesAt, parse};
 ghost use Rattle.instance.specs.Answers.{saidSizes, saidTables, saidFile, refusalOfSizes};

@@ -3,10 +3,10 @@ use mathlib.Core.Path.{_≡_, refl, ap, sym, _∙_}
 use mathlib.Core.Bool.{Bool, true, false, cond}
 use mathlib.Core.List.{List, [], _∷_, _++_, map, flatMap, append-nil}
 use Prim.Native.Nat.{ℕ, zero, suc, _+_, _-_, _*_, _≤_, _<_}
-use native.Mathlib.Nat.{zero-add}
+use native.Mathlib.Nat.{zero-add, add-zero}
 use native.Mathlib.Numerals.{add-one}
 use native.Mathlib.Omega.{arith}
-use lib.ListN.{length, take, drop, set}
+use lib.ListN.{length, take, drop, set, length-append}
 use lib.Seq.{sets, sets-eq, take-at}
 use borrow.Author.Tests.{ne-eqb}
 use Rattle.scope.specs.Cnf.{pos, neg, opp, hasTrue, withoutFalse, tidy, Gate, cell, gate, gateClauses}
@@ -147,20 +147,31 @@ pub record StoredAt (a n : ℕ) (l l′ : List ℕ) (cs : List (List ℕ)) : Typ
   pub stored : l′ ≡ sets l a block
   pub end : n ≡ a + length block
 
--- stores one after another, as the code numbers them
-abbrev setsFrom : List ℕ → List ℕ → ℕ → ℕ → List ℕ
-setsFrom [] l a k = l
-setsFrom (x ∷ xs) l a k = setsFrom xs (set l (a + k) x) a (k + 1)
+-- words stored from the place a up to n
+pub record WordsAt (a n : ℕ) (l l′ block : List ℕ) : Type 0 where
+  pub stored : l′ ≡ sets l a block
+  pub end : n ≡ a + length block
 
-sets-from : (xs l : List ℕ) (a k : ℕ) → setsFrom xs l a k ≡ sets l (a + k) xs
-sets-from [] l a k = refl
-sets-from (x ∷ xs) l a k =
-    let e : a + (k + 1) ≡ suc (a + k) = omega arith in sets-from xs (set l (a + k) x) a (k + 1) ∙ rw e
+sets-append : (xs ys l : List ℕ) (a : ℕ) → sets (sets l a xs) (a + length xs) ys ≡ sets l a (xs ++ ys)
+sets-append [] ys l a = rw add-zero
+sets-append (x ∷ xs) ys l a =
+    let e : a + suc (length xs) ≡ suc a + length xs = omega arith in rw e (sets-append xs ys (set l a x) (suc a))
 
-pub stored : {x : ℕ} {xs : List ℕ} {cs : List (List ℕ)} (l : List ℕ) (a : ℕ) → Marks (x ∷ xs) cs → length (x ∷ xs) ≤ 11
-    → StoredAt a (a + length (x ∷ xs)) l (setsFrom xs (set l a x) a 1) cs
-stored {x} {xs} l a m h =
-    record { block = x ∷ xs; marked = m; few = h; stored = sets-from xs (set l a x) a 1 ∙ rw add-one; end = refl }
+-- two or three words, as the code numbers their places
+pub two-words : (l : List ℕ) (at a b : ℕ) → WordsAt at (at + 2) l (set (set l at a) (at + 1) b) (a ∷ b ∷ [])
+two-words l at a b = record { stored = rw add-one; end = refl }
+
+pub three-words : (l : List ℕ) (at a b c : ℕ) → WordsAt at (at + 3) l (set (set (set l at a) (at + 1) b) (at + 2) c) (a ∷ b ∷ c ∷ [])
+three-words l at a b c =
+    let e : at + 2 ≡ suc (suc at) = omega arith in record { stored = rw (add-one, e); end = refl }
+
+pub words-then : {a p n : ℕ} {l m k xs ys : List ℕ} → WordsAt a p l m xs → WordsAt p n m k ys → WordsAt a n l k (xs ++ ys)
+words-then {a} {l = l} {xs = xs} {ys = ys} s t =
+    record { stored = t .stored ∙ rw (s .end, s .stored) (sets-append xs ys l a); end = omega (arith, s .end, t .end, length-append xs ys) }
+
+pub stored : {a n : ℕ} {l l′ block : List ℕ} {cs : List (List ℕ)} → WordsAt a n l l′ block → Marks block cs → length block ≤ 11
+    → StoredAt a n l l′ cs
+stored {block = block} w m h = record { block = block; marked = m; few = h; stored = w .stored; end = w .end }
 
 -- a block at the start of a list
 pub stored-first : {n : ℕ} {l l′ : List ℕ} {cs : List (List ℕ)} → StoredAt 0 n l l′ cs → 11 ≤ length l → Marks (take n l′) cs

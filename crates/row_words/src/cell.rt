@@ -1,11 +1,33 @@
 // The words of one cell.
 use super::LAST;
 use super::opposite;
+ghost use mathlib.Core.List.{[], _∷_};
 ghost use Prim.Native.Nat.{_+_, _≤_, _<_};
 ghost use lib.ListN.{length};
 ghost use Rattle.scope.specs.Cnf.{gateClauses};
 ghost use Rattle.row_words.specs.Literals.{Literal};
-ghost use Rattle.row_words.specs.Cells.{cellAt, StoredAt};
+ghost use Rattle.row_words.specs.Cells.{cellAt, WordsAt, StoredAt};
+
+// Two words from a place on.
+fn pair(words: &mut [u32], at: usize, a: u32, b: u32) -> usize
+    requires { ⌜ at + 2 ≤ length (now words) ⌝ }
+    ensures { λ r. ⌜ WordsAt at r (now (words .entry)) (now (words .exit)) (a ∷ b ∷ []) ⌝ }
+{
+    words[at] = a;
+    words[at + 1] = b;
+    at + 2
+}
+
+// Three.
+fn triple(words: &mut [u32], at: usize, a: u32, b: u32, c: u32) -> usize
+    requires { ⌜ at + 3 ≤ length (now words) ⌝ }
+    ensures { λ r. ⌜ WordsAt at r (now (words .entry)) (now (words .exit)) (a ∷ b ∷ c ∷ []) ⌝ }
+{
+    words[at] = a;
+    words[at + 1] = b;
+    words[at + 2] = c;
+    at + 3
+}
 
 // The words of the cell in column j of the row at first, over the row at prev, stored from a place on.
 pub fn cell_words(
@@ -25,36 +47,19 @@ pub fn cell_words(
     let no = c + 1 + LAST;
     if prev == 0 {
         if j < w {
-            words[at] = opposite(x);
-            words[at + 1] = yes;
-            words[at + 2] = x;
-            words[at + 3] = no;
-            return at + 4;
+            let p = pair(words, at, opposite(x), yes);
+            return pair(words, p, x, no);
         }
-        words[at] = x;
-        words[at + 1] = no;
-        words[at + 2] = no;
-        return at + 3;
+        return triple(words, at, x, no, no);
     }
     let a = 2 * (prev + j);
-    words[at] = a + 1;
-    words[at + 1] = yes;
-    words[at + 2] = opposite(x);
+    let p = pair(words, at, a + 1, yes);
     if j < w {
-        words[at + 3] = yes;
-        words[at + 4] = x;
-        words[at + 5] = a;
-        words[at + 6] = no;
-        return at + 7;
+        let q = pair(words, p, opposite(x), yes);
+        return triple(words, q, x, a, no);
     }
     let b = 2 * (prev + (j - w));
-    words[at + 3] = b + 1;
-    words[at + 4] = yes;
-    words[at + 5] = x;
-    words[at + 6] = a;
-    words[at + 7] = no;
-    words[at + 8] = b;
-    words[at + 9] = a;
-    words[at + 10] = no;
-    at + 11
+    let q = triple(words, p, opposite(x), b + 1, yes);
+    let r = triple(words, q, x, a, no);
+    triple(words, r, b, a, no)
 }

@@ -1,4 +1,4 @@
--- `lists::row_at` meets its contract. The loop's invariant: the row's first byte is the count, and the list is what
+-- `table_lists::row_at` meets its contract. The loop's invariant: the row's first byte is the count, and the list is what
 -- the members stored so far and the references still to be read come to.
 use borrow.Author.Needs.{needs}
 use Prim.Native.Nat.{_-_, _≤_, _<_}
@@ -10,9 +10,9 @@ use Rattle.scope.specs.Number.{listed}
 use Rattle.number.specs.Answers.{said}
 use Rattle.number.specs.Ladder.{limited-value, reference-value}
 use Rattle.number.specs.Lists.{leftAfter, list-start, list-refused, list-more, list-end}
-use Rattle.lists.proofs.Writing.{rowOf-count}
-use Rattle.lists.proofs.row_at.Statement.{statement}
-use Rattle.lists.proofs.row_at.Tie as tie
+use Rattle.table_lists.proofs.Writing.{rowOf-count}
+use Rattle.table_lists.proofs.row_at.Statement.{statement}
+use Rattle.table_lists.proofs.row_at.Tie as tie
 
 abbrev Inv-loop : tie.InvT-loop
 Inv-loop s at n row₀ count start most next₀ before₀ i₀ row next before i =

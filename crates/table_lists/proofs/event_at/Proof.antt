@@ -1,9 +1,9 @@
--- `lists::event_at` meets its contract: a duration, then a row, a step of the ladder each.
+-- `table_lists::event_at` meets its contract: a duration, then a row, a step of the ladder each.
 use borrow.Author.Needs.{needs}
 use Rattle.scope.specs.Instance.{eventAt}
-use Rattle.lists.specs.Ladder.{ladder}
-use Rattle.lists.proofs.event_at.Statement.{statement}
-use Rattle.lists.proofs.event_at.Tie as tie
+use Rattle.table_lists.specs.Ladder.{ladder}
+use Rattle.table_lists.proofs.event_at.Statement.{statement}
+use Rattle.table_lists.proofs.event_at.Tie as tie
 
 limited-requires : tie.Need-limited-requires
 limited-requires c κs = search needs

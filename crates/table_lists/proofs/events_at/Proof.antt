@@ -1,4 +1,4 @@
--- `lists::events_at` meets its contract. The loop's invariant: the events are those of the tables so far, and those
+-- `table_lists::events_at` meets its contract. The loop's invariant: the events are those of the tables so far, and those
 -- still to be read.
 use borrow.Author.Needs.{needs}
 use Prim.Native.Nat.{_+_, _*_, _-_, _≤_, _<_}
@@ -8,12 +8,12 @@ use lib.ListN.{length, length-set, length-take, length-drop}
 use Rattle.scope.specs.Parsed.{repeat}
 use Rattle.scope.specs.Instance.{eventAt}
 use Rattle.number.specs.Parsing.{before, before-nil, repeat-more, repeat-refused, repeat-end}
-use Rattle.lists.specs.Ladder.{event-value, event-refused}
+use Rattle.table_lists.specs.Ladder.{event-value, event-refused}
 use Rattle.tables.specs.Rows.{eventsOf}
 use Rattle.tables.specs.Reading.{event-got}
-use Rattle.lists.proofs.Writing.{events-more}
-use Rattle.lists.proofs.events_at.Statement.{statement}
-use Rattle.lists.proofs.events_at.Tie as tie
+use Rattle.table_lists.proofs.Writing.{events-more}
+use Rattle.table_lists.proofs.events_at.Statement.{statement}
+use Rattle.table_lists.proofs.events_at.Tie as tie
 
 abbrev Inv-loop : tie.InvT-loop
 Inv-loop s at count times resources durations₀ table₀ most next₀ e₀ durations table next e =

@@ -8,7 +8,7 @@ ghost use lib.ListN.{length};
 ghost use Rattle.scope.specs.Parsed.{repeat};
 ghost use Rattle.scope.specs.Number.{listed};
 ghost use Rattle.scope.specs.Instance.{eventAt, groupsAt};
-ghost use Rattle.lists.specs.Answers.{saidRow, saidRows, saidEvent, saidEvents};
+ghost use Rattle.table_lists.specs.Answers.{saidRow, saidRows, saidEvent, saidEvents};
 
 // A list of references to n things, into a row.
 fn row_at(s: &[u8], at: usize, n: u32, row: &mut [u8]) -> Number

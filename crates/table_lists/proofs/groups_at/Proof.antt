@@ -1,4 +1,4 @@
--- `lists::groups_at` meets its contract. The loop's invariant: the groups are the rows of the table so far, and those
+-- `table_lists::groups_at` meets its contract. The loop's invariant: the groups are the rows of the table so far, and those
 -- still to be read.
 use borrow.Author.Needs.{needs}
 use Prim.Native.Nat.{_+_, _*_, _-_, _≤_}
@@ -10,11 +10,11 @@ use Rattle.scope.specs.Number.{listed}
 use Rattle.scope.specs.Instance.{groupsAt}
 use Rattle.number.specs.Ladder.{limited-value}
 use Rattle.number.specs.Parsing.{before, before-nil, repeat-more, repeat-refused, repeat-end}
-use Rattle.lists.specs.Ladder.{row-value, row-refused}
+use Rattle.table_lists.specs.Ladder.{row-value, row-refused}
 use Rattle.tables.specs.Rows.{rows}
-use Rattle.lists.proofs.Writing.{rows-more}
-use Rattle.lists.proofs.groups_at.Statement.{statement}
-use Rattle.lists.proofs.groups_at.Tie as tie
+use Rattle.table_lists.proofs.Writing.{rows-more}
+use Rattle.table_lists.proofs.groups_at.Statement.{statement}
+use Rattle.table_lists.proofs.groups_at.Tie as tie
 
 abbrev Inv-loop : tie.InvT-loop
 Inv-loop s at times table₀ count start most next₀ g₀ table next g =

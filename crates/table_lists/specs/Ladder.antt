@@ -10,7 +10,7 @@ use Rattle.number.specs.declared.Number.the-variants.{Value, Refused}
 use Rattle.number.specs.Answers.{said, refusedBy}
 use Rattle.number.specs.Ladder.{step, ladder as numberLadder}
 use Rattle.tables.specs.Rows.{rowOf, rows, eventsOf}
-use Rattle.lists.specs.Answers.{saidRow, saidRows, saidEvent, saidEvents}
+use Rattle.table_lists.specs.Answers.{saidRow, saidRows, saidEvent, saidEvents}
 
 -- what an answer stands for, by its case
 module _ (l : List ℕ) (x : Number) where
