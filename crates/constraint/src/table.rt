@@ -1,4 +1,5 @@
-// Which fields a kind has, in their order.
+// Which fields a kind has, in their order: the rows of the table of fields in the definitions. That it is the same table is
+// one law, `left-all`, with a case for each kind.
 use crate::kinds::Head;
 ghost use mathlib.Core.Path.{_≡_};
 ghost use Rattle.constraint.specs.Answers.{countsIn};
