@@ -1,5 +1,4 @@
-// Which fields a kind has, in their order: the rows of the table of fields in the definitions. That it is the same table is
-// one law, `left-all`, with a case for each kind.
+// Which fields a kind has, in their order; the law `left-all` says that they are the rows of the table in the definitions.
 use crate::kinds::Head;
 ghost use mathlib.Core.Path.{_≡_};
 ghost use Rattle.constraint.specs.Answers.{countsIn};
