@@ -1,13 +1,12 @@
 -- The numbers of a constraint's fields, read one after another, and the kind that they make.
-use Prim.Native.Nat.{ℕ, zero, suc, _+_, _-_, _≤_, _<_}
-use mathlib.Core.Path.{_≡_, refl, sym, ap, _∙_}
+use Prim.Native.Nat.{ℕ, zero, suc, _-_, _≤_}
+use mathlib.Core.Path.{_≡_, refl}
 use mathlib.Core.Bool.{cond}
 use mathlib.Core.List.{List, [], _∷_}
 use lib.Dec.{eqb}
 use lib.ListN.{length}
 use native.Mathlib.Omega.{arith}
-use native.Mathlib.Numerals.{add-one}
-use Rattle.scope.specs.Parsed.{Parsed, got, refused, andThen}
+use Rattle.scope.specs.Parsed.{andThen}
 use Rattle.scope.specs.Kinds.{Kind, clash, unavailable, preferred, split, spread, busy, cluster, idle}
 use Rattle.scope.specs.Number.{limited, reference, listed}
 use Rattle.scope.specs.Instance.{Counts, Fields, aReference, aList, aNumber, theKind, fieldsRead, fieldsTable, fieldsOf}

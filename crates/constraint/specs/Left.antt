@@ -1,13 +1,13 @@
 -- What is left to read of a constraint after some of its fields, and the turns of the loop that reads them.
-use Prim.Native.Nat.{ℕ, zero, suc, _+_, _-_, _≤_, _<_}
-use mathlib.Core.Path.{_≡_, refl, sym, ap, _∙_}
+use Prim.Native.Nat.{ℕ, suc, _+_, _-_, _≤_, _<_}
+use mathlib.Core.Path.{_≡_, sym, ap, _∙_}
 use mathlib.Core.List.{List}
 use native.Mathlib.Omega.{arith}
 use native.Mathlib.Numerals.{add-one}
 use Rattle.scope.specs.Parsed.{Parsed, got, andThen}
 use Rattle.scope.specs.Kinds as kinds
 use Rattle.scope.specs.Number.{limited}
-use Rattle.scope.specs.Instance.{Counts, fieldsRead, fieldsOf}
+use Rattle.scope.specs.Instance.{Counts, fieldsRead}
 use Rattle.scope.specs.declared.Refusal.{Refusal}
 use Rattle.number.specs.declared.Number.{Number}
 use Rattle.number.specs.Answers.{said, refusalOf, refusedBy}

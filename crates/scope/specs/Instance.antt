@@ -47,7 +47,7 @@ fieldsRead (theKind k) s at = got k at
 abbrev pub bounds : (ℕ → ℕ → Kind) → Fields
 bounds k = aNumber 0 255 (λ lo. aNumber 0 255 (λ hi. theKind (k lo hi)))
 
--- the fields of each kind, a row for each
+-- the fields of each kind, 1 to 8, a row for each
 unfoldable pub fieldsTable : Counts → List Fields
 fieldsTable n =
     aReference (n .resources) (λ r. theKind (clash r))

@@ -1,6 +1,5 @@
 -- `constraint::field::field_at` meets its contract: a case for each form of a field.
 use borrow.Author.Needs.{needs}
-use Prim.Native.Nat.{_≤_}
 use native.Mathlib.Omega.{arith}
 use Rattle.constraint.specs.Flat.{reference-read, list-read, number-read}
 use Rattle.constraint.proofs.field.field_at.Statement.{statement}
