@@ -10,7 +10,7 @@ use Rattle.tables.specs.Rows.{rows, eventsOf}
 use Rattle.tables.specs.Laws.{group-row}
 use Rattle.constraint.specs.declared.kinds.Head.{Head}
 use Rattle.constraint.specs.Answers.{countsIn}
-use Rattle.constraint.specs.Bounds.{lowOf, bounds-right}
+use Rattle.constraint.specs.Bounds.{bounds-right}
 use Rattle.constraint.specs.Valid.{InRange}
 use Rattle.instance.specs.Answers.{headStart}
 use Rattle.instance.specs.Laws.{Accepted, ConstraintOf}

@@ -13,8 +13,9 @@ use Rattle.sizing.specs.declared.Size.{Size}
 use Rattle.sizing.specs.Sums.{none, sum, Within, within-more, within-sum, within-multiple, sum-none, none-sum, sum-assoc}
 use Rattle.sizing.specs.Gates.{orSize}
 use Rattle.sizing.specs.Counts.{listSize}
-use Rattle.sizing.specs.Blocks.{startsSize, useSize, usesSize, durationsSize}
+use Rattle.sizing.specs.Blocks.{startsSize, useSize}
 use Rattle.sizing.specs.Limits.{or-within, list-within, starts-within}
+use Rattle.measuring.specs.Blocks.{usesSize, durationsSize}
 
 -- starts, uses and durations
 unfoldable pub blocksSize : Head → List Event → Size

@@ -1,12 +1,11 @@
 -- The size of a counted list from what the store holds of it: how many nodes, where its members begin and where they end.
 use Prim.Native.Nat.{ℕ, suc, _+_, _-_, _*_, _≤_}
 use mathlib.Core.Path.{_≡_, refl, sym, ap, _∙_}
-use mathlib.Core.List.{List, [], _∷_, _++_, map}
-use mathlib.Core.Bool.{Bool}
+use mathlib.Core.List.{List, [], _∷_, map}
 use native.Mathlib.Omega.{arith}
-use lib.ListN.{length, take, length-map, length-append, length-take}
-use Rattle.scope.specs.Cnf.{opp, Gate, or, and}
-use Rattle.scope.specs.Kinds.{Atom, Ref, Node, someOf, allOf, Listed, Counted, rule}
+use lib.ListN.{length, length-map, length-append, length-take}
+use Rattle.scope.specs.Cnf.{or, and}
+use Rattle.scope.specs.Kinds.{Atom, Node, someOf, allOf, Listed, Counted, rule}
 use Rattle.scope.specs.Formula.{refLiteral, nodeGate}
 use Rattle.literals.specs.Words.{Holds}
 use Rattle.literals.specs.NodeWords.{nodeWords, nodesWords, or-words, and-words}
@@ -15,10 +14,11 @@ use Rattle.list.specs.Stored.{Stored, Short}
 use Rattle.constraint.specs.declared.bounds.Bounds.{Bounds}
 use Rattle.sizing.specs.declared.Size.{Size}
 use Rattle.sizing.specs.Sums.{sum, Within}
-use Rattle.sizing.specs.NodeSizes.{nodeSizes, inputs, allInputs}
+use Rattle.sizing.specs.NodeSizes.{nodeSizes}
 use Rattle.sizing.specs.Counts.{listSize}
-use Rattle.sizing.specs.Rules.{ruleSize, listed-size}
 use Rattle.sizing.specs.Limits.{listed-within, listed-most}
+use Rattle.measuring.specs.NodeSizes.{inputs, allInputs}
+use Rattle.measuring.specs.Rules.{ruleSize, listed-size}
 
 -- how many words a node takes, and some nodes
 or-long : (ls : List ℕ) (o : ℕ) → length (nodeWords (or ls) o) ≡ length ls + 2

@@ -1,12 +1,12 @@
 -- What is known of a constraint that is sized, and its size after some of its counted lists.
 use Prim.Native.Nat.{ℕ, zero, suc, _+_, _-_, _*_, _≤_, _<_}
-use mathlib.Core.Path.{_≡_, refl, sym, ap, _∙_}
+use mathlib.Core.Path.{_≡_, sym, _∙_}
 use mathlib.Core.List.{List, [], _∷_, map}
 use native.Mathlib.Omega.{arith}
 use native.Mathlib.Numerals.{add-one}
 use lib.ListN.{length, getD, drop, drop-of-length-le}
 use lib.Seq.{drop-cons}
-use Rattle.scope.specs.Kinds.{Kind, Constraint, Listed, Counted, rule}
+use Rattle.scope.specs.Kinds.{Constraint, Listed, Counted, rule}
 use Rattle.number.specs.Each.{Each, each-none, each-more}
 use Rattle.constraint.specs.declared.kinds.Head.{Head}
 use Rattle.constraint.specs.declared.bounds.Bounds.{Bounds}
@@ -18,7 +18,7 @@ use Rattle.list.specs.Stored.{Fits, Short, listAt, countedIn, listIn}
 use Rattle.fitting.specs.Lists.{Small, lists-small}
 use Rattle.sizing.specs.declared.Size.{Size}
 use Rattle.sizing.specs.Sums.{none, sum, Within, Fits64, within-more, within-none, within-sum, none-sum, sum-none, sum-assoc}
-use Rattle.sizing.specs.Rules.{ruleSize, rulesSize}
+use Rattle.measuring.specs.Rules.{ruleSize, rulesSize}
 use Rattle.parts.specs.Listed.{BoundsOf, ListSized}
 
 -- the size of some lists of the weight w

@@ -1,11 +1,10 @@
 -- The walk over the constraints of a file: what it is lent, and what is known after each of them.
 use Prim.Native.Nat.{ℕ, _+_, _*_, _≤_, _<_}
-use mathlib.Core.Path.{_≡_, refl, sym, _∙_}
-use mathlib.Core.List.{List, _∷_}
+use mathlib.Core.Path.{_≡_, sym, _∙_}
+use mathlib.Core.List.{List}
 use native.Mathlib.Omega.{arith}
 use lib.ListN.{length, drop}
 use Rattle.scope.specs.Kinds.{Constraint}
-use Rattle.scope.specs.Instance.{Instance}
 use Rattle.constraint.specs.declared.kinds.Constraint as decl
 use Rattle.constraint.specs.declared.kinds.Head.{Head}
 use Rattle.constraint.specs.declared.kinds.Next.{Next}
@@ -22,7 +21,7 @@ use Rattle.sizing.specs.declared.Size.{Size}
 use Rattle.sizing.specs.Sums.{none, sum, Within, Fits64, within-more, within-none, within-sum, sum-none, sum-assoc}
 use Rattle.sizing.specs.Tail.{tailAdd}
 use Rattle.sizing.specs.Limits.{tail-within}
-use Rattle.sizing.specs.Whole.{constraintSize, constraintsSize, tailAfter}
+use Rattle.measuring.specs.Whole.{constraintSize, constraintsSize, tailAfter}
 use Rattle.parts.specs.declared.walk.Total.{Total}
 use Rattle.parts.specs.Sizable.{Sizable, CountedSized}
 

@@ -13,7 +13,7 @@ ghost use lib.ListN.{length, getD};
 ghost use Rattle.scope.specs.Kinds.{Event, upTo};
 ghost use Rattle.tables.specs.Rows.{eventsOf};
 ghost use Rattle.sizing.specs.Sums.{Within};
-ghost use Rattle.sizing.specs.Blocks.{usesSize, durationsSize};
+ghost use Rattle.measuring.specs.Blocks.{usesSize, durationsSize};
 ghost use Rattle.parts.specs.Before.{Users, Begun, blocksSize};
 
 // X of each resource, where users is the table of the users of each resource.

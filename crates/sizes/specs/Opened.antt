@@ -19,8 +19,8 @@ use Rattle.literals.specs.Users.{usersIn, users-in}
 use Rattle.literals.specs.Filled.{Filled, EventRows, filled-rows}
 use Rattle.fitting.specs.Known.{known-rows}
 use Rattle.sizing.specs.declared.Size.{Size}
-use Rattle.sizing.specs.Sums.{sum, Within, within-more}
-use Rattle.sizing.specs.Whole.{beforeSize, wholeSize, tailOf}
+use Rattle.sizing.specs.Sums.{Within, within-more}
+use Rattle.measuring.specs.Whole.{beforeSize, wholeSize, tailOf}
 use Rattle.parts.specs.declared.walk.Total.{Total}
 use Rattle.parts.specs.Before.{Users, Begun, blocksSize}
 use Rattle.parts.specs.Walked.{Tabled, Walkable, TotalOf}

@@ -1,5 +1,5 @@
 -- The sizes of an instance's formula, without and with its tail, in the terms of document 01.
-use Prim.Native.Nat.{ℕ, _+_, _≤_}
+use Prim.Native.Nat.{ℕ, _+_}
 use mathlib.Core.Path.{_≡_, sym, ap, _∙_}
 use native.Mathlib.Omega.{arith}
 use lib.ListN.{length}
@@ -11,7 +11,8 @@ use Rattle.scope.specs.declared.FormulaSize.{FormulaSize}
 use Rattle.theory.specs.Accepted.{ValidInstance}
 use Rattle.sizing.specs.declared.Size.{Size}
 use Rattle.sizing.specs.Sums.{sum, Within, Fits64, within-more, within-sum}
-use Rattle.sizing.specs.Whole.{formulaOf, stored, wholeSize, tailOf, whole-size, bounded-size}
+use Rattle.sizing.specs.Whole.{stored}
+use Rattle.measuring.specs.Whole.{formulaOf, wholeSize, tailOf, whole-size, bounded-size}
 use Rattle.parts.specs.declared.walk.Total.{Total}
 
 -- the formula, and the tail for the bound B, with numbers far below 2 ^ 64

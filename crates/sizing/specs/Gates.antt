@@ -1,14 +1,6 @@
--- The sizes of gates: an OR or an AND, and the cells of a counter; and of units.
-use mathlib.Core.Path.{_≡_, refl, ap}
-use mathlib.Core.List.{List, [], _∷_}
-use Prim.Native.Nat.{ℕ, zero, suc, _+_, _*_, _≤_}
-use native.Mathlib.Omega.{arith}
-use lib.ListN.{length}
-use Rattle.scope.specs.Cnf.{opp, hasTrue, withoutFalse, tidy, Gate, or, and, cell, gateClauses, Item, hard}
-use Rattle.scope.specs.Formula.{words, unit}
+-- The sizes of an OR or an AND, and of units.
+use Prim.Native.Nat.{ℕ, zero, suc, _+_, _*_}
 use Rattle.sizing.specs.declared.Size.{Size}
-use Rattle.sizing.specs.Sums.{equal, sum}
-use Rattle.sizing.specs.Measure.{clausesSize, sizeOf, gateSize, softSize, or-clauses, and-clauses, eqb-0, eqb-1, size-hard, size-soft}
 
 -- one variable with so many clauses and words
 abbrev pub variableSize : ℕ → ℕ → Size
@@ -18,58 +10,13 @@ variableSize c w = record { variables = 1; clauses = c; words = w; units = 0; we
 unfoldable pub orSize : ℕ → Size
 orSize n = variableSize (n + 1) (3 * n + 1)
 
--- a gate's variable beside its clauses
-gate-size : (g : Gate) (n : ℕ)
-    → clausesSize (gateClauses g 1) ≡ record { variables = 0; clauses = n + 1; words = 3 * n + 1; units = 0; weight = 0 }
-    → gateSize g ≡ orSize n
-unfolding gateSize orSize clausesSize
-gate-size g n e =
-    equal
-    (record { variables = refl; clauses = ap (λ s. s .clauses) e; words = ap (λ s. s .words) e; units = refl; weight = refl })
+-- a soft unit, a hard unit, and a unit of the weight w
+unfoldable pub softSize : ℕ → Size
+softSize w = record { variables = 0; clauses = 0; words = 0; units = 1; weight = w }
 
-pub or-size : (ls : List ℕ) → gateSize (or ls) ≡ orSize (length ls)
-or-size ls = gate-size (or ls) (length ls) (or-clauses ls 1)
-
-pub and-size : (ls : List ℕ) → gateSize (and ls) ≡ orSize (length ls)
-and-size ls = gate-size (and ls) (length ls) (and-clauses ls 1)
-
--- the opposite of a literal from 2 on is one
-pub opp-proper : (l : ℕ) → 2 ≤ l → 2 ≤ opp l
-opp-proper l h = omega arith
-
--- the cell of a literal x under no row, in a column up to x's weight and past it; then the same under a row
-module _ (x : ℕ) (hx : 2 ≤ x) where
-  pub first-low : gateSize (cell x 0 1) ≡ variableSize 2 4
-  unfolding gateSize gateClauses tidy hasTrue withoutFalse words
-  first-low = simp (eqb-0, eqb-1, opp-proper)
-
-  pub first-high : gateSize (cell x 0 0) ≡ variableSize 2 3
-  unfolding gateSize gateClauses tidy hasTrue withoutFalse words
-  first-high = simp (eqb-0, eqb-1, opp-proper)
-
-  module _ (a : ℕ) (ha : 2 ≤ a) where
-    pub later-low : gateSize (cell x a 1) ≡ variableSize 3 7
-    unfolding gateSize gateClauses tidy hasTrue withoutFalse words
-    later-low = simp (eqb-0, eqb-1, opp-proper)
-
-    pub later-high : (b : ℕ) → 2 ≤ b → gateSize (cell x a b) ≡ variableSize 4 11
-    unfolding gateSize gateClauses tidy hasTrue withoutFalse words
-    later-high b hb = simp (eqb-0, eqb-1, opp-proper)
-
--- a hard unit, and a unit of the weight w
 unfoldable pub hardUnit : Size
 hardUnit = record { variables = 0; clauses = 1; words = 1; units = 0; weight = 0 }
 
 unfoldable pub unitSize : ℕ → Size
 unitSize zero = hardUnit
 unitSize (suc w) = softSize (suc w)
-
--- items with a unit more
-pub hard-unit : (l : ℕ) (is : List Item) → sizeOf (hard (l ∷ []) ∷ is) ≡ sum hardUnit (sizeOf is)
-unfolding clausesSize words hardUnit
-hard-unit l is = size-hard (l ∷ []) is
-
-pub unit-size : (w l : ℕ) (is : List Item) → sizeOf (unit w l ∷ is) ≡ sum (unitSize w) (sizeOf is)
-unfolding unitSize
-unit-size zero l is = hard-unit l is
-unit-size (suc w) l is = size-soft (suc w) l is

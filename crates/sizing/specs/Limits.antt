@@ -1,20 +1,15 @@
 -- How large sizes are at most, so that none of their sums wraps.
-use mathlib.Core.Path.{refl}
+use mathlib.Core.Path.{_≡_, refl}
 use mathlib.Core.Bool.{Bool, true, false, cond}
-use mathlib.Core.List.{List, [], _∷_}
 use Prim.Native.Nat.{ℕ, zero, suc, _+_, _-_, _*_, min, _≤_}
 use native.Mathlib.Nat.{mul-le-mul}
 use native.Mathlib.Omega.{arith}
-use lib.ListN.{length}
 use lib.Dec.{eqb}
-use Rattle.laws.specs.Lists.{All}
-use Rattle.scope.specs.Kinds.{Event, member, usersFrom, users}
 use Rattle.scope.specs.Formula.{columns}
 use Rattle.sizing.specs.declared.Size.{Size}
-use Rattle.sizing.specs.Sums.{none, sum, multiple, Within, Fits64, within-more, within-none, within-sum, within-multiple}
+use Rattle.sizing.specs.Sums.{none, sum, multiple, Within, Fits64, within-more, within-sum, within-multiple}
 use Rattle.sizing.specs.Gates.{orSize, hardUnit}
 use Rattle.sizing.specs.Rows.{firstRow, laterRow, equalRows}
-use Rattle.sizing.specs.Rules.{rows-units}
 use Rattle.sizing.specs.Tail.{tailAdd}
 use Rattle.sizing.specs.Counts.{unitsSize, shortsSize, lowSize, countSize, listSize, units-hard, units-soft, shorts-hard, shorts-soft}
 use Rattle.sizing.specs.NodeSizes.{nodeSizes}
@@ -78,7 +73,12 @@ count-within w lo hi free n h j k =
     (within-sum 715275 510000 (equalRows cols n 1) (sum (lowSize w lo free) (unitsSize w (n - hi))) rows
     (within-sum 255000 255000 (lowSize w lo free) (unitsSize w (n - hi)) (low-within w lo free h j) high))
 
--- a counted list has no more soft units than entries
+-- a counter has no soft units, and a counted list no more than members
+pub rows-units : (cols n w : ℕ) → (equalRows cols n w) .units ≡ 0
+unfolding equalRows none sum multiple firstRow laterRow
+rows-units cols zero w = refl
+rows-units cols (suc n) w = omega arith
+
 units-most : (w k : ℕ) → (unitsSize w k) .units ≤ k
 units-most zero k = rw (units-hard 0 k refl) (omega arith)
 units-most (suc w) k = rw (units-soft (suc w) k (omega arith)) (omega arith)
@@ -149,14 +149,3 @@ unfolding startsSize startClauses sum multiple
 starts-within E T h j =
     let k : 5 * T - 1 ≤ 625 = omega arith in
     omega (arith, mul-le-mul h j, mul-le-mul h k)
-
--- a resource has no more users than there are events
-pub users-most : (r e : ℕ) (vs : List Event) → length (usersFrom r e vs) ≤ length vs
-unfolding usersFrom
-users-most r e [] = omega arith
-users-most r e (x ∷ vs) = go (member r (x .resources)) (users-most r (suc e) vs)
-  where
-    go : (b : Bool) → length (usersFrom r (suc e) vs) ≤ length vs
-        → length (cond b (e ∷ usersFrom r (suc e) vs) (usersFrom r (suc e) vs)) ≤ suc (length vs)
-    go true h = omega arith
-    go false h = omega arith

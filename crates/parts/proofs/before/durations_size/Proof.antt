@@ -6,7 +6,7 @@ use mathlib.Core.List.{List}
 use native.Mathlib.Omega.{arith}
 use Rattle.tables.specs.Rows.{eventsOf}
 use Rattle.sizing.specs.Sums.{Within, within-more, within-none}
-use Rattle.sizing.specs.Blocks.{durationsSize}
+use Rattle.measuring.specs.Blocks.{durationsSize}
 use Rattle.parts.specs.Before.{durations-sum-within, durations-more}
 use Rattle.parts.proofs.before.durations_size.Statement.{statement}
 use Rattle.parts.proofs.before.durations_size.Tie as tie

@@ -7,7 +7,7 @@ use mathlib.Core.List.{List}
 use native.Mathlib.Omega.{arith}
 use Rattle.scope.specs.Kinds.{Event, from, upTo}
 use Rattle.sizing.specs.Sums.{sum as together, Within, within-more, within-none}
-use Rattle.sizing.specs.Blocks.{usesSize}
+use Rattle.measuring.specs.Blocks.{usesSize}
 use Rattle.parts.specs.Before.{Users, uses-sum-within, uses-start, uses-more, uses-end}
 use Rattle.parts.proofs.before.uses_size.Statement.{statement}
 use Rattle.parts.proofs.before.uses_size.Tie as tie

@@ -2,7 +2,7 @@
 use mathlib.Core.Path.{_≡_, refl, ap, _∙_}
 use mathlib.Core.Bool.{Bool, true, false, cond}
 use mathlib.Core.List.{List, [], _∷_, _++_, map}
-use Prim.Native.Nat.{ℕ, zero, suc, _+_, _≤_}
+use Prim.Native.Nat.{ℕ, _+_, _≤_}
 use native.Mathlib.Omega.{arith}
 use lib.ListN.{length, replicate, length-map}
 use Rattle.scope.specs.Cnf.{opp, gates, softUnits, gate}
@@ -11,14 +11,18 @@ use Rattle.scope.specs.Formula.{columns, thingLiteral, refLiteral, nodeGate, ru
 use Rattle.laws.specs.Lists.{All, All-append, All-map}
 use Rattle.theory.specs.Nodes.{ThingKnown, Known}
 use Rattle.theory.specs.Rules.{ValidRule}
 use Rattle.sizing.specs.declared.Size.{Size}
 use Rattle.sizing.specs.Sums.{none, sum, multiple}
-use Rattle.sizing.specs.Measure.{sizeOf, sizeAt, size-nil, size-append}
-use Rattle.sizing.specs.Gates.{orSize, opp-proper, hardUnit, unitSize}
-use Rattle.sizing.specs.Rows.{firstRow, laterRow, equalRows, Proper, weights}
-use Rattle.sizing.specs.NodeSizes.{nodeSizes, nodesSize, nodes-size}
-use Rattle.sizing.specs.Counts.{unitsSize, shortsSize, lowSize, countSize, listSize, count-size}
-use Rattle.sizing.specs.Softs.{Weighing, weighing-weights, weighing-proper, weights-append, soft-append, append-weighing, gates-weighing, count-weighing}
+use Rattle.measuring.specs.Measure.{sizeOf, sizeAt, size-nil, size-append}
+use Rattle.sizing.specs.Gates.{orSize, hardUnit, unitSize}
+use Rattle.sizing.specs.NodeSizes.{nodeSizes}
+use Rattle.sizing.specs.Counts.{unitsSize, shortsSize, lowSize, countSize, listSize}
+use Rattle.sizing.specs.Limits.{rows-units}
+use Rattle.measuring.specs.Gates.{opp-proper}
+use Rattle.measuring.specs.Rows.{Proper, weights}
+use Rattle.measuring.specs.NodeSizes.{nodesSize, nodes-size}
+use Rattle.measuring.specs.Counts.{count-size}
+use Rattle.measuring.specs.Softs.{Weighing, weighing-weights, weighing-proper, weights-append, soft-append, append-weighing, gates-weighing, count-weighing}
 
 -- a rule of the weight w; rules with their weights
 unfoldable pub ruleSize : ℕ → Rule → Size
@@ -41,11 +45,6 @@ rulesWeights [] = []
 rulesWeights (r ∷ rs) = replicate ((ruleSize (r .0) (r .1)) .units) (r .0) ++ rulesWeights rs
 
 -- hard rules have no soft units
-pub rows-units : (cols n w : ℕ) → (equalRows cols n w) .units ≡ 0
-unfolding equalRows none sum multiple firstRow laterRow
-rows-units cols zero w = refl
-rows-units cols (suc n) w = omega arith
-
 low-hard : (lo : ℕ) (zeroFree : Bool) → (lowSize 0 lo zeroFree) .units ≡ 0
 unfolding lowSize shortsSize orSize unitsSize unitSize hardUnit multiple sum
 low-hard lo true = omega arith

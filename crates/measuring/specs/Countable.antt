@@ -6,7 +6,7 @@ use Rattle.scope.specs.Instance.{Instance}
 use Rattle.scope.specs.Formula.{num, allRules}
 use Rattle.theory.specs.Accepted.{ValidInstance}
 use Rattle.theory.specs.KindRules.{InRange, allRules-valid}
-use Rattle.sizing.specs.Rules.{Literal, Countable}
+use Rattle.measuring.specs.Rules.{Literal, Countable}
 
 -- the variable of an atom at a time is at least 1
 in-range-literal : (i : Instance) (a : Atom) → InRange i a → Literal (num i) a

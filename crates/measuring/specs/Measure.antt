@@ -11,8 +11,9 @@ use borrow.Author.Tests.{ne-eqb}
 use Rattle.scope.specs.Cnf.{pos, neg, opp, hasTrue, withoutFalse, tidy, Gate, or, and, cell, pairs, gateClauses, Item, gate, hard, soft, hardClauses, gates, softUnits}
 use Rattle.scope.specs.Formula.{words}
 use Rattle.scope.specs.Text.{sumWeights}
 use Rattle.sizing.specs.declared.Size.{Size}
 use Rattle.sizing.specs.Sums.{equal, none, sum, none-sum, sum-assoc}
+use Rattle.sizing.specs.Gates.{softSize}
 
 -- the size of some clauses
 unfoldable pub clausesSize : List (List ℕ) → Size
@@ -33,13 +34,10 @@ sizeAt n is =
 unfoldable pub sizeOf : List Item → Size
 sizeOf is = sizeAt 1 is
 
--- the size of a gate, of a soft unit
+-- the size of a gate
 unfoldable pub gateSize : Gate → Size
 gateSize g =
     record { variables = 1; clauses = length (gateClauses g 1); words = words (gateClauses g 1); units = 0; weight = 0 }
-
-unfoldable pub softSize : ℕ → Size
-softSize w = record { variables = 0; clauses = 0; words = 0; units = 1; weight = w }
 
 -- clauses one after the other
 pub words-append : (cs ds : List (List ℕ)) → words (cs ++ ds) ≡ words cs + words ds

@@ -10,7 +10,7 @@ use Rattle.scope.specs.Cnf.{opp, Gate, Item, gate, hard, soft, softUnits}
 use Rattle.scope.specs.Kinds.{Rule, from}
 use Rattle.scope.specs.Formula.{noRow, rowAt, counter, lastRow, columns, ones, lowUnits, highUnits, shortUnits, boundItems, countInto, countItems}
 use Rattle.laws.specs.Lists.{All, All-append}
-use Rattle.sizing.specs.Rows.{Proper, weights}
+use Rattle.measuring.specs.Rows.{Proper, weights}
 
 -- soft units of the weight w whose literals are no constants
 abbrev pub Weighing : ℕ → List (ℕ × ℕ) → Type 0
