@@ -1,12 +1,10 @@
 -- Kind 7's nodes in the words, group by group.
-use Prim.Native.Nat.{ℕ, zero, suc, _+_, _-_, _*_, _≤_, _<_}
+use Prim.Native.Nat.{ℕ, zero, suc, _+_}
 use mathlib.Core.Path.{_≡_, refl, sym, ap, _∙_}
 use mathlib.Core.List.{List, [], _∷_, _++_, map, map-append, append-nil}
-use native.Mathlib.Omega.{arith}
 use native.Mathlib.Numerals.{add-one}
-use lib.ListN.{length, getD, take, length-map, length-append}
-use lib.Seq.{length-take-le}
-use Rattle.scope.specs.Cnf.{Gate, or}
+use lib.ListN.{length, getD, take, length-map}
+use Rattle.scope.specs.Cnf.{or}
 use Rattle.scope.specs.Kinds.{cluster, countedOf}
 use Rattle.number.specs.Lists.{leading, length-leading}
 use Rattle.constraint.specs.declared.kinds.Head.{Head}

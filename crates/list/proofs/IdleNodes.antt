@@ -5,22 +5,23 @@ use mathlib.Core.List.{List, [], _∷_, _++_, map, append-nil, append-assoc}
 use native.Mathlib.Omega.{arith}
 use native.Mathlib.Nat.{add-zero}
 use native.Mathlib.Numerals.{add-one}
-use lib.ListN.{length, getD, take, drop, length-append, length-take, length-drop, length-map}
-use lib.Seq.{length-take-le, take-take, getD-take}
-use Rattle.scope.specs.Cnf.{pos, opp, Gate, or, and}
+use lib.ListN.{length, getD, take, drop, length-map}
+use lib.Seq.{take-take, getD-take}
+use Rattle.scope.specs.Cnf.{pos, opp, or, and}
 use Rattle.scope.specs.Kinds.{idle, countedOf}
-use Rattle.number.specs.Lists.{leading, length-leading}
+use Rattle.number.specs.Each.{Each}
+use Rattle.number.specs.Lists.{leading}
 use Rattle.constraint.specs.declared.kinds.Head.{Head}
 use Rattle.literals.specs.Variables.{inBlock}
 use Rattle.literals.specs.Words.{Holds, holds-as, holds-none}
 use Rattle.literals.specs.Outputs.{every}
-use Rattle.literals.specs.NodeWords.{nodeWords, nodesWords, nodes-words-both, or-words, and-words}
+use Rattle.literals.specs.NodeWords.{nodeWords, nodesWords, nodes-words-both}
 use Rattle.literals.specs.Tables.{groupIn}
-use Rattle.list.specs.Ground.{layoutOf}
+use Rattle.list.specs.Ground.{layoutOf, leading-at}
 use Rattle.list.specs.Stored.{onlyIn, numOf, Stored, adds-stored}
 use Rattle.list.specs.Cluster.{xsOf}
 use Rattle.list.specs.Idle.{gapGates, idleGates, innerCount, length-gaps, length-idle, idle-adds}
-use Rattle.list.proofs.Nodes.{holds-then, holds-kept, or-length}
+use Rattle.list.proofs.Nodes.{holds-then, holds-kept}
 use Rattle.list.proofs.ClusterNodes.{xsTo, xs-more}
 
 -- G, H and I of member k
@@ -38,31 +39,6 @@ gap-stored row n k v l out at p q r =
     let w : take at out ++ nodesWords v (gapGates (take n row) k 1 v) ≡ ((take at out ++ A) ++ B) ++ C =
     rw (take-take k n row (omega arith), getD-take n row k 0 l, ← (add-one k), s, ← (add-one v)) (simp (append-assoc, append-nil)) in
     holds-as (sym w) (holds-then C (holds-then B p q) r)
-
--- the words of an idle time's nodes
-idling-length : (x y z o : ℕ) → length (nodeWords (and (x ∷ y ∷ z ∷ [])) o) ≡ 5
-idling-length x y z o = rw (and-words (x ∷ y ∷ z ∷ []) o)
-
-pub gaps-length : (xs : List ℕ) → length xs ≤ 125 → (k n v w : ℕ) → length (nodesWords w (gapGates xs k n v)) ≤ 134 * n
-unfolding gapGates nodesWords
-gaps-length xs h k zero v w = omega arith
-gaps-length xs h k (suc n) v w =
-    let A = nodeWords (or (take k xs)) w in
-    let B = nodeWords (or (drop (suc k) xs)) (suc w) in
-    let C = nodeWords (and (opp (getD xs k 0) ∷ pos v ∷ pos (v + 1) ∷ [])) (suc (suc w)) in
-    let D = nodesWords (suc (suc (suc w))) (gapGates xs (suc k) n (v + 3)) in
-    omega (
-      arith,
-      length-append A (B ++ (C ++ D)),
-      length-append B (C ++ D),
-      length-append C D,
-      or-length (take k xs) w,
-      or-length (drop (suc k) xs) (suc w),
-      idling-length (opp (getD xs k 0)) (pos v) (pos (v + 1)) (suc (suc w)),
-      gaps-length xs h (suc k) n (v + 3) (suc (suc (suc w))),
-      length-take k xs,
-      length-drop (suc k) xs,
-    )
 
 -- the idle times of the first j inner members of a group
 pub record GapsTo (before xs : List ℕ) (v : ℕ) (words : List ℕ) (at j : ℕ) : Type 0 where
@@ -99,19 +75,6 @@ gaps-more before xs v j h k o e f q i t =
     rw (gap-more xs 1 j v, nodes-words-both (gapGates xs 1 j v) (gapGates xs (1 + j) 1 (v + 3 * j)) v, length-gaps xs 1 j v, e, f) in
     rw t (record { holds = holds-as (append-assoc before A B ∙ ap (_++_ before) (sym s)) (holds-then B (h .holds) q) })
 
--- where the next idle time begins
-pub gap-next : (words xs : List ℕ) (n k o : ℕ) {after : List ℕ} {m : ℕ} → n ≤ length words → length xs ≤ 125
-    → Holds after m (take n words ++ nodesWords o (gapGates xs k 1 o))
-    → m ≤ n + 134
-gap-next words xs n k o l b h =
-    omega (
-      arith,
-      h .count,
-      length-append (take n words) (nodesWords o (gapGates xs k 1 o)),
-      length-take-le n words l,
-      gaps-length xs b k 1 o o,
-    )
-
 -- one group more
 inner-more : (xss : List (List ℕ)) (xs : List ℕ) → innerCount (xss ++ (xs ∷ [])) ≡ innerCount xss + (length xs - 2)
 unfolding innerCount
@@ -127,13 +90,14 @@ idle-more (ys ∷ xss) xs v =
     let e : v + 3 * n + 3 * innerCount xss ≡ v + 3 * (n + innerCount xss) = omega arith in
     rw (idle-more xss xs (v + 3 * n), e) (sym (append-assoc (gapGates ys 1 n v) (idleGates xss (v + 3 * n)) _))
 
--- so many idle times, from the variable v on
-pub record Few (found v : ℕ) : Type 0 where
-  pub most : found ≤ 255
-  pub last : v + 3 * found ≤ 8000001
+-- a group of n members, after groups that have so many idle times, from the variable v on
+pub record NextGroup (n found v : ℕ) : Type 0 where
+  pub short : n ≤ 125
+  pub most : found + (n - 2) ≤ 255
+  pub last : v + 3 * (found + (n - 2)) ≤ 8000001
 
 module _ (T uses : ℕ) (group : ℕ → List ℕ) (r : ℕ) where
-  pub inner-most : (i n : ℕ) (l : List ℕ) → i ≤ n → innerCount (xsTo T uses group r l i) ≤ innerCount (xsTo T uses group r l n)
+  inner-most : (i n : ℕ) (l : List ℕ) → i ≤ n → innerCount (xsTo T uses group r l i) ≤ innerCount (xsTo T uses group r l n)
   unfolding leading innerCount
   inner-most zero n l h = omega arith
   inner-most (suc i) zero l h = let z : ⊥ = omega arith in absurd z
@@ -141,44 +105,45 @@ module _ (T uses : ℕ) (group : ℕ → List ℕ) (r : ℕ) where
   inner-most (suc i) (suc n) (x ∷ l) h = omega (arith, inner-most i n l (omega arith))
 
   module _ (l : List ℕ) where
-    -- the nodes of the first i groups
+    -- what is known of the groups of the whole list: they stand in it, they are short, and their idle times are few
+    pub record IdleIn (v count : ℕ) : Type 0 where
+      pub room : count ≤ length l
+      pub short : Each (λ g. length (group g) ≤ 125) (leading count l)
+      pub most : innerCount (xsTo T uses group r l count) ≤ 255
+      pub last : v + 3 * innerCount (xsTo T uses group r l count) ≤ 8000001
+
+    -- the nodes of the first i groups, which have so many idle times
     pub record IdleTo (v : ℕ) (words : List ℕ) (at found i : ℕ) : Type 0 where
       pub holds : Holds words at (nodesWords v (idleGates (xsTo T uses group r l i) v))
       pub count : found ≡ innerCount (xsTo T uses group r l i)
-      pub room : at ≤ 134 * found
 
     pub idle-none : (v : ℕ) (words : List ℕ) → IdleTo v words 0 0 0
     unfolding nodesWords idleGates innerCount leading
-    idle-none v words = record { holds = holds-none words; count = refl; room = omega arith }
-
-    pub idle-few : (v i count : ℕ) {words : List ℕ} {at found : ℕ} → IdleTo v words at found i → i ≤ count
-        → innerCount (xsTo T uses group r l count) ≤ 255
-        → v + 3 * innerCount (xsTo T uses group r l count) ≤ 8000001
-        → Few found v
-    idle-few v i count h k a b =
-        let m = inner-most i count l k in
-        record { most = omega (arith, h .count, m); last = omega (arith, h .count, m) }
+    idle-none v words = record { holds = holds-none words; count = refl }
 
     module _ (v i : ℕ) {words row : List ℕ} {at found n : ℕ} (h : IdleTo v words at found i) (x : Holds row n (map (inBlock T uses r) (group (getD l i 0)))) where
       -- how many idle times there are with the next group
-      pub inner-next : innerCount (xsTo T uses group r l (i + 1)) ≡ found + (n - 2)
+      inner-next : innerCount (xsTo T uses group r l (i + 1)) ≡ found + (n - 2)
       inner-next =
           rw (xs-more T uses group r l i)
           (inner-more (xsTo T uses group r l i) (map (inBlock T uses r) (group (getD l i 0))) ∙ rw (← (x .count), ← (h .count)))
 
-      -- they are few, and their variables small
-      pub idle-bounds : (count : ℕ) → i < count → innerCount (xsTo T uses group r l count) ≤ 255
-          → v + 3 * innerCount (xsTo T uses group r l count) ≤ 8000001
-          → Few (found + (n - 2)) v
-      idle-bounds count k a b =
+      -- the next group has few members, and with it the idle times stay few
+      pub idle-next : {count : ℕ} → IdleIn v count → i < count → NextGroup n found v
+      idle-next {count} a k =
           let m = inner-most (i + 1) count l (omega arith) in
-          record { most = omega (arith, inner-next, m); last = omega (arith, inner-next, m) }
+          let ts = group (getD l i 0) in
+          record {
+            short = omega (arith, x .count, length-map ts (inBlock T uses r), leading-at l count i (a .short) k);
+            most = omega (arith, inner-next, m, a .most);
+            last = omega (arith, inner-next, m, a .last);
+          }
 
-      pub idle-turn : {after : List ℕ} {end : ℕ} (o : ℕ) → o ≡ v + 3 * found → at ≤ length words → n ≤ 125
+      pub idle-turn : {after : List ℕ} {end : ℕ} (o : ℕ) → o ≡ v + 3 * found
           → Holds after end (take at words ++ nodesWords o (gapGates (take n row) 1 (n - 2) o))
           → (k : ℕ) → k ≡ n - 2
           → IdleTo v after end (found + k) (i + 1)
-      idle-turn o e s b q k f =
+      idle-turn o e q k f =
           let xs = map (inBlock T uses r) (group (getD l i 0)) in
           let xss = xsTo T uses group r l i in
           let B = nodesWords o (gapGates (take n row) 1 (n - 2) o) in
@@ -194,19 +159,7 @@ module _ (T uses : ℕ) (group : ℕ → List ℕ) (r : ℕ) where
             x .front,
           )
           in
-          record {
-            holds = holds-as (sym t) (holds-then B (h .holds) q);
-            count = rw f (sym inner-next);
-            room =
-                omega (
-                  arith,
-                  h .room,
-                  q .count,
-                  length-append (take at words) B,
-                  length-take-le at words s,
-                  gaps-length (take n row) (omega (arith, length-take n row)) 1 (n - 2) o o,
-                );
-          }
+          record { holds = holds-as (sym t) (holds-then B (h .holds) q); count = rw f (sym inner-next) }
 
 -- the whole list
 pub idle-stored : (h : Head) (groups : List ℕ) (r : ℕ) (list : List ℕ) (count lo hi v : ℕ) {words out : List ℕ} {at end found : ℕ}

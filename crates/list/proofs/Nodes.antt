@@ -1,11 +1,11 @@
 -- Nodes after words that stay.
-use Prim.Native.Nat.{ℕ, suc, _+_, _-_, _*_, _≤_, _<_}
+use Prim.Native.Nat.{ℕ, _+_, _-_, _*_, _≤_, _<_}
 use mathlib.Core.Path.{_≡_, refl, sym, ap, _∙_}
 use mathlib.Core.List.{List, [], _∷_, _++_, append-assoc, append-nil}
 use native.Mathlib.Omega.{arith}
 use native.Mathlib.Numerals.{add-one}
 use lib.ListN.{length, getD, take, drop, set, length-set, length-append, length-drop, drop-of-length-le}
-use lib.Seq.{take-suc, take-suc-set, take-set-le, length-take-le, drop-append-le}
+use lib.Seq.{take-suc, take-suc-set, length-take-le, drop-append-le}
 use Rattle.scope.specs.Cnf.{pos, neg, opp, or, and}
 use Rattle.literals.specs.Words.{Holds, holds-as, holds-more}
 use Rattle.literals.specs.NodeWords.{nodeWords, or-words, and-words}
@@ -41,17 +41,6 @@ pub or-place : (out : List ℕ) (at n : ℕ) (ys : List ℕ) → at < length out
 or-place out at n ys l h =
     h .count ∙ length-append (take (at + 1) (set out at n)) ys
     ∙ rw (length-take-le (at + 1) (set out at n) (rw length-set (omega arith)))
-
--- how long an OR's words are
-pub or-length : (ys : List ℕ) (o : ℕ) → length (nodeWords (or ys) o) ≡ length ys + 2
-or-length ys o = rw (or-words ys o, length-append) (omega arith)
-
--- where an OR ends
-pub or-end : (words ys : List ℕ) (n o : ℕ) {after : List ℕ} {m : ℕ} → n ≤ length words
-    → Holds after m (take n words ++ nodeWords (or ys) o)
-    → m ≡ n + length ys + 2
-or-end words ys n o l h =
-    omega (arith, h .count, length-append (take n words) (nodeWords (or ys) o), length-take-le n words l, or-length ys o)
 
 -- an idle time's AND
 pub idling-stored : (out : List ℕ) (at x v : ℕ) → at + 5 ≤ length out

@@ -3,24 +3,24 @@ use Prim.Native.Nat.{ℕ, zero, suc, _+_, _-_, _*_, _≤_}
 use mathlib.Core.Path.{_≡_, refl, sym, ap, _∙_}
 use mathlib.Core.List.{List, [], _∷_, map, flatMap}
 use native.Mathlib.Omega.{arith}
-use lib.ListN.{length, getD, length-append, length-map}
+use lib.ListN.{length, length-append, length-map}
 use Rattle.scope.specs.Cnf.{Gate, or}
 use Rattle.scope.specs.Formula.{refLiteral, nodeGate}
 use Rattle.scope.specs.Kinds.{Kind, clash, spread, cluster, idle, Atom, Y, Entry, atom, entries, entriesNodes, entriesMembers, from, upTo, countedOf}
-use Rattle.number.specs.Each.{Each, each-head}
+use Rattle.number.specs.Each.{each-head}
 use Rattle.number.specs.Lists.{leading, length-leading}
 use Rattle.tables.specs.Rows.{rowAt}
 use Rattle.constraint.specs.declared.kinds.Head.{Head}
 use Rattle.literals.specs.Outputs.{every}
 use Rattle.literals.specs.Variables.{sAt, xAt, Within}
-use Rattle.literals.specs.Filled.{usersAt, UserRows}
+use Rattle.literals.specs.Filled.{usersAt}
 use Rattle.literals.specs.Tables.{groupIn}
 use Rattle.literals.specs.Entries.{Adds}
-use Rattle.list.specs.Ground.{Ground, layoutOf}
-use Rattle.list.specs.Stored.{countedIn, listIn, numOf, Fits}
+use Rattle.list.specs.Ground.{layoutOf}
+use Rattle.list.specs.Stored.{countedIn, listIn, Fits}
 use Rattle.list.specs.Atoms.{spread-add}
 use Rattle.list.specs.Cluster.{xsOf, cluster-adds}
-use Rattle.list.specs.Idle.{idleGates, innerCount, length-idle, idle-adds}
+use Rattle.list.specs.Idle.{innerCount, length-idle, idle-adds}
 
 -- list number t of a constraint that fits, its nodes the variables from v on, and the store
 pub record Fillable (users groups list : List ℕ) (h : Head) (k : Kind) (t v : ℕ) (words : List ℕ) : Type 0 where

@@ -1,18 +1,17 @@
 -- What a list is filled from: the sizes of an instance, and the rows of its groups.
-use Prim.Native.Nat.{ℕ, _-_, _*_, _≤_, _<_}
+use Prim.Native.Nat.{ℕ, _-_, _≤_, _<_}
 use mathlib.Core.Path.{_≡_}
-use mathlib.Core.List.{List, map}
-use lib.ListN.{length, getD, length-map}
+use mathlib.Core.List.{List}
+use lib.ListN.{length, getD}
 use native.Mathlib.Omega.{arith}
 use Rattle.scope.specs.declared.Layout.{Layout}
 use Rattle.scope.specs.Score.{layoutAt}
-use Rattle.number.specs.Each.{Each, each-none, each-more, each-at}
+use Rattle.number.specs.Each.{Each, each-none, each-more, each-at, each-map}
 use Rattle.number.specs.Laws.{Ascending, none, more, ascending-length}
 use Rattle.number.specs.Lists.{leading, length-leading, getD-leading}
 use Rattle.tables.specs.Rows.{rowAt, RowsIn}
 use Rattle.constraint.specs.declared.kinds.Head.{Head}
 use Rattle.constraint.specs.Valid.{OneOf}
-use Rattle.literals.specs.Words.{Holds}
 use Rattle.literals.specs.Variables.{Sizes, Within, GroupIn, layout-sizes}
 
 -- the sizes, and the rows of the groups, each of which ascends
@@ -79,6 +78,6 @@ module _ {groups : List ℕ} {h : Head} (g : Ground groups h) where
   groups-room list n s a =
       omega (arith, g .numbers, length-leading n list, ascending-length (h .groups) 0 (leading n list) a (omega arith))
 
-  -- what is gathered from a group's row
-  pub row-short : {n : ℕ} → OneOf (h .groups) n → (f : ℕ → ℕ) {words : List ℕ} {k : ℕ} → Holds words k (map f (rowAt groups (n - 1))) → k ≤ 125
-  row-short {n} o f x = omega (arith, x .count, length-map (rowAt groups (n - 1)) f, ground-group o .row .count)
+  -- the rows of a list of groups are short
+  pub rows-short : {hs : List ℕ} → Each (OneOf (h .groups)) hs → Each (λ n. length (rowAt groups (n - 1)) ≤ 125) hs
+  rows-short os = each-map (λ n o. ground-group o .row .count) os

@@ -1,16 +1,16 @@
 -- The nodes and the members of a list are over literals of variables, and as many are counted as the bounds need.
 use Prim.Native.Nat.{ℕ, zero, suc, _+_, _-_, _*_, _≤_, _<_}
-use mathlib.Core.Path.{_≡_, refl}
-use mathlib.Core.List.{List, [], _∷_, _++_, map}
+use mathlib.Core.Path.{refl}
+use mathlib.Core.List.{List, [], _∷_, map}
 use native.Mathlib.Omega.{arith}
 use lib.ListN.{length, getD, take, drop, length-map}
 use Rattle.scope.specs.Cnf.{pos, opp, Gate, or, and}
 use Rattle.scope.specs.Formula.{refLiteral, nodeGate}
-use Rattle.scope.specs.Kinds.{Kind, clash, unavailable, preferred, split, spread, busy, cluster, idle, Atom, Y, Entry, atom, entries, Listed, Counted, upTo, outside, countedOf}
+use Rattle.scope.specs.Kinds.{Kind, clash, unavailable, preferred, split, spread, busy, cluster, idle, Atom, Y, Entry, atom, entries, Listed, upTo, outside, countedOf}
 use Rattle.number.specs.Each.{Each, each-none, each-more, each-at, each-drop}
 use Rattle.constraint.specs.declared.kinds.Head.{Head}
 use Rattle.constraint.specs.Valid.{OneOf}
-use Rattle.literals.specs.Variables.{xAt, Within}
+use Rattle.literals.specs.Variables.{xAt}
 use Rattle.literals.specs.Filled.{usersAt}
 use Rattle.literals.specs.Users.{each-both}
 use Rattle.literals.specs.Proper.{Proper, times-proper, events-proper, spread-proper, every-proper, upTo-within, outside-within, ascending-within}

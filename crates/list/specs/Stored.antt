@@ -1,6 +1,6 @@
 -- A counted list in a store of words: its nodes one after another, and then its members.
-use Prim.Native.Nat.{ℕ, _+_, _-_, _≤_}
-use mathlib.Core.Path.{_≡_, refl, _∙_}
+use Prim.Native.Nat.{ℕ, _-_, _≤_}
+use mathlib.Core.Path.{_≡_, refl}
 use mathlib.Core.List.{List, [], _++_, map}
 use lib.ListN.{length, getD}
 use Rattle.scope.specs.Kinds.{Kind, Atom, Listed, Entry, entries, Counted, countedOf}

@@ -20,10 +20,11 @@ ghost use Rattle.list.specs.Cluster.{xsOf};
 ghost use Rattle.list.specs.Idle.{gapGates, innerCount};
 ghost use Rattle.list.specs.Stored.{onlyIn, numOf, Stored};
 
-// G, H and I of member k of a group, whose X are the first n words of a row, from the variable v on.
+// G, H and I of member k of a group, which is not the last, from the variable v on; its X are the first n words of a row.
 fn store_gap(row: &[u32], n: usize, k: usize, v: u32, at: usize, out: &mut [u32]) -> usize
-    requires { ⌜ (k < n) × ((n ≤ 125) × ((n ≤ length (now row)) × ((at + 134 ≤ length (now out)) × (v + 2 < 1073741824)))) ⌝ }
+    requires { ⌜ (k + 1 < n) × ((n ≤ 125) × ((n ≤ length (now row)) × ((at + 134 ≤ length (now out)) × (v + 2 < 1073741824)))) ⌝ }
     ensures { λ r. ⌜ Holds (now (out .exit)) r (take at (now (out .entry)) ++ nodesWords v (gapGates (take n (now (row .entry))) k 1 v)) ⌝ }
+    ensures { λ r. ⌜ r ≤ at + 134 ⌝ }
 {
     let a = store_or(row, 0, k, v, at, out);
     let b = store_or(row, k + 1, n, v + 1, a, out);
@@ -34,6 +35,7 @@ fn store_gap(row: &[u32], n: usize, k: usize, v: u32, at: usize, out: &mut [u32]
 fn store_gaps(row: &[u32], n: usize, v: u32, at: usize, out: &mut [u32]) -> usize
     requires { ⌜ (n ≤ 125) × ((n ≤ length (now row)) × ((at + 134 * (n - 2) ≤ length (now out)) × (v + 3 * (n - 2) ≤ 8000001))) ⌝ }
     ensures { λ r. ⌜ Holds (now (out .exit)) r (take at (now (out .entry)) ++ nodesWords v (gapGates (take n (now (row .entry))) 1 (n - 2) v)) ⌝ }
+    ensures { λ r. ⌜ r ≤ at + 134 * (n - 2) ⌝ }
 {
     let mut o = v;
     let mut end = at;

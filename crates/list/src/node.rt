@@ -1,5 +1,6 @@
 // Nodes, stored after `at` words that stay: a head word with the number of inputs, then the long clause, its last word marked.
 use tables::row_len;
+ghost use mathlib.Core.Path.{_≡_};
 ghost use mathlib.Core.List.{_++_, _∷_, [], map};
 ghost use Prim.Native.Nat.{_+_, _-_, _≤_, _<_};
 ghost use lib.ListN.{length, take, drop};
@@ -13,6 +14,7 @@ ghost use Rattle.literals.specs.NodeWords.{nodeWords};
 pub fn store_group(groups: &[u8], g: u32, base: u32, o: u32, at: usize, out: &mut [u32]) -> usize
     requires { ⌜ GroupIn (now groups) g × ((base < 524288) × ((at + 127 ≤ length (now out)) × (o < 1073741824))) ⌝ }
     ensures { λ r. ⌜ Holds (now (out .exit)) r (take at (now (out .entry)) ++ nodeWords (or (map (literalAt base) (rowAt (now (groups .entry)) (g - 1)))) o) ⌝ }
+    ensures { λ r. ⌜ r ≤ at + 127 ⌝ }
 {
     let row = (g - 1) as usize;
     let n = row_len(groups, row);
@@ -26,6 +28,7 @@ pub fn store_group(groups: &[u8], g: u32, base: u32, o: u32, at: usize, out: &mu
 fn copy(row: &[u32], from: usize, to: usize, at: usize, out: &mut [u32]) -> usize
     requires { ⌜ (from ≤ to) × ((to ≤ length (now row)) × (at + (to - from) ≤ length (now out))) ⌝ }
     ensures { λ r. ⌜ Holds (now (out .exit)) r (take at (now (out .entry)) ++ drop from (take to (now (row .entry)))) ⌝ }
+    ensures { λ r. ⌜ r ≡ at + (to - from) ⌝ }
 {
     let mut k = from;
     let mut n = at;
@@ -41,6 +44,7 @@ fn copy(row: &[u32], from: usize, to: usize, at: usize, out: &mut [u32]) -> usiz
 pub fn store_or(row: &[u32], from: usize, to: usize, o: u32, at: usize, out: &mut [u32]) -> usize
     requires { ⌜ (from ≤ to) × ((to ≤ 125) × ((to ≤ length (now row)) × ((at + (to - from) + 2 ≤ length (now out)) × (o < 1073741824)))) ⌝ }
     ensures { λ r. ⌜ Holds (now (out .exit)) r (take at (now (out .entry)) ++ nodeWords (or (drop from (take to (now (row .entry))))) o) ⌝ }
+    ensures { λ r. ⌜ r ≡ at + (to - from) + 2 ⌝ }
 {
     out[at] = (to - from) as u32;
     let last = copy(row, from, to, at + 1, out);
@@ -52,6 +56,7 @@ pub fn store_or(row: &[u32], from: usize, to: usize, o: u32, at: usize, out: &mu
 pub fn store_idling(x: u32, v: u32, at: usize, out: &mut [u32]) -> usize
     requires { ⌜ (at + 5 ≤ length (now out)) × (v + 2 < 1073741824) ⌝ }
     ensures { λ r. ⌜ Holds (now (out .exit)) r (take at (now (out .entry)) ++ nodeWords (and (opp x ∷ pos v ∷ pos (v + 1) ∷ [])) (v + 2)) ⌝ }
+    ensures { λ r. ⌜ r ≡ at + 5 ⌝ }
 {
     out[at] = 3;
     out[at + 1] = x;

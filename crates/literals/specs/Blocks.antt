@@ -1,17 +1,16 @@
 -- The formula's blocks by numbers, and the whole formula.
-use Prim.Native.Nat.{ℕ, zero, suc, _+_, _-_, _*_}
+use Prim.Native.Nat.{ℕ, zero, suc, _+_}
 use mathlib.Core.Path.{_≡_, refl, sym, ap, _∙_}
 use mathlib.Core.List.{List, [], _∷_, _++_, map, flatMap, append-assoc}
 use native.Mathlib.Omega.{arith}
 use native.Mathlib.Nat.{add-zero}
-use Rattle.scope.specs.Kinds.{Event, Constraint, Atom, Y, entriesNodes, entriesMembers, entries, Counted, between, Rule, takesAt, upTo, users, groupAt, countedOf}
+use Rattle.scope.specs.Kinds.{Event, Constraint, Atom, Y, entries, Counted, between, Rule, takesAt, upTo, users, groupAt, countedOf}
 use Rattle.scope.specs.Instance.{Instance}
 use Rattle.scope.specs.Score.{layout, rules, eventCount}
 use Rattle.scope.specs.Cnf.{or, Item, gate, hard, soft, gates}
 use Rattle.scope.specs.Formula.{num, yBefore, startItems, starts, uses, durationRules, constraintRules, rulesItems, ruleItems, formula}
 use Rattle.literals.specs.Variables.{yAt}
 use Rattle.literals.specs.Numbered.{plain, numberedItems, numberOf, allNumbered, numbered, durationLists, earlier, startClauses, useGates, constraintItems, listItems, numberedFormula}
-use Rattle.literals.specs.Entries.{Adds}
 use Rattle.literals.specs.Laws.{y-literal, s-literal, takes-add, rule-items, rules-items}
 
 -- the same at each member

@@ -3,9 +3,9 @@ use Prim.Native.Nat.{ℕ, _+_}
 use mathlib.Core.Path.{_≡_, refl, sym, ap, _∙_}
 use mathlib.Core.List.{List, [], _∷_, _++_, map, flatMap, map-append, append-assoc}
 use native.Mathlib.Omega.{arith}
-use native.Mathlib.Nat.{add-zero, add-assoc}
+use native.Mathlib.Nat.{add-zero}
 use lib.ListN.{length, length-append, length-map}
-use Rattle.scope.specs.Kinds.{Atom, Ref, Node, atoms, Entry, atom, anyOf, gap, entryNodes, entryMember, added, entriesNodes, entriesMembers}
+use Rattle.scope.specs.Kinds.{Atom, atoms, Entry, atom, anyOf, gap, entryNodes, entryMember, added, entriesNodes, entriesMembers}
 use Rattle.scope.specs.Cnf.{Gate}
 use Rattle.scope.specs.Formula.{refLiteral, nodeGate}
 

@@ -1,6 +1,6 @@
 -- The literals of atoms by numbers, and the items of rules by the numbers of their lists.
-use Prim.Native.Nat.{ℕ, _+_, _-_, min}
-use mathlib.Core.Path.{_≡_, refl, ap, _∙_}
+use Prim.Native.Nat.{ℕ, _+_, min}
+use mathlib.Core.Path.{_≡_, refl, ap}
 use mathlib.Core.List.{List, [], _∷_, _++_, map}
 use native.Mathlib.Omega.{arith}
 use lib.ListN.{length, length-map}
@@ -9,7 +9,7 @@ use Rattle.scope.specs.Kinds.{Atom, Y, S, X, Listed, Counted, Rule, rule, takes
 use Rattle.scope.specs.Cnf.{Item, gate, gates}
 use Rattle.scope.specs.Formula.{refLiteral, nodeGate, countInto, countItems, boundItems, ruleItems, rulesItems}
 use Rattle.literals.specs.Variables.{baseOf, literalAt, yAt, sAt, xAt}
-use Rattle.literals.specs.Numbered.{Numbered, numberedItems, allNumbered, numberOf, numAt}
+use Rattle.literals.specs.Numbered.{numberedItems, allNumbered, numberOf, numAt}
 use Rattle.literals.specs.Entries.{Adds, adds-atoms}
 
 module _ (T : ℕ) (L : Layout) where

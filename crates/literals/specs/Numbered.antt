@@ -1,7 +1,7 @@
 -- The formula's lists by numbers: for T times and the numbering L, from the users of a resource, the times of a group and the durations.
 -- Laws and Blocks have the equations with the formula.
-use Prim.Native.Nat.{ℕ, zero, suc, _+_, _-_, _*_, min}
-use mathlib.Core.Bool.{Bool, true, false}
+use Prim.Native.Nat.{ℕ, zero, suc, _+_, min}
+use mathlib.Core.Bool.{Bool, false}
 use mathlib.Core.List.{List, [], _∷_, _++_, map, flatMap}
 use lib.ListN.{length}
 use Rattle.scope.specs.declared.Layout.{Layout}

@@ -1,5 +1,5 @@
 -- The formula of an instance that stands in tables, by numbers and the tables' rows.
-use Prim.Native.Nat.{ℕ, zero, suc, _-_, _*_, _≤_}
+use Prim.Native.Nat.{ℕ, zero, suc, _-_, _≤_}
 use mathlib.Core.Path.{_≡_, refl, sym, ap, _∙_}
 use mathlib.Core.List.{List, [], _∷_, map, flatMap, map-append}
 use native.Mathlib.Omega.{arith}

@@ -1,20 +1,12 @@
 // Refusals 7 and 8 and the sizes of a file's formula: a walk over the tables and the constraints, whose counted lists are filled
 // but not written.
 mod answer;
-mod before;
-mod limits;
-mod size;
 mod sized;
-mod walk;
 mod whole;
 
 pub use answer::sizes;
-pub use limits::within_bound;
-pub use limits::within_limit;
-pub use size::constraint_size;
 pub use sized::Bounded;
 pub use sized::Measured;
 pub use sized::measure;
 pub use sized::measure_bound;
-pub use walk::Total;
 pub use whole::whole_size;

@@ -1,17 +1,17 @@
 // A file read into tables, with the sizes of its formula: what every operation on the formula starts with.
-use crate::limits::within_bound;
-use crate::limits::within_limit;
-use crate::walk::Total;
 use crate::whole::whole_size;
 use constraint::Head;
 use instance::File;
 use instance::read;
+use parts::Total;
 use scope::FormulaSize;
 use scope::Refusal;
 use scope::refusals::BOUND_TOO_HIGH;
 use scope::refusals::TOO_MANY_VARIABLES;
 use sizing::Size;
 use sizing::blocks::stored_size;
+use sizing::limits::within_bound;
+use sizing::limits::within_limit;
 use sizing::sums::plus;
 ghost use mathlib.Core.Path.{_≡_};
 ghost use Rattle.instance.specs.Stores.{Stores};

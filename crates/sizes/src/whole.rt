@@ -1,9 +1,9 @@
 // The sizes of the formula and of its tail, for a file that was accepted.
-use crate::before::before_size;
-use crate::walk::Total;
-use crate::walk::constraints_total;
 use constraint::Head;
 use literals::fill_users;
+use parts::Total;
+use parts::before_size;
+use parts::constraints_total;
 ghost use Rattle.instance.specs.Answers.{instanceOf};
 ghost use Rattle.sizes.specs.Opened.{Opened};
 ghost use Rattle.sizes.specs.Whole.{WholeOf};

@@ -2,9 +2,7 @@
 use mathlib.Core.List.{[]}
 use Rattle.list.specs.Plain.{clash-plain}
 use Rattle.literals.specs.Filled.{usersAt, part-room, part-holds, part-within}
-use Rattle.literals.specs.Words.{holds-as}
 use native.Mathlib.Omega.{arith}
-use Prim.Native.Nat.{_+_, _*_}
 use borrow.Author.Needs.{needs}
 use Rattle.list.proofs.clash.fill_clash.Statement.{statement}
 use Rattle.list.proofs.clash.fill_clash.Tie as tie
@@ -57,7 +55,7 @@ returns c =
     let p = c .before .before .before .before .before .before .before .before .before .before .pre in
     let r = a .f .resource in
     rw (c .plain .ensures)
-    (clash-plain (a .head) (usersAt (a .users .now)) [] r (a .t) (p .1 .1 .1 .0) (holds-as (rw (part-holds (p .0) r (p .1 .0) .front)) (c .before .before .before .y-of-events .ensures)))
+    (clash-plain (a .head) (usersAt (a .users .now)) [] r (a .t) (p .1 .1 .1 .0) (rw (part-holds (p .0) r (p .1 .0) .front) at (c .before .before .before .y-of-events .ensures)))
 
 pub fill-clash-spec : {M : Type 1} → statement M
 fill-clash-spec =

@@ -1,12 +1,11 @@
 -- `list::cluster::fill_cluster` meets its contract. The loop's invariant: the nodes of the groups passed.
 use borrow.Author.Needs.{needs}
 use Rattle.list.proofs.ClusterNodes.{OrsTo, ors-none, ors-more, cluster-stored}
-use Rattle.list.proofs.Nodes.{or-end}
 use Rattle.list.specs.Ground.{ground-sizes, ground-resource, ground-group, ground-groups, leading-at}
 use Rattle.literals.specs.Tables.{groupIn}
 use Rattle.literals.specs.Variables.{literalAt}
 use Rattle.tables.specs.Rows.{rowAt}
-use lib.ListN.{length, getD, length-map}
+use lib.ListN.{length, getD}
 use native.Mathlib.Omega.{arith}
 use mathlib.Core.List.{map}
 use mathlib.Core.Path.{_≡_, refl, _∙_}
@@ -62,15 +61,12 @@ loop-less c = search needs
 loop-again : tie.Need-loop-again Inv-loop μ-loop
 loop-again c =
     let a = c .before .before .before .before .before .before .before .before .before .before .before .before .before .args in
-    let p = c .before .before .before .before .before .before .before .before .before .before .before .before .before .pre in
     let l = c .before .before .before .before .before .before .loop in
+    let b = c .before .before .before .before .before .before .before .before .base in
     let g = getD (a .list .now) (l .i) 0 in
-    let o = leading-at (a .list .now) (a .f .groups) (l .i) (ground-groups (p .0) (p .1 .0 .1)) (c .before .before .before .before .before .loop-test .taken) in
-    let ts = rowAt (a .groups .now) (g - 1) in
-    let xs = map (literalAt (c .before .before .before .before .before .before .before .before .base .result)) ts in
+    let xs = map (literalAt (b .result)) (rowAt (a .groups .now) (g - 1)) in
     let q = c .before .before .store-group .ensures in
-    let e = or-end (l .out) xs (l .at) (l .o) (omega (arith, l .inv .2, l .inv .3)) q in
-    (omega arith, omega (arith, l .inv .1), omega (arith, l .inv .2, e, length-map ts (literalAt (c .before .before .before .before .before .before .before .before .base .result)), ground-group (p .0) o .row .count), c .before .out .given ∙ l .inv .3, ors-more _ _ _ _ _ (a .v) (l .i) xs (l .inv .4) (rw (c .before .before .before .before .before .before .before .before .base .ensures .value)) (l .o) (l .inv .1) q)
+    (omega arith, omega (arith, l .inv .1), omega (arith, l .inv .2, q .1), c .before .out .given ∙ l .inv .3, ors-more _ _ _ _ _ (a .v) (l .i) xs (l .inv .4) (rw (b .ensures .value)) (l .o) (l .inv .1) (q .0))
 
 outputs-requires : tie.Need-outputs-requires Inv-loop μ-loop
 outputs-requires c κs = let l = c .before .before .loop in (omega (arith, l .inv .2, l .inv .3), omega arith)

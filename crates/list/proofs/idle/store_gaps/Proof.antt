@@ -1,7 +1,7 @@
 -- `list::idle::store_gaps` meets its contract. The loop's invariant: the nodes of the members passed.
 use borrow.Author.Needs.{needs}
-use Rattle.list.proofs.IdleNodes.{GapsTo, gaps-none, gaps-more, gap-next}
-use lib.ListN.{length, take, length-take}
+use Rattle.list.proofs.IdleNodes.{GapsTo, gaps-none, gaps-more}
+use lib.ListN.{length, take}
 use native.Mathlib.Omega.{arith}
 use mathlib.Core.Path.{_≡_, refl, _∙_}
 use Prim.Native.Nat.{_+_, _-_, _*_, _≤_}
@@ -37,15 +37,14 @@ loop-again : tie.Need-loop-again Inv-loop μ-loop
 loop-again c =
     let l = c .before .before .before .before .before .loop in
     let a = c .before .before .before .before .before .before .before .before .args in
-    let xs = take (a .n) (a .row .now) in
     let q = c .before .before .store-gap .ensures in
-    (omega arith, omega arith, omega arith, omega (arith, gap-next (l .out) xs (l .end) (l .k) (l .o) (omega arith) (omega (arith, length-take (a .n) (a .row .now))) q), c .before .out .given ∙ l .inv .4, gaps-more (take (a .at) (a .out .now)) xs (a .v) (l .k - 1) (l .inv .5) (l .k) (l .o) (omega arith) (l .inv .2) q _ (omega arith))
+    (omega arith, omega arith, omega arith, omega (arith, q .1), c .before .out .given ∙ l .inv .4, gaps-more (take (a .at) (a .out .now)) (take (a .n) (a .row .now)) (a .v) (l .k - 1) (l .inv .5) (l .k) (l .o) (omega arith) (l .inv .2) (q .0) _ (omega arith))
 
 same-length : tie.Need-same-length Inv-loop μ-loop
 same-length c = search needs
 
 returns : tie.Need-returns Inv-loop μ-loop
-returns c = let l = c .before .loop in let e : l .k - 1 ≡ c .before .before .before .before .args .n - 2 = omega arith in rw e at (l .inv .5 .holds)
+returns c = let l = c .before .loop in let e : l .k - 1 ≡ c .before .before .before .before .args .n - 2 = omega arith in (rw e at (l .inv .5 .holds), omega (arith, l .inv .3))
 
 pub store-gaps-spec : {M : Type 1} → statement M
 store-gaps-spec =

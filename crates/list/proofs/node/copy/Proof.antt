@@ -51,7 +51,7 @@ same-length : tie.Need-same-length Inv-loop μ-loop
 same-length c = search needs
 
 returns : tie.Need-returns Inv-loop μ-loop
-returns c = let l = c .before .loop in let e : l .k ≡ c .before .before .args .to = omega arith in holds-as (rw e) (l .inv .4)
+returns c = let l = c .before .loop in let e : l .k ≡ c .before .before .args .to = omega arith in (holds-as (rw e) (l .inv .4), omega (arith, l .inv .2))
 
 pub copy-spec : {M : Type 1} → statement M
 copy-spec =

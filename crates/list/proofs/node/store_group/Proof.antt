@@ -2,7 +2,7 @@
 use Rattle.list.proofs.Nodes.{or-stored, or-place}
 use Rattle.literals.specs.Variables.{literalAt}
 use Rattle.tables.specs.Rows.{rowAt}
-use lib.ListN.{length, length-set, length-map}
+use lib.ListN.{length-set, length-map}
 use native.Mathlib.Omega.{arith}
 use mathlib.Core.Path.{refl, sym, _∙_}
 use Prim.Native.Nat.{_-_}
@@ -33,7 +33,9 @@ add-group-times : tie.Need-add-group-times
 add-group-times c = search needs
 
 group-times-requires : tie.Need-group-times-requires
-group-times-requires c κs = let p = c .before .before .before .before .pre in (p .0, (p .1 .0, simp length-set (omega (arith, p .0 .row .count))))
+group-times-requires c κs =
+    let p = c .before .before .before .before .pre in
+    (p .0, (p .1 .0, simp length-set (omega (arith, p .0 .row .count))))
 
 mul-out-2 : tie.Need-mul-out-2
 mul-out-2 c = search needs
@@ -45,13 +47,19 @@ add-out-2 : tie.Need-add-out-2
 add-out-2 c = search needs
 
 mul-out-3 : tie.Need-mul-out-3
-mul-out-3 c = omega (arith, or-place (c .before .before .before .before .before .before .before .args .out .now) (c .before .before .before .before .before .before .before .args .at) (c .before .before .before .before .row-len .result) (map (literalAt (c .before .before .before .before .before .before .before .args .base)) (rowAt (c .before .before .before .before .before .before .before .args .groups .now) (c .before .before .before .before .before .before .before .args .g - 1))) (omega arith) (c .before .before .group-times .ensures), length-map (rowAt (c .before .before .before .before .before .before .before .args .groups .now) (c .before .before .before .before .before .before .before .args .g - 1)) (literalAt (c .before .before .before .before .before .before .before .args .base)), c .before .before .before .before .before .before .before .pre .0 .row .count)
+mul-out-3 c =
+    let a = c .before .before .before .before .before .before .before .args in
+    omega (arith, or-place (a .out .now) (a .at) (c .before .before .before .before .row-len .result) (map (literalAt (a .base)) (rowAt (a .groups .now) (a .g - 1))) (omega arith) (c .before .before .group-times .ensures), length-map (rowAt (a .groups .now) (a .g - 1)) (literalAt (a .base)), c .before .before .before .before .before .before .before .pre .0 .row .count)
 
 slice-write-out-2 : tie.Need-slice-write-out-2
-slice-write-out-2 c = omega (arith, or-place (c .before .before .before .before .before .before .before .args .out .now) (c .before .before .before .before .before .before .before .args .at) (c .before .before .before .before .row-len .result) (map (literalAt (c .before .before .before .before .before .before .before .args .base)) (rowAt (c .before .before .before .before .before .before .before .args .groups .now) (c .before .before .before .before .before .before .before .args .g - 1))) (omega arith) (c .before .before .group-times .ensures), length-map (rowAt (c .before .before .before .before .before .before .before .args .groups .now) (c .before .before .before .before .before .before .before .args .g - 1)) (literalAt (c .before .before .before .before .before .before .before .args .base)), c .before .before .before .before .before .before .before .pre .0 .row .count, simp length-set at (c .before .out .given))
+slice-write-out-2 c =
+    let a = c .before .before .before .before .before .before .before .args in
+    omega (arith, or-place (a .out .now) (a .at) (c .before .before .before .before .row-len .result) (map (literalAt (a .base)) (rowAt (a .groups .now) (a .g - 1))) (omega arith) (c .before .before .group-times .ensures), length-map (rowAt (a .groups .now) (a .g - 1)) (literalAt (a .base)), c .before .before .before .before .before .before .before .pre .0 .row .count, simp length-set at (c .before .out .given))
 
 add-result : tie.Need-add-result
-add-result c = omega (arith, or-place (c .before .before .before .before .before .before .before .args .out .now) (c .before .before .before .before .before .before .before .args .at) (c .before .before .before .before .row-len .result) (map (literalAt (c .before .before .before .before .before .before .before .args .base)) (rowAt (c .before .before .before .before .before .before .before .args .groups .now) (c .before .before .before .before .before .before .before .args .g - 1))) (omega arith) (c .before .before .group-times .ensures), length-map (rowAt (c .before .before .before .before .before .before .before .args .groups .now) (c .before .before .before .before .before .before .before .args .g - 1)) (literalAt (c .before .before .before .before .before .before .before .args .base)), c .before .before .before .before .before .before .before .pre .0 .row .count)
+add-result c =
+    let a = c .before .before .before .before .before .before .before .args in
+    omega (arith, or-place (a .out .now) (a .at) (c .before .before .before .before .row-len .result) (map (literalAt (a .base)) (rowAt (a .groups .now) (a .g - 1))) (omega arith) (c .before .before .group-times .ensures), length-map (rowAt (a .groups .now) (a .g - 1)) (literalAt (a .base)), c .before .before .before .before .before .before .before .pre .0 .row .count)
 
 same-length : tie.Need-same-length
 same-length c = simp length-set (simp length-set at (c .before .out .given))
@@ -59,9 +67,12 @@ same-length c = simp length-set (simp length-set at (c .before .out .given))
 returns : tie.Need-returns
 returns c =
     let a = c .before .before .before .before .before .before .before .args in
+    let p = c .before .before .before .before .before .before .before .pre in
+    let n = c .before .before .before .before .row-len in
+    let m = c .before .before .group-times in
     let ts = rowAt (a .groups .now) (a .g - 1) in
     let ys = map (literalAt (a .base)) ts in
-    or-stored (a .out .now) (a .at) (c .before .before .before .before .row-len .result) ys (omega arith) (c .before .before .before .before .row-len .ensures ∙ sym (length-map ts (literalAt (a .base)))) (c .before .before .group-times .ensures) (omega (arith, or-place (c .before .before .before .before .before .before .before .args .out .now) (c .before .before .before .before .before .before .before .args .at) (c .before .before .before .before .row-len .result) (map (literalAt (c .before .before .before .before .before .before .before .args .base)) (rowAt (c .before .before .before .before .before .before .before .args .groups .now) (c .before .before .before .before .before .before .before .args .g - 1))) (omega arith) (c .before .before .group-times .ensures), length-map (rowAt (c .before .before .before .before .before .before .before .args .groups .now) (c .before .before .before .before .before .before .before .args .g - 1)) (literalAt (c .before .before .before .before .before .before .before .args .base)), c .before .before .before .before .before .before .before .pre .0 .row .count, simp length-set at (c .before .out .given))) (a .o) _ refl
+    (or-stored (a .out .now) (a .at) (n .result) ys (omega arith) (n .ensures ∙ sym (length-map ts (literalAt (a .base)))) (m .ensures) (omega (arith, or-place (a .out .now) (a .at) (n .result) (map (literalAt (a .base)) (rowAt (a .groups .now) (a .g - 1))) (omega arith) (m .ensures), length-map (rowAt (a .groups .now) (a .g - 1)) (literalAt (a .base)), p .0 .row .count, simp length-set at (c .before .out .given))) (a .o) _ refl, omega (arith, or-place (a .out .now) (a .at) (n .result) (map (literalAt (a .base)) (rowAt (a .groups .now) (a .g - 1))) (omega arith) (m .ensures), length-map (rowAt (a .groups .now) (a .g - 1)) (literalAt (a .base)), p .0 .row .count))
 
 pub store-group-spec : {M : Type 1} → statement M
 store-group-spec =

@@ -1,6 +1,7 @@
 -- `list::node::store_idling` meets its contract.
 use Rattle.list.proofs.Nodes.{idling-stored}
 use lib.ListN.{length-set}
+use mathlib.Core.Path.{refl}
 use native.Mathlib.Omega.{arith}
 use borrow.Author.Needs.{needs}
 use Rattle.list.proofs.node.store_idling.Statement.{statement}
@@ -79,7 +80,7 @@ same-length : tie.Need-same-length
 same-length c = search needs
 
 returns : tie.Need-returns
-returns c = idling-stored (c .args .out .now) (c .args .at) (c .args .x) (c .args .v) (c .pre .0)
+returns c = (idling-stored (c .args .out .now) (c .args .at) (c .args .x) (c .args .v) (c .pre .0), refl)
 
 pub store-idling-spec : {M : Type 1} → statement M
 store-idling-spec =

@@ -1,8 +1,8 @@
 -- `list::node::store_or` meets its contract.
-use Rattle.list.proofs.Nodes.{or-stored, or-place, part-length}
-use lib.ListN.{length, length-set, take, drop}
+use Rattle.list.proofs.Nodes.{or-stored, part-length}
+use lib.ListN.{length-set, take, drop}
 use native.Mathlib.Omega.{arith}
-use mathlib.Core.Path.{refl, sym, _∙_}
+use mathlib.Core.Path.{refl, sym}
 use Prim.Native.Nat.{_-_}
 use borrow.Author.Needs.{needs}
 use Rattle.list.proofs.node.store_or.Statement.{statement}
@@ -36,13 +36,13 @@ add-out-2 : tie.Need-add-out-2
 add-out-2 c = search needs
 
 mul-out-3 : tie.Need-mul-out-3
-mul-out-3 c = omega (arith, or-place (c .before .before .before .before .before .before .args .out .now) (c .before .before .before .before .before .before .args .at) (c .before .before .before .before .before .before .args .to - c .before .before .before .before .before .before .args .from) (drop (c .before .before .before .before .before .before .args .from) (take (c .before .before .before .before .before .before .args .to) (c .before .before .before .before .before .before .args .row .now))) (omega arith) (c .before .before .copy .ensures), part-length (c .before .before .before .before .before .before .args .row .now) (c .before .before .before .before .before .before .args .from) (c .before .before .before .before .before .before .args .to) (c .before .before .before .before .before .before .pre .1 .1 .0))
+mul-out-3 c = search needs
 
 slice-write-out-2 : tie.Need-slice-write-out-2
-slice-write-out-2 c = omega (arith, or-place (c .before .before .before .before .before .before .args .out .now) (c .before .before .before .before .before .before .args .at) (c .before .before .before .before .before .before .args .to - c .before .before .before .before .before .before .args .from) (drop (c .before .before .before .before .before .before .args .from) (take (c .before .before .before .before .before .before .args .to) (c .before .before .before .before .before .before .args .row .now))) (omega arith) (c .before .before .copy .ensures), part-length (c .before .before .before .before .before .before .args .row .now) (c .before .before .before .before .before .before .args .from) (c .before .before .before .before .before .before .args .to) (c .before .before .before .before .before .before .pre .1 .1 .0), simp length-set at (c .before .out .given))
+slice-write-out-2 c = omega (arith, simp length-set at (c .before .out .given))
 
 add-result : tie.Need-add-result
-add-result c = omega (arith, or-place (c .before .before .before .before .before .before .args .out .now) (c .before .before .before .before .before .before .args .at) (c .before .before .before .before .before .before .args .to - c .before .before .before .before .before .before .args .from) (drop (c .before .before .before .before .before .before .args .from) (take (c .before .before .before .before .before .before .args .to) (c .before .before .before .before .before .before .args .row .now))) (omega arith) (c .before .before .copy .ensures), part-length (c .before .before .before .before .before .before .args .row .now) (c .before .before .before .before .before .before .args .from) (c .before .before .before .before .before .before .args .to) (c .before .before .before .before .before .before .pre .1 .1 .0))
+add-result c = search needs
 
 same-length : tie.Need-same-length
 same-length c = simp length-set (simp length-set at (c .before .out .given))
@@ -51,7 +51,9 @@ returns : tie.Need-returns
 returns c =
     let a = c .before .before .before .before .before .before .args in
     let ys = drop (a .from) (take (a .to) (a .row .now)) in
-    or-stored (a .out .now) (a .at) (a .to - a .from) ys (omega arith) (sym (part-length (c .before .before .before .before .before .before .args .row .now) (c .before .before .before .before .before .before .args .from) (c .before .before .before .before .before .before .args .to) (c .before .before .before .before .before .before .pre .1 .1 .0))) (c .before .before .copy .ensures) (omega (arith, or-place (c .before .before .before .before .before .before .args .out .now) (c .before .before .before .before .before .before .args .at) (c .before .before .before .before .before .before .args .to - c .before .before .before .before .before .before .args .from) (drop (c .before .before .before .before .before .before .args .from) (take (c .before .before .before .before .before .before .args .to) (c .before .before .before .before .before .before .args .row .now))) (omega arith) (c .before .before .copy .ensures), part-length (c .before .before .before .before .before .before .args .row .now) (c .before .before .before .before .before .before .args .from) (c .before .before .before .before .before .before .args .to) (c .before .before .before .before .before .before .pre .1 .1 .0), simp length-set at (c .before .out .given))) (a .o) _ refl
+    let e = part-length (a .row .now) (a .from) (a .to) (c .before .before .before .before .before .before .pre .1 .1 .0) in
+    let h = c .before .before .copy .ensures in
+    (or-stored (a .out .now) (a .at) (a .to - a .from) ys (omega arith) (sym e) (h .0) (omega (arith, simp length-set at (c .before .out .given))) (a .o) _ refl, omega (arith, h .1))
 
 pub store-or-spec : {M : Type 1} → statement M
 store-or-spec =

@@ -2,11 +2,8 @@
 use Rattle.list.specs.Plain.{spread-plain}
 use Rattle.list.specs.Ground.{ground-sizes, ground-group, ground-events, events-room}
 use Rattle.literals.specs.Variables.{starts-block}
-use Rattle.literals.specs.Words.{holds-as}
 use Rattle.number.specs.Lists.{leading-take}
-use lib.ListN.{length}
 use native.Mathlib.Omega.{arith}
-use Prim.Native.Nat.{_≤_}
 use borrow.Author.Needs.{needs}
 use Rattle.list.proofs.spread.fill_spread.Statement.{statement}
 use Rattle.list.proofs.spread.fill_spread.Tie as tie

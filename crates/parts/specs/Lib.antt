@@ -1,0 +1,4 @@
+pub mod Listed
+pub mod Sizable
+pub mod Before
+pub mod Walked
