@@ -1,65 +1,23 @@
--- What is known of an accepted file and its tables, for the writers: the rows, the durations, the formula by the tables.
+-- What is known of an accepted file and its tables, for the writers: the durations, and the formula by the tables.
 use mathlib.Core.Path.{_≡_, refl, _∙_}
-use mathlib.Core.List.{List, [], _∷_}
+use mathlib.Core.List.{List}
 use Prim.Native.Nat.{ℕ}
 use native.Mathlib.Omega.{arith}
 use lib.ListN.{length, take}
-use Rattle.scope.specs.Kinds.{Kind, clash, unavailable, preferred, split, spread, busy, cluster, idle}
-use Rattle.scope.specs.Instance.{Counts}
 use Rattle.scope.specs.Formula.{formula}
-use Rattle.number.specs.Each.{Each, each-none, each-more, each-map}
-use Rattle.tables.specs.Reading.{event-in, group-ascends}
+use Rattle.number.specs.Each.{each-map}
+use Rattle.tables.specs.Reading.{event-in}
 use Rattle.constraint.specs.declared.kinds.Head.{Head}
-use Rattle.constraint.specs.Valid.{OneOf, InRange}
 use Rattle.constraint.specs.Walk.{constraintsIn}
 use Rattle.instance.specs.Answers.{instanceOf}
-use Rattle.instance.specs.Laws.{Accepted, event-rows, group-rows}
-use Rattle.literals.specs.Variables.{Within}
-use Rattle.literals.specs.Proper.{ascending-within}
+use Rattle.instance.specs.Laws.{Accepted}
 use Rattle.literals.specs.Users.{usersIn}
-use Rattle.literals.specs.Filled.{EventRows}
 use Rattle.literals.specs.Numbered.{numberedFormula}
-use Rattle.literals.specs.Tables.{groupsOf, groupIn, Held, formula-tables}
-use Rattle.kinds.specs.Ground.{Ground}
+use Rattle.literals.specs.Tables.{groupIn, Held, formula-tables}
+use Rattle.fitting.specs.Known.{groups-within}
 use Rattle.blocks.specs.Durations.{Durations}
 
--- the groups that a kind refers to are there
-one-within : {n x : ℕ} → OneOf n x → Each (Within n) (x ∷ [])
-one-within o = each-more (record { low = o .low; high = o .high }) each-none
-
-pub groups-within : (n : Counts) (k : Kind) → InRange n k → Each (Within (n .groups)) (groupsOf k)
-unfolding groupsOf
-groups-within n (clash r) f = each-none
-groups-within n (unavailable r g) f = one-within (f .1)
-groups-within n (preferred e g) f = one-within (f .1)
-groups-within n (split e lo hi) f = each-none
-groups-within n (spread vs g lo hi) f = one-within (f .1)
-groups-within n (busy r g lo hi) f = one-within (f .1)
-groups-within n (cluster r hs lo hi) f = ascending-within (n .groups) (omega arith) (f .1)
-groups-within n (idle r hs lo hi) f = ascending-within (n .groups) (omega arith) (f .1)
-
 module _ {s d te tg : List ℕ} {h : Head} (a : Accepted s d te tg h) where
-  pub known-groups : length tg ≡ 258048 → Ground tg h
-  known-groups l =
-      record {
-        times = a .sizes .times-high;
-        events = a .sizes .events-high;
-        resources = omega (arith, a .sizes .resources-high);
-        numbers = omega (arith, a .groups-high);
-        rows = group-rows a l;
-        ascends = λ g k. group-ascends tg (h .groups) g (a .groups) k;
-      }
-
-  -- the table of users can be filled
-  pub known-rows : length te ≡ 129024 → EventRows te (h .events)
-  known-rows l =
-      record {
-        most = h .resources;
-        few = a .sizes .resources-high;
-        rows = event-rows a l;
-        ascends = λ e k. event-in d te (h .events) e (a .events) k .ascending;
-      }
-
   pub known-durations : length d ≡ 1024 → Durations d (h .events) (h .times)
   known-durations l =
       record {

@@ -3,6 +3,5 @@ pub mod Position
 pub mod Before
 pub mod Blocks
 pub mod Known
-pub mod Fitting
 pub mod Walked
 pub mod Whole

@@ -20,10 +20,10 @@ use Rattle.literals.specs.Users.{usersIn}
 use Rattle.literals.specs.Filled.{Filled, usersAt}
 use Rattle.literals.specs.Numbered.{constraintItems}
 use Rattle.literals.specs.Tables.{groupIn}
-use Rattle.kinds.specs.Ground.{layoutOf}
+use Rattle.list.specs.Ground.{layoutOf}
+use Rattle.fitting.specs.Fitting.{known-fits}
 use Rattle.items.specs.Written.{Room, Wrote, Left, room-first, room-same, left-start, left-turn, left-end, left-room}
 use Rattle.rules.specs.Fits.{Fits, constraintPart}
-use Rattle.clauses.specs.Fitting.{known-fits}
 
 -- the items of some constraints, from the variable v on
 abbrev pub itemsOf : (users groups : List ℕ) → Head → List Constraint → ℕ → List Item
@@ -84,7 +84,7 @@ module _ {f : Line → World → World} {s us tg list : List ℕ} {h : Head} {fi
     module _ {next : ℕ} {c : Constraint} (n : NextOf (k .accepted) i next c) where
       -- its writer can be called
       pub part-fits : Fits us tg list h (c .kind)
-      part-fits = known-fits (k .accepted) (k .filled) (k .groups-long) (k .list-long) (n .valid)
+      part-fits = known-fits (k .accepted) (k .filled) (n .valid) (k .groups-long) (k .list-long)
 
       pub part-room : Room v (constraintPart us tg h (c .kind) (c .weight) v)
       part-room =

@@ -1,7 +1,7 @@
 -- The whole formula: its blocks and its constraints, each with room for its variables, are its lines.
 use mathlib.Core.Path.{_≡_, ap, _∙_, fun-ext}
 use mathlib.Core.List.{List, _++_}
-use Prim.Native.Nat.{ℕ, _+_, _*_}
+use Prim.Native.Nat.{ℕ, _+_}
 use native.Mathlib.Omega.{arith}
 use lib.ListN.{take}
 use Rattle.scope.specs.Cnf.{Item, gates}
@@ -16,7 +16,7 @@ use Rattle.sink.specs.World.{World}
 use Rattle.literals.specs.Users.{usersIn}
 use Rattle.literals.specs.Filled.{Filled, usersAt, filled-users, filled-rows}
 use Rattle.literals.specs.Tables.{groupIn}
-use Rattle.kinds.specs.Ground.{layoutOf}
+use Rattle.list.specs.Ground.{layoutOf}
 use Rattle.items.specs.Written.{Room, Wrote, room-first, room-rest}
 use Rattle.clauses.specs.Writable.{Writable, formulaLines}
 use Rattle.clauses.specs.Before.{formula-parts}

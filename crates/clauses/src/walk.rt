@@ -31,6 +31,7 @@ pub fn write_constraints(
         (lines first (itemsOf (now (users .entry)) (now (groups .entry)) head (constraintsIn head (now (file .entry))) first))
         (world s (now (text .entry)) (now (words .entry))) (world r (now (text .exit)) (now (words .exit))) ⌝ }
 {
+    let mut store = [0u32; 65536];
     let mut z = s;
     let mut v = first;
     let mut next = head.start;
@@ -40,7 +41,20 @@ pub fn write_constraints(
         let Next::Read(c, after) = x else {
             return z;
         };
-        let w = write_constraint(job, model, text, words, z, c, head, users, groups, list, v);
+        let w = write_constraint(
+            job,
+            model,
+            text,
+            words,
+            z,
+            c,
+            head,
+            users,
+            groups,
+            list,
+            v,
+            &mut store,
+        );
         z = w.sink;
         v = w.next;
         next = after;

@@ -8,7 +8,6 @@ use Rattle.literals.specs.Variables.{starts-block}
 use Rattle.literals.specs.Filled.{usersAt}
 use Rattle.clauses.specs.Before.{blocks-wrote}
 use Rattle.clauses.specs.Blocks.{begun-sizes, begun-uses, begun-durations}
-use borrow.Author.Needs.{needs}
 use Rattle.clauses.proofs.before.write_before.Statement.{statement}
 use Rattle.clauses.proofs.before.write_before.Tie as tie
 

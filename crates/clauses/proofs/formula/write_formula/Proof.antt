@@ -3,7 +3,7 @@ use Prim.Native.Nat.{ℕ}
 use lib.ListN.{length-replicate}
 use Rattle.instance.specs.Ready.{zeros}
 use Rattle.clauses.specs.Position.{ran-placed}
-use Rattle.clauses.specs.Known.{known-rows}
+use Rattle.fitting.specs.Known.{known-rows}
 use Rattle.clauses.specs.Whole.{whole-begun, whole-walkable, whole-ran}
 use borrow.Author.Needs.{needs}
 use Rattle.clauses.proofs.formula.write_formula.Statement.{statement}

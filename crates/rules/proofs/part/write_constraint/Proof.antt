@@ -15,7 +15,7 @@ lesser-requires-2 c κs = search needs
 
 sub-placed : tie.Need-sub-placed
 sub-placed c =
-    omega (arith, base-within (c .before .before .before .before .before .before .before .before .before .before .args .job .mode) (c .before .before .before .before .before .before .before .before .before .before .args .s .at))
+    omega (arith, base-within (c .before .before .before .before .before .before .before .before .before .before .before .args .job .mode) (c .before .before .before .before .before .before .before .before .before .before .before .args .s .at))
 
 placed-requires : tie.Need-placed-requires
 placed-requires c κs = search needs
@@ -41,9 +41,6 @@ part-write-lists-start-2 c = search needs
 part-write-lists-end-2 : tie.Need-part-write-lists-end-2
 part-write-lists-end-2 c = search needs
 
-slice-aggregate-write-lists : tie.Need-slice-aggregate-write-lists
-slice-aggregate-write-lists c = search needs
-
 write-lists-requires : tie.Need-write-lists-requires
 write-lists-requires c κs = search needs
 
@@ -59,19 +56,22 @@ same-length c = search needs
 same-length-2 : tie.Need-same-length-2
 same-length-2 c = search needs
 
+same-length-3 : tie.Need-same-length-3
+same-length-3 c = search needs
+
 returns : tie.Need-returns
 returns c =
-    let a = c .before .before .before .before .before .before .before .before .before .before .before .before .before .before .before .before .before .before .before .before .before .before .before .args in
-    let p = c .before .before .before .before .before .before .before .before .before .before .before .before .before .before .before .before .part-base in
-    let l = c .before .before .before .before .before .before .before .before .write-lists .last in
-    let w = c .before .before .before .before .before .before .before .before .write-lists .ensures in
-    let t = c .before .before .before .before .before .before .before .before .before .before .before .before .before .before .before .lesser .ensures in
-    let u = c .before .before .before .before .before .before .before .before .before .before .before .before .before .before .lesser2 .ensures in (
+    let a = c .before .before .before .before .before .before .before .before .before .before .before .before .before .before .before .before .before .before .before .before .before .before .before .before .before .args in
+    let p = c .before .before .before .before .before .before .before .before .before .before .before .before .before .before .before .before .before .part-base in
+    let l = c .before .before .before .before .before .before .before .before .before .write-lists .last in
+    let w = c .before .before .before .before .before .before .before .before .before .write-lists .ensures in
+    let t = c .before .before .before .before .before .before .before .before .before .before .before .before .before .before .before .before .lesser .ensures in
+    let u = c .before .before .before .before .before .before .before .before .before .before .before .before .before .before .before .lesser2 .ensures in (
       rw (c .placed2 .ensures)
           (record {
             ran =
-                lent (a .job) _ _ (a .s) _ (a .text .now) (a .words .now) _ _ (p .result) _ _ _ (omega (arith, c .before .before .before .before .before .before .before .before .before .before .before .before .before .before .before .before .before .before .before .before .before .before .before)) (omega (arith, c .before .before .before .before .before .before .before .before .before .before .before .before .before .before .before .before .before .before .before .before .before .before .before)) (c .before .before .before .before .before .before .before .before .before .before .before .before .before .before .before .before .before .before .before .before .before .before .before .pre .1) (p .ensures) t u (c .before .advance .ensures)
-                (rw (c .before .before .before .before .before .before .before .before .before .before .before .before .placed .ensures) at (w .ran));
+                lent (a .job) _ _ (a .s) _ (a .text .now) (a .words .now) _ _ (p .result) _ _ _ (omega (arith, c .before .before .before .before .before .before .before .before .before .before .before .before .before .before .before .before .before .before .before .before .before .before .before .before .before)) (omega (arith, c .before .before .before .before .before .before .before .before .before .before .before .before .before .before .before .before .before .before .before .before .before .before .before .before .before)) (c .before .before .before .before .before .before .before .before .before .before .before .before .before .before .before .before .before .before .before .before .before .before .before .before .before .pre .1 .0) (p .ensures) t u (c .before .advance .ensures)
+                (rw (c .before .before .before .before .before .before .before .before .before .before .before .before .before .placed .ensures) at (w .ran));
             next = w .next;
           }),
       (lent-before (p .result) _ (a .text .now) _ (l .1 .1 .0) (p .ensures) t, lent-before (p .result) _ (a .words .now) _ (l .1 .1 .1 .0) (p .ensures) u),
@@ -93,10 +93,10 @@ write-constraint-spec =
     sub-write-lists-2
     part-write-lists-start-2
     part-write-lists-end-2
-    slice-aggregate-write-lists
     write-lists-requires
     advance-requires
     placed-requires-2
     same-length
     same-length-2
+    same-length-3
     returns)
