@@ -5,7 +5,7 @@
  * refusal's number, two numbers of the answer (for a text its length and a
  * checksum), the microseconds of the fastest time, the bytes of output and
  * stores, and the most bytes that the process held. Each time the instance
- * file is read anew.
+ * file is read anew. All times are the process's own time on a processor.
  */
 #define _POSIX_C_SOURCE 199309L
 #include "plain.h"
@@ -42,7 +42,7 @@ static struct bytes load(const char *name)
 static double now(void)
 {
     struct timespec t;
-    clock_gettime(CLOCK_MONOTONIC, &t);
+    clock_gettime(CLOCK_PROCESS_CPUTIME_ID, &t);
     return (double)t.tv_sec * 1e6 + (double)t.tv_nsec / 1e3;
 }
 
@@ -173,12 +173,17 @@ int main(int count, char **words)
         t.other = load(words[count - 1]);
     in.store = malloc(sizeof(uint16_t) * (2 * t.file.length + 1));
     lend(&t);
+    double begin = now();
     int bad = once(&t);
-    double fastest = 1e18, begin = now(), turn = atof(words[2]) * 1e3;
+    /* Short calls are timed several at once: a look at the clock takes time too. */
+    double first = now() - begin, fastest = 1e18, turn = atof(words[2]) * 1e3;
+    int batch = first < 100 ? 1 + (int)(100 / (first + 1)) : 1;
+    begin = now();
     do {
         double start = now();
-        bad = once(&t);
-        double took = now() - start;
+        for (int i = 0; i < batch; i++)
+            bad = once(&t);
+        double took = (now() - start) / batch;
         if (took < fastest)
             fastest = took;
     } while (now() - begin < turn);

@@ -24,8 +24,7 @@ pub fn table(bench: &Bench) {
     let lessons = bench.scale.learned[0];
     let school = generated(lessons);
     let clauses = Clauses::of(&school.instance, BOUND);
-    let count = (bench.scale.hints / 8).min(clauses.count());
-    let copies = second_copies(&mut Random::new(2), &clauses, count);
+    let copies = second_copies(&mut Random::new(2), &clauses, clauses.count() / 2);
     rows(bench, "copies", &school.file, &copies);
     let (file, steps) = learned_proof(lessons, bench.scale.hints);
     rows(bench, "learned", &file, &steps);
@@ -38,15 +37,6 @@ fn rows(bench: &Bench, name: &str, file: &[u8], steps: &[Step]) {
         .expect("an accepted file")
         .clauses;
     let formula = clauses as u32;
-    let mut random = Random::new(3);
-    let mut irregular = vec![formula];
-    for at in 0..steps.len() {
-        irregular.push(irregular[at] + 1 + random.below(10) as u32);
-    }
-    let sparse = |id: u32| match id.checked_sub(formula) {
-        Some(added) => irregular[added as usize],
-        None => id,
-    };
     let proofs = [
         ("no gap", steps.to_vec()),
         (
@@ -57,7 +47,7 @@ fn rows(bench: &Bench, name: &str, file: &[u8], steps: &[Step]) {
             "every second skipped",
             with_gaps(clauses as usize, steps, 1),
         ),
-        ("up to nine skipped", renumbered(steps, sparse)),
+        ("up to nine skipped", sparse(clauses as usize, steps)),
     ];
     let number = BOUND.to_string();
     let measured = proofs.map(|(ids, steps)| {
@@ -67,4 +57,17 @@ fn rows(bench: &Bench, name: &str, file: &[u8], steps: &[Step]) {
     for row in &measured {
         println!("{}", row.against(&measured[0]));
     }
+}
+
+/// The steps with none to nine ids skipped before each.
+pub fn sparse(formula: usize, steps: &[Step]) -> Vec<Step> {
+    let mut random = Random::new(3);
+    let mut ids = vec![formula as u32];
+    for at in 0..steps.len() {
+        ids.push(ids[at] + 1 + random.below(10) as u32);
+    }
+    renumbered(steps, |id| match id.checked_sub(ids[0]) {
+        Some(added) => ids[added as usize],
+        None => id,
+    })
 }

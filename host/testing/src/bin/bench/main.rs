@@ -4,11 +4,12 @@
 //!
 //! `cargo run --release --offline --bin bench` prints the tables of
 //! docs/BENCHMARKS.md; with `-- --short` the same on small inputs. Each time is
-//! that of the fastest call of several turns, in which the sides alternate, so
-//! that a busy machine disturbs all alike. Each turn is a process of its own:
-//! `tests/c/plain`, compiled by `cc -O2`, or this program as `bench engine` or
-//! `bench reference` with the same arguments.
+//! the time on a processor of the fastest call of several turns, in which the
+//! sides alternate, so that a busy machine disturbs all alike. Each turn is a
+//! process of its own: `tests/c/plain`, compiled by `cc -O2`, or this program as
+//! `bench engine` or `bench reference` with the same arguments.
 
+mod clock;
 mod gaps;
 mod job;
 mod proofs;
@@ -77,7 +78,7 @@ fn main() -> ExitCode {
     let words: Vec<String> = std::env::args().skip(1).collect();
     let (turns, scale) = match words.first().map(String::as_str) {
         None => (7, WHOLE),
-        Some("--short") => (1, SHORT),
+        Some("--short") => (3, SHORT),
         Some("engine") => return done(Side::Engine, &words[1..]),
         Some("reference") => return done(Side::Reference, &words[1..]),
         Some(_) => {

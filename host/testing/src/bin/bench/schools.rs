@@ -12,7 +12,16 @@ use timetable::engine;
 
 /// The bound of checks of generated schools.
 pub const BOUND: u64 = 10;
-const JOBS: [&str; 5] = ["read", "score", "text", "decode", "check"];
+const JOBS: [(&str, &str); 6] = [
+    ("read", "byte of input"),
+    ("score", "byte of input"),
+    ("text", "byte of text"),
+    ("decode", "variable"),
+    ("check", "clause of formula and proof"),
+    (EMPTY, "clause of formula"),
+];
+/// A check of the empty proof, which takes what the formula takes.
+const EMPTY: &str = "check, empty proof";
 
 pub struct School {
     pub lessons: usize,
@@ -47,6 +56,7 @@ pub fn tables(bench: &Bench) {
     let mut all = small_operations(bench, &schools);
     all.extend(formulas(bench, &schools));
     all.extend(checks(bench, &schools));
+    all.extend(empty_proofs(bench, &schools));
     ors(bench);
     learned(bench);
     growth(&all);
@@ -149,22 +159,30 @@ fn checks(bench: &Bench, schools: &[School]) -> Vec<Measured> {
     let toy = include_bytes!("../../../../schools/toy.proof");
     let small = include_bytes!("../../../../schools/small.proof");
     let mut all = vec![
-        check(bench, &schools[0], 3, toy),
-        check(bench, &schools[1], 10, small),
+        check(bench, &schools[0], "check", 3, toy),
+        check(bench, &schools[1], "check", 10, small),
     ];
     for school in &schools[2..] {
         if school.lessons <= bench.scale.most_checked {
             let proof = copies(&Clauses::of(&school.instance, BOUND));
-            all.push(check(bench, school, BOUND, &proof));
+            all.push(check(bench, school, "check", BOUND, &proof));
         }
     }
     all
 }
 
-fn check(bench: &Bench, school: &School, bound: u64, proof: &[u8]) -> Measured {
+fn empty_proofs(bench: &Bench, schools: &[School]) -> Vec<Measured> {
+    let fits = |school: &&School| engine::sizes(&school.file, BOUND).is_ok();
+    let schools = schools.iter().filter(fits);
+    schools
+        .map(|school| check(bench, school, EMPTY, BOUND, &[]))
+        .collect()
+}
+
+fn check(bench: &Bench, school: &School, job: &'static str, bound: u64, proof: &[u8]) -> Measured {
     let number = bound.to_string();
     let inputs: [&[u8]; 3] = [&school.file, number.as_bytes(), proof];
-    let row = bench.row("check", school.name(), &inputs, true);
+    let row = bench.row(job, school.name(), &inputs, true);
     let clauses = engine::sizes(&school.file, bound)
         .expect("an accepted file")
         .clauses;
@@ -234,13 +252,7 @@ fn growth(all: &[Measured]) {
     let mut columns = vec!["operation", "nanoseconds for each"];
     columns.extend(names.iter().map(String::as_str));
     head("Growth", "The engine's times of the table above.", &columns);
-    for job in JOBS {
-        let each = match job {
-            "read" | "score" => "byte of input",
-            "text" => "byte of text",
-            "decode" => "variable",
-            _ => "clause of formula and proof",
-        };
+    for (job, each) in JOBS {
         let cell = |&count: &usize| {
             let same =
                 |one: &&Measured| one.generated && one.lessons == count && one.row.job == job;
@@ -258,7 +270,8 @@ fn growth(all: &[Measured]) {
 fn memory(all: &[Measured]) {
     let said = "Output and stores are what the engine was lent. A process holds its inputs too.";
     head("Memory", said, &MEMORY);
-    for measured in all.iter().filter(|measured| measured.generated) {
+    let lent = |measured: &&Measured| measured.generated && measured.row.engine().lent > 0;
+    for measured in all.iter().filter(lent) {
         println!("{}", measured.row.memory());
     }
 }

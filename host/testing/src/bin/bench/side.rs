@@ -79,8 +79,10 @@ impl Sides {
 
     /// The fastest run of each side, which take turns. All must answer alike,
     /// with acceptance or, for a proof without the empty clause, with 18.
+    /// A job's name may say more after a comma.
     pub fn compare(&self, job: &str, inputs: &[&[u8]], sides: &[Side]) -> Vec<Run> {
         let arguments = self.written(inputs);
+        let job = job.split(',').next().unwrap_or(job);
         let mut best: Vec<Run> = Vec::new();
         for turn in 0..self.turns {
             for (index, &side) in sides.iter().enumerate() {

@@ -1,11 +1,13 @@
 //! The worst inputs that are accepted.
 
-use crate::proofs::{long_clauses, Clauses};
+use crate::gaps::sparse;
+use crate::proofs::{long_clauses, second_copies, Clauses};
 use crate::schools::{generated, BOUND};
 use crate::table::{grouped, head, MEMORY};
 use crate::Bench;
 use testing::generate::{encode, idle_limits, long_tail, many_variables, model, Random};
 use testing::reference::{Instance, LARGEST_BOUND, LARGEST_FORMULA};
+use testing::steps::encode_steps;
 use timetable::engine;
 
 /// Constraints of the longest file.
@@ -15,9 +17,9 @@ const MOST_CONSTRAINTS: usize = 4_096;
 pub fn table(bench: &Bench) {
     let part = bench.scale.part;
     let said = match part {
-        1 => "Checks are of the empty proof, but for those of long clauses.".to_string(),
-        _ => format!("Inputs of a {part}th of their size. Checks are of the empty proof."),
-    };
+        1 => String::new(),
+        _ => format!("Inputs of a {part}th of their size. "),
+    } + "A check is of the empty proof where nothing else is said.";
     head("Worst accepted inputs", &said, &MEMORY);
     let mut random = Random::new(1);
     let idle = idle_limits(&mut random, MOST_CONSTRAINTS / part);
@@ -25,6 +27,15 @@ pub fn table(bench: &Bench) {
     let variables = LARGEST_FORMULA / part as u64;
     let many = many_variables(&mut random, variables);
     all_jobs(bench, "counters", &many, BOUND);
+    let clauses = Clauses::of(&many.0, BOUND);
+    let steps = second_copies(&mut random, &clauses, 500_000 / part);
+    let proof = encode_steps(&sparse(clauses.count(), &steps));
+    drop(clauses);
+    let name = format!(
+        "the same, {} hints, up to nine ids skipped",
+        grouped(steps.len() as u64)
+    );
+    check(bench, &name, &encode(&many.0), BOUND, &proof);
     let (tail, _) = long_tail(&mut random, LARGEST_BOUND, variables);
     check(bench, "tail at 4,095", &encode(&tail), LARGEST_BOUND, &[]);
     let lessons = bench.scale.learned[0];
