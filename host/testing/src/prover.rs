@@ -1,6 +1,7 @@
 //! A small prover: conflict-driven search that finds a model of clauses, or
 //! emits a refutation as steps of a bound proof.
 
+use crate::generate::Random;
 use crate::reference::{walk, walk_with_tail, Instance, Literal, Sink};
 use crate::steps::Step;
 
@@ -34,35 +35,15 @@ pub enum Verdict {
 
 /// Finds a model of `clauses` or refutes them. The clause at index i has id i + 1.
 pub fn solve(variables: usize, clauses: &[Vec<Literal>]) -> Verdict {
-    let mut search = Search {
-        clauses: Vec::new(),
-        occurrences: vec![Vec::new(); 2 * (variables + 1)],
-        holds: vec![None; variables + 1],
-        levels: vec![0; variables + 1],
-        reasons: vec![None; variables + 1],
-        trail: Vec::new(),
-        decisions: Vec::new(),
-        propagated: 0,
-    };
-    let mut conflict = None;
-    for clause in clauses {
-        conflict = conflict.or(search.add(clause.clone()));
-    }
+    let (mut search, mut conflict) = Search::of(variables, clauses);
     let mut steps = Vec::new();
     loop {
         match conflict.take().or_else(|| search.propagate()) {
             Some(index) => {
-                let learned = search.analyze(index);
-                steps.push(Step::Add {
-                    id: search.clauses.len() as u32 + 1,
-                    literals: learned.literals.clone(),
-                    hints: learned.hints,
-                });
-                if learned.literals.is_empty() {
+                conflict = search.learn(index, &mut steps);
+                if search.refuted {
                     return Verdict::Refutation(steps);
                 }
-                search.backtrack(learned.level);
-                conflict = search.add(learned.literals);
             }
             None => match (1..=variables).find(|&v| search.holds[v].is_none()) {
                 Some(variable) => search.decide(Literal::positive(variable as u32)),
@@ -73,6 +54,39 @@ pub fn solve(variables: usize, clauses: &[Vec<Literal>]) -> Verdict {
             },
         }
     }
+}
+
+/// The clauses that a search learns which decides the first `decided` variables
+/// at random, until they have so many hints or one is empty.
+pub fn lemmas(
+    random: &mut Random,
+    [variables, decided]: [usize; 2],
+    clauses: &[Vec<Literal>],
+    hints: usize,
+) -> Vec<Step> {
+    let (mut search, mut conflict) = Search::of(variables, clauses);
+    let mut steps = Vec::new();
+    let mut given = 0;
+    while given < hints && !search.refuted {
+        if let Some(index) = conflict.take().or_else(|| search.propagate()) {
+            conflict = search.learn(index, &mut steps);
+            given += steps.last().map_or(0, |step| step.hints().len());
+            continue;
+        }
+        let from = random.below(decided);
+        let all = (0..decided).map(|at| 1 + (from + at) % decided);
+        match all
+            .chain(1..=variables)
+            .find(|&v| search.holds[v].is_none())
+        {
+            Some(variable) => {
+                let literal = Literal::positive(variable as u32);
+                search.decide(if random.chance(50) { literal } else { !literal });
+            }
+            None => search.backtrack(0), // a model
+        }
+    }
+    steps
 }
 
 /// The state of the search. Arrays over variables have an unused entry 0.
@@ -88,6 +102,8 @@ struct Search {
     /// The length of the trail before each decision.
     decisions: Vec<usize>,
     propagated: usize,
+    /// Whether the empty clause was learned.
+    refuted: bool,
 }
 
 struct Learned {
@@ -98,6 +114,43 @@ struct Learned {
 }
 
 impl Search {
+    /// A search over `clauses`, with the index of a false one if there is one.
+    fn of(variables: usize, clauses: &[Vec<Literal>]) -> (Search, Option<usize>) {
+        let mut search = Search {
+            clauses: Vec::new(),
+            occurrences: vec![Vec::new(); 2 * (variables + 1)],
+            holds: vec![None; variables + 1],
+            levels: vec![0; variables + 1],
+            reasons: vec![None; variables + 1],
+            trail: Vec::new(),
+            decisions: Vec::new(),
+            propagated: 0,
+            refuted: false,
+        };
+        let mut conflict = None;
+        for clause in clauses {
+            conflict = conflict.or(search.add(clause.clone()));
+        }
+        (search, conflict)
+    }
+
+    /// Learns a clause from the false one at `index`. Gives the new clause's
+    /// index if it is false too.
+    fn learn(&mut self, index: usize, steps: &mut Vec<Step>) -> Option<usize> {
+        let learned = self.analyze(index);
+        steps.push(Step::Add {
+            id: self.clauses.len() as u32 + 1,
+            literals: learned.literals.clone(),
+            hints: learned.hints,
+        });
+        self.refuted = learned.literals.is_empty();
+        if self.refuted {
+            return None;
+        }
+        self.backtrack(learned.level);
+        self.add(learned.literals)
+    }
+
     fn value(&self, literal: Literal) -> Option<bool> {
         self.holds[literal.variable() as usize].map(|value| value != literal.is_negated())
     }

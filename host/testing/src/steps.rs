@@ -16,7 +16,7 @@ pub enum Step {
 }
 
 impl Step {
-    fn hints(&self) -> &[u32] {
+    pub fn hints(&self) -> &[u32] {
         match self {
             Step::Add { hints, .. } => hints,
             Step::Delete { .. } => &[],
@@ -89,8 +89,12 @@ pub fn with_deletions(formula: usize, steps: &[Step]) -> Vec<Step> {
 /// The refutation with `gap` unused ids before each added clause.
 pub fn with_gaps(formula: usize, steps: &[Step], gap: u32) -> Vec<Step> {
     let formula = formula as u32;
-    let spread = |id: u32| id + id.saturating_sub(formula) * gap;
-    let all = |ids: &[u32]| ids.iter().map(|&id| spread(id)).collect();
+    renumbered(steps, |id| id + id.saturating_sub(formula) * gap)
+}
+
+/// The steps with other ids.
+pub fn renumbered(steps: &[Step], number: impl Fn(u32) -> u32) -> Vec<Step> {
+    let all = |ids: &[u32]| ids.iter().map(|&id| number(id)).collect();
     steps
         .iter()
         .map(|step| match step {
@@ -99,7 +103,7 @@ pub fn with_gaps(formula: usize, steps: &[Step], gap: u32) -> Vec<Step> {
                 literals,
                 hints,
             } => Step::Add {
-                id: spread(*id),
+                id: number(*id),
                 literals: literals.clone(),
                 hints: all(hints),
             },

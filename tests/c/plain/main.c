@@ -1,9 +1,11 @@
 /*
  * plain JOB MILLISECONDS INSTANCE [TABLE | MODEL | BOUND PROOF]
  *
- * Does a job again and again for so long, three times at least, and prints the refusal's number, two
- * numbers of the answer (for a text its length and a checksum), and the
- * microseconds of the fastest time. Each time the instance file is read anew.
+ * Does a job once untimed, then again and again for so long, and prints the
+ * refusal's number, two numbers of the answer (for a text its length and a
+ * checksum), the microseconds of the fastest time, the bytes of output and
+ * stores, and the most bytes that the process held. Each time the instance
+ * file is read anew. All times are the process's own time on a processor.
  */
 #define _POSIX_C_SOURCE 199309L
 #include "plain.h"
@@ -40,7 +42,7 @@ static struct bytes load(const char *name)
 static double now(void)
 {
     struct timespec t;
-    clock_gettime(CLOCK_MONOTONIC, &t);
+    clock_gettime(CLOCK_PROCESS_CPUTIME_ID, &t);
     return (double)t.tv_sec * 1e6 + (double)t.tv_nsec / 1e3;
 }
 
@@ -61,10 +63,37 @@ struct task {
     uint8_t *out;
     size_t room;
     struct stores stores;
+    uint64_t lent;
     uint64_t answer[2];
 };
 
 static struct instance in;
+
+/* Memory that counts as lent. */
+static void *lent(struct task *t, uint64_t bytes)
+{
+    void *p = calloc(bytes, 1);
+    if (!p) {
+        perror("plain");
+        exit(2);
+    }
+    t->lent += bytes;
+    return p;
+}
+
+/* The most bytes that this process held. */
+static uint64_t peak(void)
+{
+    char line[256];
+    unsigned long long kilobytes = 0;
+    FILE *f = fopen("/proc/self/status", "r");
+    while (f && fgets(line, sizeof line, f))
+        if (sscanf(line, "VmHWM: %llu kB", &kilobytes) == 1)
+            break;
+    if (f)
+        fclose(f);
+    return 1024 * kilobytes;
+}
 
 static int once(struct task *t)
 {
@@ -87,6 +116,29 @@ static int once(struct task *t)
     return 0;
 }
 
+/* How many literals and clauses a proof adds: read as steps, without judging them. */
+static void room(struct bytes proof, uint64_t *words, uint64_t *rows)
+{
+    size_t at = 0;
+    while (at < proof.length) {
+        int lists = proof.at[at++] == 'a' ? 2 : 1;
+        uint64_t numbers = 0;
+        for (int list = 0; list < lists; list++) {
+            int id = lists == 2 && !list;
+            while (at < proof.length && (id || proof.at[at])) {
+                while (at < proof.length && proof.at[at] >= 128)
+                    at++;
+                at++;
+                numbers += lists == 2 && !list && !id;
+                id = 0;
+            }
+            at++;
+        }
+        *words += numbers;
+        *rows += numbers > 0;
+    }
+}
+
 /* Room for the text, or for the clauses and two bytes a variable. */
 static void lend(struct task *t)
 {
@@ -95,16 +147,18 @@ static void lend(struct task *t)
     struct sizes s = sizes_of(&in);
     uint64_t columns = t->bound + 1;
     if (!strcmp(t->job, "text")) {
-        t->room = 64 + 72 * (s.clauses + s.units);
-        t->out = malloc(t->room);
-        memset(t->out, 0, t->room);
+        /* A weight has at most 10 digits, a literal 9 bytes; the last line may ask for 12 bytes a literal. */
+        t->room = 64 + 13 * (s.clauses + s.units) + 9 * (s.words + s.units) + 16 * MOST_EVENTS;
+        t->out = lent(t, t->room);
     }
     if (!strcmp(t->job, "check")) {
-        uint64_t variables = s.variables + s.units * columns, clauses = s.clauses + 4 * s.units * columns + 1;
-        t->stores.words = malloc(sizeof(uint32_t) * (3 * clauses + 1026 * 128 + t->other.length));
-        t->stores.rows = malloc(sizeof(struct row) * (clauses + t->other.length / 3 + 1));
-        t->stores.falsified = calloc(2, variables + 1);
-        t->stores.trail = malloc(sizeof(uint32_t) * (variables + 1));
+        uint64_t variables = s.variables + s.units * columns;
+        uint64_t clauses = s.clauses + 4 * s.units * columns + 1, words = s.words + 11 * s.units * columns + 1;
+        room(t->other, &words, &clauses);
+        t->stores.words = lent(t, sizeof(uint32_t) * words);
+        t->stores.rows = lent(t, sizeof(struct row) * clauses);
+        t->stores.falsified = lent(t, 2 * (variables + 1));
+        t->stores.trail = lent(t, sizeof(uint32_t) * (variables + 1));
     }
 }
 
@@ -112,24 +166,30 @@ int main(int count, char **words)
 {
     if (count < 4)
         return 2;
-    struct task t = {words[1], load(words[3]), {0, 0}, 0, 0, 0, {0, 0, 0, 0}, {0, 0}};
+    struct task t = {.job = words[1], .file = load(words[3])};
     if (count > 5)
         t.bound = (uint32_t)strtoul(words[4], 0, 10);
     if (count > 4)
         t.other = load(words[count - 1]);
     in.store = malloc(sizeof(uint16_t) * (2 * t.file.length + 1));
     lend(&t);
-    double fastest = 1e18, begin = now(), turn = atof(words[2]) * 1e3;
-    int bad, calls = 0;
+    double begin = now();
+    int bad = once(&t);
+    /* Short calls are timed several at once: a look at the clock takes time too. */
+    double first = now() - begin, fastest = 1e18, turn = atof(words[2]) * 1e3;
+    int batch = first < 100 ? 1 + (int)(100 / (first + 1)) : 1;
+    begin = now();
     do {
         double start = now();
-        bad = once(&t);
-        double took = now() - start;
+        for (int i = 0; i < batch; i++)
+            bad = once(&t);
+        double took = (now() - start) / batch;
         if (took < fastest)
             fastest = took;
-    } while (++calls < 3 || now() - begin < turn);
+    } while (now() - begin < turn);
     if (t.out)
         t.answer[1] = checksum(t.out, t.answer[0]);
-    printf("%d %llu %llu %.3f\n", bad, (unsigned long long)t.answer[0], (unsigned long long)t.answer[1], fastest);
+    printf("%d %llu %llu %.3f %llu %llu\n", bad, (unsigned long long)t.answer[0], (unsigned long long)t.answer[1], fastest,
+        (unsigned long long)t.lent, (unsigned long long)peak());
     return 0;
 }

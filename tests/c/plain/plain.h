@@ -33,9 +33,9 @@ struct instance {
     uint16_t *store;
 };
 
-/* Variables and clauses without the tail, the soft units, and 1 + their weights. */
+/* Variables, clauses and their literals without the tail, the soft units, and 1 + their weights. */
 struct sizes {
-    uint64_t variables, clauses, units, top;
+    uint64_t variables, clauses, words, units, top;
 };
 
 /* A clause's id, its first word and its length; the length is 0 once it is deleted. */

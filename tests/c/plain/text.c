@@ -5,8 +5,9 @@
 
 static void count_hard(void *job, const uint32_t *clause, uint32_t n)
 {
-    (void)clause, (void)n;
+    (void)clause;
     ((struct sizes *)job)->clauses++;
+    ((struct sizes *)job)->words += n;
 }
 
 static void count_soft(void *job, uint32_t weight, uint32_t unit)
@@ -19,13 +20,16 @@ static void count_soft(void *job, uint32_t weight, uint32_t unit)
 static void count_counter(void *job, const uint32_t *literals, uint32_t n, uint32_t columns, uint32_t first)
 {
     (void)literals, (void)first;
-    if (n && columns)
-        ((struct sizes *)job)->clauses += 2 * columns + (uint64_t)(n - 1) * (4 * columns - 1);
+    if (n && columns) {
+        struct sizes *s = job;
+        s->clauses += 2 * columns + (uint64_t)(n - 1) * (4 * columns - 1);
+        s->words += 3 * columns + 1 + (uint64_t)(n - 1) * (11 * columns - 4);
+    }
 }
 
 struct sizes sizes_of(const struct instance *in)
 {
-    struct sizes sizes = {0, 0, 0, 1};
+    struct sizes sizes = {0, 0, 0, 0, 1};
     sizes.variables = write_formula(in, &sizes, count_hard, count_soft, count_counter);
     return sizes;
 }

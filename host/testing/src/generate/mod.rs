@@ -4,6 +4,7 @@
 mod damage;
 mod file;
 mod instances;
+mod largest;
 mod models;
 mod planned;
 mod proofs;
@@ -14,6 +15,7 @@ mod timetables;
 pub use damage::{damaged_bytes, damaged_instance, damaged_numbers, damaged_table, number_starts};
 pub use file::encode;
 pub use instances::{instance, Shape};
+pub use largest::{idle_limits, long_tail, many_ors, many_variables};
 pub use models::{model, model_with_tail};
 pub use planned::{planned_school, Plan};
 pub use proofs::{lent, proof};

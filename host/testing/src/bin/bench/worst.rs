@@ -1,0 +1,85 @@
+//! The worst inputs that are accepted.
+
+use crate::gaps::sparse;
+use crate::proofs::{long_clauses, second_copies, Clauses};
+use crate::schools::{generated, BOUND};
+use crate::table::{grouped, head, MEMORY};
+use crate::Bench;
+use testing::generate::{encode, idle_limits, long_tail, many_variables, model, Random};
+use testing::reference::{Instance, LARGEST_BOUND, LARGEST_FORMULA};
+use testing::steps::encode_steps;
+use timetable::engine;
+
+/// Constraints of the longest file.
+const MOST_CONSTRAINTS: usize = 4_096;
+
+/// Prints seconds and memory of each.
+pub fn table(bench: &Bench) {
+    let part = bench.scale.part;
+    let said = match part {
+        1 => String::new(),
+        _ => format!("Inputs of a {part}th of their size. "),
+    } + "A check is of the empty proof where nothing else is said.";
+    head("Worst accepted inputs", &said, &MEMORY);
+    let mut random = Random::new(1);
+    let idle = idle_limits(&mut random, MOST_CONSTRAINTS / part);
+    all_jobs(bench, "idle limits", &idle, BOUND);
+    let variables = LARGEST_FORMULA / part as u64;
+    let many = many_variables(&mut random, variables);
+    all_jobs(bench, "counters", &many, BOUND);
+    let clauses = Clauses::of(&many.0, BOUND);
+    let steps = second_copies(&mut random, &clauses, 500_000 / part);
+    let proof = encode_steps(&sparse(clauses.count(), &steps));
+    drop(clauses);
+    let name = format!(
+        "the same, {} hints, up to nine ids skipped",
+        grouped(steps.len() as u64)
+    );
+    check(bench, &name, &encode(&many.0), BOUND, &proof);
+    let (tail, _) = long_tail(&mut random, LARGEST_BOUND, variables);
+    check(bench, "tail at 4,095", &encode(&tail), LARGEST_BOUND, &[]);
+    let lessons = bench.scale.learned[0];
+    let school = generated(lessons);
+    let clauses = Clauses::of(&school.instance, BOUND);
+    let sizes = engine::sizes(&school.file, BOUND).expect("an accepted file");
+    // As many literals in all, in clauses just above a trail of 4,096 and in the longest.
+    let literals = 20_000_000 / part;
+    for length in [5_000, sizes.variables as usize] {
+        let proof = long_clauses(&clauses, length, (literals / length).max(2));
+        let name = format!("clauses of {} literals", grouped(length as u64));
+        check(bench, &name, &school.file, BOUND, &proof);
+    }
+}
+
+/// All operations on one instance.
+fn all_jobs(bench: &Bench, name: &str, (instance, table): &(Instance, Vec<u8>), bound: u64) {
+    let file = encode(instance);
+    let model = model(instance, table);
+    let sizes = engine::sizes(&file, bound).expect("an accepted file");
+    let name = format!(
+        "{name}, {} variables, {} clauses",
+        grouped(sizes.variables),
+        grouped(sizes.clauses)
+    );
+    let jobs: [(&'static str, Vec<&[u8]>); 4] = [
+        ("read", vec![&file]),
+        ("score", vec![&file, table]),
+        ("text", vec![&file]),
+        ("decode", vec![&file, &model]),
+    ];
+    for (job, inputs) in jobs {
+        println!("{}", bench.row(job, name.clone(), &inputs, false).memory());
+    }
+    check(bench, &name, &file, bound, &[]);
+}
+
+fn check(bench: &Bench, name: &str, file: &[u8], bound: u64, proof: &[u8]) {
+    let number = bound.to_string();
+    let inputs = [file, number.as_bytes(), proof];
+    println!(
+        "{}",
+        bench
+            .row("check", name.to_string(), &inputs, false)
+            .memory()
+    );
+}

@@ -1,0 +1,134 @@
+//! Instances at the limits, each with a timetable that keeps its hard
+//! constraints: formulas of many ORs, long files, many variables, a long tail.
+
+use super::random::Random;
+use crate::reference::{Constraint, Event, Instance, Kind, Range, Sizes, MOST_TIMES};
+
+/// Most groups of an instance.
+const MOST_GROUPS: usize = 1_024;
+/// Events of each instance here, each with a resource of its own.
+const EVENTS: usize = 90;
+
+/// Limits of idle times and of used groups, as many of each, over groups that
+/// have most of 125 times: nearly every clause is of an OR.
+pub fn many_ors(random: &mut Random, constraints: usize) -> (Instance, Vec<u8>) {
+    let (mut instance, table) = apart(random, MOST_TIMES as usize);
+    let times = instance.times;
+    let dense = |random: &mut Random| (0..times).filter(|_| random.chance(90)).collect();
+    instance.groups = (0..40).map(|_| dense(random)).collect();
+    for constraint in 0..constraints {
+        let resource = random.below(instance.resources);
+        let hi = if constraint % 2 == 0 { 0 } else { 20 };
+        let range = Range { lo: 0, hi };
+        let (weight, kind) = if constraint % 2 == 0 {
+            let groups = random.choose(2, 40);
+            (0, idle(resource, groups, range))
+        } else {
+            let groups = (0..40).collect();
+            let cluster = Kind::Cluster {
+                resource,
+                groups,
+                range,
+            };
+            (1 + random.below(9) as u32, cluster)
+        };
+        instance.constraints.push(Constraint { weight, kind });
+    }
+    (instance, table)
+}
+
+/// Limits of idle times that each name all of 1,024 groups, two of them with
+/// 125 times: 4,096 make the longest file and the most clauses of one kind.
+pub fn idle_limits(random: &mut Random, constraints: usize) -> (Instance, Vec<u8>) {
+    let (mut instance, table) = apart(random, MOST_TIMES as usize);
+    let times = instance.times;
+    let short = (2..MOST_GROUPS).map(|group| vec![group % (times - 1), times - 1]);
+    instance.groups = vec![(0..times).collect(); 2];
+    instance.groups.extend(short);
+    for constraint in 0..constraints {
+        let resource = constraint % instance.resources;
+        let range = Range { lo: 0, hi: 0 };
+        let kind = idle(resource, (0..MOST_GROUPS).collect(), range);
+        instance.constraints.push(Constraint { weight: 0, kind });
+    }
+    (instance, table)
+}
+
+/// A formula of so many variables, nearly all in counters. All constraints are
+/// hard, so that a check has as many.
+pub fn many_variables(random: &mut Random, variables: u64) -> (Instance, Vec<u8>) {
+    let (mut instance, table) = apart(random, MOST_TIMES as usize);
+    let sizes = Sizes::of(&instance, None).expect("few variables");
+    let mut rest = (variables - sizes.variables) as usize;
+    while rest > 0 {
+        let counted = rest.isqrt().min(instance.times);
+        let group = instance.groups.len();
+        let range = Range {
+            lo: 0,
+            hi: counted as u32,
+        };
+        let spread = Kind::Spread {
+            events: vec![group % EVENTS],
+            group,
+            range,
+        };
+        instance.groups.push((0..counted).collect());
+        instance.constraints.push(Constraint {
+            weight: 0,
+            kind: spread,
+        });
+        rest -= counted * counted;
+    }
+    (instance, table)
+}
+
+/// So many soft units that a tail for `bound` just fits into `variables`.
+pub fn long_tail(random: &mut Random, bound: u64, variables: u64) -> (Instance, Vec<u8>) {
+    let (mut instance, table) = apart(random, 40);
+    instance.groups.push((10..40).collect());
+    loop {
+        let event = random.below(EVENTS);
+        instance.constraints.push(Constraint {
+            weight: 1 + random.below(9) as u32,
+            kind: Kind::PreferredTimes { event, group: 0 },
+        });
+        let sizes = Sizes::of(&instance, Some(bound));
+        if !sizes.is_ok_and(|sizes| sizes.variables <= variables) {
+            instance.constraints.pop();
+            return (instance, table);
+        }
+    }
+}
+
+fn idle(resource: usize, groups: Vec<usize>, range: Range) -> Kind {
+    Kind::Idle {
+        resource,
+        groups,
+        range,
+    }
+}
+
+/// Events with a resource each, and a timetable in which each takes times that
+/// follow each other, so that no resource has an idle time.
+fn apart(random: &mut Random, times: usize) -> (Instance, Vec<u8>) {
+    let half = EVENTS * times;
+    let mut table = vec![0; 2 * half];
+    let event = |event| {
+        let duration = 1 + random.below(4);
+        let first = event * times + random.below(times - duration + 1);
+        table[first..first + duration].fill(1);
+        table[half + first] = 1;
+        Event {
+            duration,
+            resources: vec![event],
+        }
+    };
+    let instance = Instance {
+        times,
+        resources: EVENTS,
+        events: (0..EVENTS).map(event).collect(),
+        groups: Vec::new(),
+        constraints: Vec::new(),
+    };
+    (instance, table)
+}

@@ -1,0 +1,109 @@
+//! The inputs of the benchmarks are what they are said to be: accepted, as
+//! large as they can be, with timetables that keep the hard constraints.
+
+mod support;
+
+use support::both::{check, decode, read, score, sizes};
+use testing::generate::{
+    encode, idle_limits, long_tail, many_ors, many_variables, model, planned_school, Plan, Random,
+};
+use testing::prover::{clause_list, lemmas};
+use testing::reference::{Infeasibility, Instance, Refusal};
+use testing::steps::{encode_steps, renumbered, with_gaps, Step};
+
+/// The timetable keeps the hard constraints, and its model decodes to it.
+fn keeps(instance: &Instance, table: &[u8]) {
+    let file = encode(instance);
+    let scored = score(&file, table).expect("a timetable");
+    assert_eq!(scored.infeasibility, Infeasibility(0));
+    let model = model(instance, table);
+    assert_eq!(decode(&file, &model), Ok((table, scored.objective)));
+}
+
+#[test]
+fn formulas_of_many_ors_are_kept_and_mostly_ors() {
+    let mut random = Random::new(1);
+    for (instance, table) in [many_ors(&mut random, 6), idle_limits(&mut random, 3)] {
+        keeps(&instance, &table);
+        let clauses = clause_list(&instance, None);
+        let mut fewer = instance.clone();
+        fewer.constraints.clear();
+        let others = clause_list(&fewer, None).len();
+        // A counter's clause names its last variable's row; an OR's pair has two literals.
+        let pairs = clauses[others..].iter().filter(|clause| clause.len() == 2);
+        assert!(pairs.count() > 3 * (clauses.len() - others) / 4);
+    }
+}
+
+#[test]
+fn the_longest_file_of_idle_limits_has_8_megabytes() {
+    let (instance, _) = idle_limits(&mut Random::new(1), 4_096);
+    let file = encode(&instance);
+    assert!((7_800_000..8_100_000).contains(&file.len()));
+    assert_eq!(read(&file).map(|summary| summary.constraints), Ok(4_096));
+    let sizes = sizes(&file, Some(10)).expect("a formula that is small enough");
+    assert!(sizes.clauses > 130_000_000);
+}
+
+#[test]
+fn many_variables_are_exactly_as_many() {
+    let (instance, table) = many_variables(&mut Random::new(1), 150_001);
+    keeps(&instance, &table);
+    let file = encode(&instance);
+    for bound in [None, Some(0), Some(4_095)] {
+        assert_eq!(
+            sizes(&file, bound).map(|sizes| sizes.variables),
+            Ok(150_001)
+        );
+    }
+    let (instance, _) = many_variables(&mut Random::new(1), 8_000_000);
+    let sizes = sizes(&encode(&instance), Some(0)).expect("as many as may be");
+    assert_eq!(sizes.variables, 8_000_000);
+}
+
+#[test]
+fn a_long_tail_leaves_no_room_for_another_list() {
+    let (instance, table) = long_tail(&mut Random::new(1), 4_095, 8_000_000);
+    keeps(&instance, &table);
+    let sizes = sizes(&encode(&instance), Some(4_095)).expect("a tail that fits");
+    // A list of ten has ten rows of the tail and a counter of a hundred cells.
+    assert!(sizes.variables + 10 * 4_096 + 100 > 8_000_000);
+}
+
+#[test]
+fn learned_clauses_follow_with_gaps_too() {
+    let mut random = Random::new(1);
+    let plan = Plan {
+        lessons: 12,
+        periods: 4,
+    };
+    let instance = planned_school(&mut random, plan);
+    let file = encode(&instance);
+    let sizes = sizes(&file, Some(10)).expect("a small formula");
+    let clauses = clause_list(&instance, Some(10));
+    let decided = 2 * instance.events.len() * instance.times;
+    let variables = [sizes.variables as usize, decided];
+    let steps = lemmas(&mut random, variables, &clauses, 2_000);
+    let hints: usize = steps.iter().map(|step| step.hints().len()).sum();
+    assert!(hints >= 2_000);
+    let formula = clauses.len();
+    let one = renumbered(&steps, |id| id + u32::from(id as usize > formula));
+    for steps in [steps.clone(), one, with_gaps(formula, &steps, 1)] {
+        let words: usize = steps.iter().map(literals).sum();
+        let lent = [
+            sizes.words + words as u64,
+            sizes.clauses + steps.len() as u64,
+        ];
+        let proof = encode_steps(&steps);
+        let answer = check(&file, 10, &proof, lent[0], lent[1], sizes.variables);
+        let value = steps.len() as u64;
+        assert_eq!(answer, Err(Refusal { number: 18, value }));
+    }
+}
+
+fn literals(step: &Step) -> usize {
+    match step {
+        Step::Add { literals, .. } => literals.len(),
+        Step::Delete { .. } => 0,
+    }
+}
