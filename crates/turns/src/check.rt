@@ -15,12 +15,14 @@ use scope::refusals::CLAUSE_TOO_LONG;
 use steps::step::Clause;
 use steps::step::Read;
 use steps::step::read_step;
+use store::clauses::wipe_clause;
 use store::directory::Row;
 ghost use mathlib.Core.Path.{_≡_};
-ghost use Prim.Native.Nat.{_+_, min};
+ghost use Prim.Native.Nat.{_+_, _-_, min};
+ghost use lib.ListN.{length};
 ghost use Rattle.scope.specs.Number.{number as numberAt};
 ghost use Rattle.copying.specs.Copies.{copiedAt};
-ghost use Rattle.turns.specs.Check.{begun, withPhase, judged, rowOf, keptAs, firstId, entered, stepTaken, answerOf};
+ghost use Rattle.turns.specs.Check.{begun, withPhase, judged, rowOf, keptAs, firstId, entered, proceeded, unwound, unwoundMarks, stepTaken, answerOf};
 
 // Steps, the one at hand counted; the highest id; rows and words in use.
 pub struct Tally {
@@ -159,7 +161,7 @@ fn first_id(phase: Phase, over: Phase, proof: &[u8], at: usize) -> Machine
     let Number::Value(id, next) = t else {
         return stop(Phase::Refused(BAD_STEP), at);
     };
-    step_on(phase, over, id, next)
+    step_on(phase, over, id, next, 0)
 }
 
 // The machine at the start of what comes next. The clause that was kept is wiped first, then those of its hints.
@@ -176,6 +178,7 @@ pub fn enter(c: Check, proof: &[u8]) -> Machine
             phase,
             at,
             want: clause.id,
+            set: 0,
         },
         Phase::Next => stop(phase, at),
         Phase::Followed => stop(phase, at),
@@ -183,6 +186,52 @@ pub fn enter(c: Check, proof: &[u8]) -> Machine
         Phase::Proved => stop(phase, at),
         Phase::Refused(_) => stop(phase, at),
     }
+}
+
+// The machine once the clause at hand was judged: it stays where it is, with its trail.
+pub fn proceed(c: Check, m: Machine) -> Machine
+    ensures { λ r. ⌜ r ≡ proceeded c m ⌝ }
+{
+    let phase = c.phase;
+    Machine {
+        phase,
+        at: m.at,
+        want: 0,
+        set: m.set,
+    }
+}
+
+// A difference that stays at 0.
+fn difference(a: usize, b: usize) -> usize
+    ensures { λ r. ⌜ r ≡ a - b ⌝ }
+{
+    if a < b {
+        return 0;
+    }
+    a - b
+}
+
+// The clause at hand was kept, at the end of the words in use: its variables are opened again, and those of the literals on the
+// trail. Where the trail had no room for all of them, the clauses of the hints are to be wiped one by one.
+pub fn unwind(c: Check, m: Machine, words: &[u32], marks: &mut [u8], trail: &[u32]) -> Machine
+    ensures { λ r. ⌜ r ≡ unwound c m (length (now (trail .entry))) ⌝ }
+    ensures { λ _. ⌜ now (marks .exit) ≡ unwoundMarks c m (now (words .entry)) (now (marks .entry)) (now (trail .entry)) ⌝ }
+{
+    let clause = c.clause;
+    let tally = c.tally;
+    let set = m.set;
+    if trail.len() < set {
+        return Machine {
+            phase: Phase::Wipe,
+            at: clause.hints,
+            want: clause.id,
+            set: 0,
+        };
+    }
+    let first = difference(tally.words, clause.size);
+    wipe_clause(marks, words, first, clause.size);
+    wipe_clause(marks, trail, 0, set);
+    stop(Phase::Next, m.at)
 }
 
 // The step that stands at an offset, if there is one.
