@@ -23,7 +23,8 @@ use Rattle.laws.specs.Booleans.{impossible, or-false}
 use Rattle.hints.specs.declared.machine.Phase.the-variants.{Next, Walk, Wipe, Refused}
 use Rattle.turns.specs.declared.check.Check.{Check}
 use Rattle.reading.specs.Listing.{Ahead, last-id, more-ids, ids-ahead}
-use Rattle.hints.specs.Machine.{largest, recorded, recordedAt, onward, onward-end, onward-more, walked, walked-last, walked-early, walkedMarks, walkedTrail}
+use Rattle.hints.specs.Machine.{onward, onward-end, onward-more, walked, walked-last, walked-early, walkedMarks, walkedTrail}
+use Rattle.trail.specs.Recorded.{largest, recorded, recordedAt}
 use Rattle.bound.specs.Hints.{inHint, inHints, IsLive, open-inside, in-append, last-in}
 use Rattle.bound.specs.Invariant.{Base, ending, Adding, Trailed, before, liveIn, Walking, Wiping, InvariantAt}
 

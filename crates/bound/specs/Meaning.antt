@@ -28,7 +28,8 @@ use Rattle.hints.specs.declared.machine.Machine.{Machine}
 use Rattle.turns.specs.declared.check.Check.{Check}
 use Rattle.reading.specs.Listing.{list-cut}
 use Rattle.hints.specs.Machine as machine
-use Rattle.hints.specs.Machine.{turnOf, turn-phase, largest, Advances, gone, broken, walks, wipes, idle}
+use Rattle.hints.specs.Machine.{turnOf, turn-phase, Advances, gone, broken, walks, wipes, idle}
+use Rattle.trail.specs.Recorded.{largest}
 use Rattle.turns.specs.Check.{answerOf}
 use Rattle.run.specs.Run as run
 use Rattle.run.specs.Run.{World, Turn, looks, keeps, judges, reads, Ran, Driven}

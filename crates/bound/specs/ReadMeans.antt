@@ -25,7 +25,8 @@ use Rattle.hints.specs.declared.machine.Phase.the-variants.{Next, Walk, Delete,
 use Rattle.turns.specs.declared.check.Check.{Check}
 use Rattle.reading.specs.Reading.{tokensAt, AddsAt, DeletesAt, MisformedAt, Open, ReadsStep, adds, deletes, misformed}
 use Rattle.reading.specs.Listing.{Ahead, last-id, more-ids, ids-ahead, list-cut}
-use Rattle.hints.specs.Machine.{largest, onward, onward-end, onward-more}
+use Rattle.hints.specs.Machine.{onward, onward-end, onward-more}
+use Rattle.trail.specs.Recorded.{largest}
 use Rattle.turns.specs.Check.{firstId, entered, counted, stepped, TakesStep, over, takes}
 use Rattle.bound.specs.Invariant.{Base, InStep, ending, Adding, before, liveIn, stateOf, Reading, InvariantAt}
 

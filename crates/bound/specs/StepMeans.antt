@@ -32,7 +32,8 @@ use Rattle.turns.specs.declared.check.Tally.{Tally}
 use Rattle.steps.specs.declared.step.Clause.{Clause}
 use Rattle.reading.specs.Reading.{tokensAt}
 use Rattle.reading.specs.Listing.{Ahead, last-id, more-ids, ids-ahead}
-use Rattle.hints.specs.Machine.{largest, stopped, onward, onward-end, onward-more}
+use Rattle.hints.specs.Machine.{stopped, onward, onward-end, onward-more}
+use Rattle.trail.specs.Recorded.{largest}
 use Rattle.turns.specs.Check.{verdict, rowOf, keptAs, unwound, unwoundMarks}
 use Rattle.bound.specs.Hints.{inHint, inHints, IsLive, outside-false, literals-good, hints-same, live-same}
 use Rattle.bound.specs.Invariant.{Base, InStep, ending, before, liveIn, stateOf, Following, Keeping, Wiping, Deleting, InvariantAt}

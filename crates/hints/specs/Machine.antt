@@ -4,8 +4,8 @@ use mathlib.Core.Bool.{Bool, true, false, cond}
 use mathlib.Core.List.{List}
 use Prim.Native.Nat.{ℕ, zero, suc, _+_, _/_, _%_, _≤_}
 use native.Mathlib.Omega.{arith}
-use lib.Dec.{eqb, leb}
-use lib.ListN.{length, set}
+use lib.Dec.{eqb}
+use lib.ListN.{length}
 use borrow.Author.Tests.{eqb-true, eqb-false}
 use Rattle.scope.specs.Parsed.{Parsed, got, refused}
 use Rattle.scope.specs.Number.{number}
@@ -14,6 +14,7 @@ use Rattle.store.specs.declared.directory.Row.{Row}
 use Rattle.store.specs.Marks.{marksOf, putMark}
 use Rattle.store.specs.Clauses.{Wiped, inClause, wiped, wiped-opens}
 use Rattle.store.specs.Live.{rowClause}
+use Rattle.trail.specs.Recorded.{recorded, recordedAt}
 use Rattle.hints.specs.declared.machine.Phase.{Phase}
 use Rattle.hints.specs.declared.machine.Phase.the-variants.{Next, Walk, Followed, Keep, Wipe, Delete, Proved, Refused}
 use Rattle.hints.specs.declared.machine.Machine.{Machine}
@@ -41,16 +42,6 @@ pub onward-more : (p over : Phase) (id next n : ℕ) → (id ≡ 0 → ⊥)
 unfolding onward
 onward-more p over zero next n h = absurd (h refl)
 onward-more p over (suc id) next n h = refl
-
--- a literal is put on a trail of room for k that holds n; the largest number of a machine's word says that there was no room
-abbrev pub largest : ℕ
-largest = 18446744073709551615
-
-unfoldable pub recordedAt : ℕ → ℕ → ℕ
-recordedAt k n = cond (leb k n) largest (n + 1)
-
-abbrev pub recorded : List ℕ → ℕ → ℕ → List ℕ
-recorded tr n l = set tr n l
 
 -- a hint was judged, where an id was read before next
 unfoldable pub walked : ℕ → Standing → ℕ → ℕ → ℕ → Machine

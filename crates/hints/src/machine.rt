@@ -11,12 +11,13 @@ use store::clauses::standing_of;
 use store::clauses::wipe_clause;
 use store::directory::Row;
 use store::marks::put_mark;
+use trail::record_literal;
 ghost use mathlib.Core.Path.{_≡_};
 ghost use Rattle.scope.specs.Steps.{standing, falsified};
 ghost use Rattle.store.specs.Marks.{marksOf};
 ghost use Rattle.store.specs.Live.{rowClause};
 ghost use lib.ListN.{length};
-ghost use Rattle.hints.specs.Machine.{turnOf, stopped, followed, onward, recorded, recordedAt, walked, walkedMarks, walkedTrail, advanced, advancedMarks, advancedTrail};
+ghost use Rattle.hints.specs.Machine.{turnOf, stopped, onward, walked, walkedMarks, walkedTrail, advanced, advancedMarks, advancedTrail};
 
 // What is to be done next.
 pub enum Phase {
@@ -102,18 +103,6 @@ pub fn step_on(phase: Phase, over: Phase, id: u32, next: usize, set: usize) -> M
         want: wide(id),
         set,
     }
-}
-
-// A literal is put on the trail, which holds so many; past its end it is not.
-fn record_literal(trail: &mut [u32], set: usize, l: u32) -> usize
-    ensures { λ r. ⌜ r ≡ recordedAt (length (now (trail .entry))) set ⌝ }
-    ensures { λ _. ⌜ now (trail .exit) ≡ recorded (now (trail .entry)) set l ⌝ }
-{
-    if trail.len() <= set {
-        return 18446744073709551615;
-    }
-    trail[set] = l;
-    set + 1
 }
 
 // A hint's clause has exactly one open literal, which is then set true; or all its literals are false, and it is the last hint.

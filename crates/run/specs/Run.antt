@@ -10,7 +10,8 @@ use Rattle.store.specs.Rows.{Finds, Dies, Appends}
 use Rattle.hints.specs.declared.machine.Phase.the-variants.{Next}
 use Rattle.hints.specs.declared.machine.Machine.{Machine}
 use Rattle.turns.specs.declared.check.Check.{Check}
-use Rattle.hints.specs.Machine.{turnOf, stopped, largest, Advances}
+use Rattle.hints.specs.Machine.{turnOf, stopped, Advances}
+use Rattle.trail.specs.Recorded.{largest}
 use Rattle.reading.specs.Copying.{Copies}
 use Rattle.turns.specs.Check.{begun, judged, rowOf, keptAs, entered, proceeded, unwound, unwoundMarks, TakesStep, answerOf}
 

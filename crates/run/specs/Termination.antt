@@ -19,7 +19,8 @@ use Rattle.steps.specs.declared.step.Read.{Read}
 use Rattle.turns.specs.declared.check.Check.{Check}
 use Rattle.reading.specs.Reading.{ReadsStep, adds, deletes, misformed}
 use Rattle.hints.specs.Machine as machine
-use Rattle.hints.specs.Machine.{turnOf, turn-phase, stopped, onward, recordedAt, walked, Advances, gone, broken, walks, wipes, idle}
+use Rattle.hints.specs.Machine.{turnOf, turn-phase, stopped, onward, walked, Advances, gone, broken, walks, wipes, idle}
+use Rattle.trail.specs.Recorded.{recordedAt}
 use Rattle.turns.specs.Check.{keptAs, verdict, firstId, enteredAt, entered, proceeded, unwound, stepped, TakesStep, over, takes}
 use Rattle.run.specs.Run.{World, Turn, looks, keeps, judges, reads}
 

@@ -20,7 +20,8 @@ use Rattle.turns.specs.declared.check.Tally.{Tally}
 use Rattle.turns.specs.declared.check.Check.{Check}
 use Rattle.steps.specs.Step.{stepAt}
 use Rattle.reading.specs.Reading.{tokensAt, ReadsStep}
-use Rattle.hints.specs.Machine.{stopped, onward, largest}
+use Rattle.hints.specs.Machine.{stopped, onward}
+use Rattle.trail.specs.Recorded.{largest}
 
 -- before the first step, with a formula of so many rows and words
 abbrev pub begun : ℕ → ℕ → Check

@@ -65,7 +65,8 @@ use Rattle.store.proofs.directory.Probe.Laws as P′
 use Rattle.hints.specs.declared.machine.Machine.{Machine}
 use Rattle.hints.specs.declared.machine.Phase.the-variants.{Next}
 use Rattle.turns.specs.declared.check.Check.{Check}
-use Rattle.hints.specs.Machine.{turnOf, stopped, largest, advanced, advancedMarks, advancedTrail, Advances, advances}
+use Rattle.hints.specs.Machine.{turnOf, stopped, advanced, advancedMarks, advancedTrail, Advances, advances}
+use Rattle.trail.specs.Recorded.{largest}
 use Rattle.turns.specs.Check.{begun, judged, rowOf, keptAs, entered, proceeded, unwound, unwoundMarks, stepTaken, answerOf}
 use Rattle.copying.specs.Copies.{copiedAt}
 use Rattle.run.proofs.Taking.{takes-step}
@@ -114,30 +115,30 @@ use Rattle.turns.proofs.check.keep as keep
 use Rattle.turns.proofs.check.keep.Symbol as keep-def
 use Rattle.turns.proofs.check.keep.Symbol.{name as #keep}
 use Rattle.turns.proofs.check.keep.Met as keep-thm
-use Rattle.turns.proofs.check.enter as enter
-use Rattle.turns.proofs.check.enter.Symbol as enter-def
-use Rattle.turns.proofs.check.enter.Symbol.{name as #enter}
-use Rattle.turns.proofs.check.enter.Met as enter-thm
+use Rattle.phases.proofs.next.enter as enter
+use Rattle.phases.proofs.next.enter.Symbol as enter-def
+use Rattle.phases.proofs.next.enter.Symbol.{name as #enter}
+use Rattle.phases.proofs.next.enter.Met as enter-thm
 use Rattle.turns.proofs.check.judge as judge
 use Rattle.turns.proofs.check.judge.Symbol as judge-def
 use Rattle.turns.proofs.check.judge.Symbol.{name as #judge}
 use Rattle.turns.proofs.check.judge.Met as judge-thm
-use Rattle.turns.proofs.check.next_step as next-step
-use Rattle.turns.proofs.check.next_step.Symbol as next-step-def
-use Rattle.turns.proofs.check.next_step.Symbol.{name as #next-step}
-use Rattle.turns.proofs.check.next_step.Met as next-step-thm
-use Rattle.turns.proofs.check.proceed as proceed
-use Rattle.turns.proofs.check.proceed.Symbol as proceed-def
-use Rattle.turns.proofs.check.proceed.Symbol.{name as #proceed}
-use Rattle.turns.proofs.check.proceed.Met as proceed-thm
-use Rattle.turns.proofs.check.unwind as unwind
-use Rattle.turns.proofs.check.unwind.Symbol as unwind-def
-use Rattle.turns.proofs.check.unwind.Symbol.{name as #unwind}
-use Rattle.turns.proofs.check.unwind.Met as unwind-thm
-use Rattle.turns.proofs.check.answer as answer
-use Rattle.turns.proofs.check.answer.Symbol as answer-def
-use Rattle.turns.proofs.check.answer.Symbol.{name as #answer}
-use Rattle.turns.proofs.check.answer.Met as answer-thm
+use Rattle.taking.proofs.step.next_step as next-step
+use Rattle.taking.proofs.step.next_step.Symbol as next-step-def
+use Rattle.taking.proofs.step.next_step.Symbol.{name as #next-step}
+use Rattle.taking.proofs.step.next_step.Met as next-step-thm
+use Rattle.phases.proofs.next.proceed as proceed
+use Rattle.phases.proofs.next.proceed.Symbol as proceed-def
+use Rattle.phases.proofs.next.proceed.Symbol.{name as #proceed}
+use Rattle.phases.proofs.next.proceed.Met as proceed-thm
+use Rattle.unwinding.proofs.marks.unwind as unwind
+use Rattle.unwinding.proofs.marks.unwind.Symbol as unwind-def
+use Rattle.unwinding.proofs.marks.unwind.Symbol.{name as #unwind}
+use Rattle.unwinding.proofs.marks.unwind.Met as unwind-thm
+use Rattle.phases.proofs.next.answer as answer
+use Rattle.phases.proofs.next.answer.Symbol as answer-def
+use Rattle.phases.proofs.next.answer.Symbol.{name as #answer}
+use Rattle.phases.proofs.next.answer.Met as answer-thm
 use Rattle.run.proofs.drive.drive_with.Key.{name as #drive}
 use Rattle.run.proofs.drive.drive_with as f
 use Rattle.run.proofs.drive.drive_with.Statement as stated
@@ -873,10 +874,10 @@ drive-with-spec 𝓤 H 𝓜 𝓖 𝓡 =
       row-of = cited 𝓤 H (row-of-to 𝓤 H (𝓖 .A) (𝓜 .mem) (𝓡 .run)) 𝓜 𝓡 code.env #row-of row-of-def.routine code.calls-turns·check·row-of (row-of-thm.met 𝓤 H 𝓜 𝓖 𝓡);
       append = cited 𝓤 H (append-to 𝓤 H (𝓖 .A) (𝓜 .mem) (𝓡 .run)) 𝓜 𝓡 code.env #append append-def.routine code.calls-store·directory·append (append-thm.met 𝓤 H 𝓜 𝓖 𝓡);
       keep = cited 𝓤 H (keep-to 𝓤 H (𝓖 .A) (𝓜 .mem) (𝓡 .run)) 𝓜 𝓡 code.env #keep keep-def.routine code.calls-turns·check·keep (keep-thm.met 𝓤 H 𝓜 𝓖 𝓡);
-      enter = cited 𝓤 H (enter-to 𝓤 H (𝓖 .A) (𝓜 .mem) (𝓡 .run)) 𝓜 𝓡 code.env #enter enter-def.routine code.calls-turns·check·enter (enter-thm.met 𝓤 H 𝓜 𝓖 𝓡);
+      enter = cited 𝓤 H (enter-to 𝓤 H (𝓖 .A) (𝓜 .mem) (𝓡 .run)) 𝓜 𝓡 code.env #enter enter-def.routine code.calls-phases·next·enter (enter-thm.met 𝓤 H 𝓜 𝓖 𝓡);
       judge = cited 𝓤 H (judge-to 𝓤 H (𝓖 .A) (𝓜 .mem) (𝓡 .run)) 𝓜 𝓡 code.env #judge judge-def.routine code.calls-turns·check·judge (judge-thm.met 𝓤 H 𝓜 𝓖 𝓡);
-      next-step = cited 𝓤 H (next-step-to 𝓤 H (𝓖 .A) (𝓜 .mem) (𝓡 .run)) 𝓜 𝓡 code.env #next-step next-step-def.routine code.calls-turns·check·next-step (next-step-thm.met 𝓤 H 𝓜 𝓖 𝓡);
-      proceed = cited 𝓤 H (proceed-to 𝓤 H (𝓖 .A) (𝓜 .mem) (𝓡 .run)) 𝓜 𝓡 code.env #proceed proceed-def.routine code.calls-turns·check·proceed (proceed-thm.met 𝓤 H 𝓜 𝓖 𝓡);
-      unwind = cited 𝓤 H (unwind-to 𝓤 H (𝓖 .A) (𝓜 .mem) (𝓡 .run)) 𝓜 𝓡 code.env #unwind unwind-def.routine code.calls-turns·check·unwind (unwind-thm.met 𝓤 H 𝓜 𝓖 𝓡);
-      answer = cited 𝓤 H (answer-to 𝓤 H (𝓖 .A) (𝓜 .mem) (𝓡 .run)) 𝓜 𝓡 code.env #answer answer-def.routine code.calls-turns·check·answer (answer-thm.met 𝓤 H 𝓜 𝓖 𝓡);
+      next-step = cited 𝓤 H (next-step-to 𝓤 H (𝓖 .A) (𝓜 .mem) (𝓡 .run)) 𝓜 𝓡 code.env #next-step next-step-def.routine code.calls-taking·step·next-step (next-step-thm.met 𝓤 H 𝓜 𝓖 𝓡);
+      proceed = cited 𝓤 H (proceed-to 𝓤 H (𝓖 .A) (𝓜 .mem) (𝓡 .run)) 𝓜 𝓡 code.env #proceed proceed-def.routine code.calls-phases·next·proceed (proceed-thm.met 𝓤 H 𝓜 𝓖 𝓡);
+      unwind = cited 𝓤 H (unwind-to 𝓤 H (𝓖 .A) (𝓜 .mem) (𝓡 .run)) 𝓜 𝓡 code.env #unwind unwind-def.routine code.calls-unwinding·marks·unwind (unwind-thm.met 𝓤 H 𝓜 𝓖 𝓡);
+      answer = cited 𝓤 H (answer-to 𝓤 H (𝓖 .A) (𝓜 .mem) (𝓡 .run)) 𝓜 𝓡 code.env #answer answer-def.routine code.calls-phases·next·answer (answer-thm.met 𝓤 H 𝓜 𝓖 𝓡);
     }))
