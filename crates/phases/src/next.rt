@@ -25,7 +25,7 @@ fn first_id(phase: Phase, over: Phase, proof: &[u8], at: usize) -> Machine
     step_on(phase, over, id, next, 0)
 }
 
-// The machine at the start of what comes next. The clause that was kept is wiped first, then those of its hints.
+// The machine at the start of what comes next: a walk over ids begins with the first of them.
 pub fn enter(c: Check, proof: &[u8]) -> Machine
     ensures { λ r. ⌜ r ≡ entered (now (proof .entry)) c ⌝ }
 {
