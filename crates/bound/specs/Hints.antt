@@ -1,7 +1,7 @@
 -- The variables that the hints of a step touch, and the literals of its clause.
 use mathlib.Core.Path.{_≡_, refl, sym, _∙_}
 use mathlib.Core.Bool.{Bool, true, false, _&&_, _||_}
-use mathlib.Core.List.{List, [], _∷_}
+use mathlib.Core.List.{List, [], _∷_, _++_}
 use mathlib.Core.Option.{Option, none, some}
 use Prim.Native.Nat.{ℕ, _/_}
 use lib.Dec.{leb, eqb}
@@ -71,3 +71,17 @@ module _ (L L′ : Live) (same : (h : ℕ) → IsLive (L h) → L′ h ≡ L h) 
   pub live-same : (hs : List ℕ) → AllLive L hs → AllLive L′ hs
   live-same [] a = tt
   live-same (h ∷ hs) a = (rw (same h (a .0)) (a .0), live-same hs (a .1))
+
+-- a variable in two lists of literals, in one literal
+pub in-append : (c d : List ℕ) (v : ℕ) → inClause (c ++ d) v ≡ (inClause c v || inClause d v)
+unfolding inClause
+in-append [] d v = refl
+in-append (l ∷ ls) d v = rw (in-append ls d v) (go (eqb (l / 2) v))
+  where
+    go : (t : Bool) → (t || (inClause ls v || inClause d v)) ≡ ((t || inClause ls v) || inClause d v)
+    go true = refl
+    go false = refl
+
+pub last-in : (l v : ℕ) → inClause (l ∷ []) v ≡ false → l / 2 ≡ v → ⊥
+unfolding inClause
+last-in l v f e = eqb-false (l / 2) v (or-false (eqb (l / 2) v) false f .0) e

@@ -12,6 +12,7 @@ use Rattle.scope.specs.PlainRun.{State, Limits, withClause}
 use Rattle.theory.specs.MarkedRun.{Outcome, byShown, byDeleted, byOutcome, run}
 use Rattle.store.specs.declared.directory.Row.{Row}
 use Rattle.store.specs.Marks.{marksOf}
+use Rattle.store.specs.Clauses.{part, inClause}
 use Rattle.store.specs.Live.{liveRows}
 use Rattle.store.specs.Holding.{Holding}
 use Rattle.hints.specs.declared.machine.Phase.{Phase}
@@ -64,6 +65,10 @@ pub record Adding (s : List ℕ) (lim : Limits) (tally : Tally) (clause : Clause
   pub good : literalsOk (lim .lastVariable) allOpen literals ≡ true
   pub outside : (v : ℕ) → inHints (liveIn tally R ws) hints v ≡ false → marksOf ms v ≡ allFalse allOpen literals v
 
+-- the marks of variables that no literal of the trail has, where it holds n literals and had room for them
+pub record Trailed (literals tr ms : List ℕ) (n : ℕ) : Type 0 where
+  pub trailed : n ≤ length tr → (v : ℕ) → inClause (part 0 n tr) v ≡ false → marksOf ms v ≡ allFalse allOpen literals v
+
 -- the state before such a step
 abbrev pub before : {s : List ℕ} {lim : Limits} {tally : Tally} {clause : Clause} {R : ℕ → Row} {ws ms : List ℕ}
     → Adding s lim tally clause R ws ms → State
@@ -81,8 +86,9 @@ module _ (s : List ℕ) (lim : Limits) (A : Answer ℕ) (tally : Tally) (clause 
     pub answer : A ≡ run fuel lim (stateOf (tally .steps) tally (liveIn tally R ws)) (tokensAt s at)
 
   -- hints are left: h, and then those at an offset
-  pub record Walking (h at : ℕ) : Type 0 where
+  pub record Walking (tr : List ℕ) (n h at : ℕ) : Type 0 where
     pub adding : Adding s lim tally clause R ws ms
+    pub trail : Trailed (adding .literals) tr ms n
     pub left : List ℕ
     pub left-at : numbersAt s at ≡ upTo0 left (adding .step .after)
     pub among : (v : ℕ) → inHints (liveIn tally R ws) (adding .hints) v ≡ false → inHints (liveIn tally R ws) (h ∷ left) v ≡ false
@@ -91,16 +97,19 @@ module _ (s : List ℕ) (lim : Limits) (A : Answer ℕ) (tally : Tally) (clause 
         (before adding) (clause .id) (adding .literals))
 
   -- the clause follows
-  pub record Following (at : ℕ) : Type 0 where
+  pub record Following (tr : List ℕ) (n at : ℕ) : Type 0 where
     pub adding : Adding s lim tally clause R ws ms
+    pub trail : Trailed (adding .literals) tr ms n
     pub live : AllLive (liveIn tally R ws) (adding .hints)
     pub after-at : tokensAt s at ≡ adding .step .after
     pub answer : A ≡ ending lim (adding .step) (byShown follows lim (before adding) (clause .id) (adding .literals))
 
   -- it fits
-  pub record Keeping : Type 0 where
+  pub record Keeping (tr : List ℕ) (n at : ℕ) : Type 0 where
     pub adding : Adding s lim tally clause R ws ms
+    pub trail : Trailed (adding .literals) tr ms n
     pub live : AllLive (liveIn tally R ws) (adding .hints)
+    pub after-at : tokensAt s at ≡ adding .step .after
     pub words-fit : tally .words + length (adding .literals) ≤ lim .wordsLent
     pub rows-fit : tally .rows + 1 ≤ lim .rowsLent
     pub answer : A ≡ run (adding .step .fuel) lim (withClause (before adding) (clause .id) (adding .literals))
@@ -126,18 +135,19 @@ module _ (s : List ℕ) (lim : Limits) (A : Answer ℕ) (tally : Tally) (clause 
     pub answer : A ≡ ending lim step (byDeleted (stateOf (step .done) tally (liveIn tally R ws))
         (deleted (liveIn tally R ws) (h ∷ left)))
 
-  abbrev pub InvariantIn : Phase → ℕ → ℕ → Type 0
-  InvariantIn Next at want = Reading at
-  InvariantIn Walk at want = Walking want at
-  InvariantIn Followed at want = Following at
-  InvariantIn Keep at want = Keeping
-  InvariantIn Wipe at want = Wiping want at
-  InvariantIn Delete at want = Deleting want at
-  InvariantIn Proved at want = A ≡ answered (tally .steps)
-  InvariantIn (Refused k) at want = A ≡ refusal k (tally .steps)
+  abbrev pub InvariantIn : List ℕ → Phase → ℕ → ℕ → ℕ → Type 0
+  InvariantIn tr Next at want n = Reading at
+  InvariantIn tr Walk at want n = Walking tr n want at
+  InvariantIn tr Followed at want n = Following tr n at
+  InvariantIn tr Keep at want n = Keeping tr n at
+  InvariantIn tr Wipe at want n = Wiping want at
+  InvariantIn tr Delete at want n = Deleting want at
+  InvariantIn tr Proved at want n = A ≡ answered (tally .steps)
+  InvariantIn tr (Refused k) at want n = A ≡ refusal k (tally .steps)
 
-  abbrev pub InvariantAt : Machine → Type 0
-  InvariantAt m = InvariantIn (m .phase) (m .at) (m .want)
+  abbrev pub InvariantAt : List ℕ → Machine → Type 0
+  InvariantAt tr m = InvariantIn tr (m .phase) (m .at) (m .want) (m .set)
 
 abbrev pub Invariant : List ℕ → Limits → Answer ℕ → World → Type 0
-Invariant s lim A w = InvariantAt s lim A (w .check .tally) (w .check .clause) (w .rows) (w .words) (w .marks) (w .machine)
+Invariant s lim A w =
+    InvariantAt s lim A (w .check .tally) (w .check .clause) (w .rows) (w .words) (w .marks) (w .trail) (w .machine)

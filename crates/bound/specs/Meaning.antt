@@ -2,7 +2,7 @@
 use mathlib.Core.Path.{_≡_, refl, sym, ap, _∙_}
 use mathlib.Core.List.{List, _++_, flatMap}
 use mathlib.Core.Option.{none, some}
-use Prim.Native.Nat.{ℕ, zero, suc, _≤_}
+use Prim.Native.Nat.{ℕ, zero, suc, _≤_, _<_}
 use native.Mathlib.Omega.{arith}
 use lib.ListN.{length}
 use borrow.Author.Tests.{eq-eqb, ne-eqb}
@@ -32,7 +32,8 @@ use Rattle.turns.specs.declared.check.Check.{Check}
 use Rattle.reading.specs.Listing.{list-cut}
 use Rattle.hints.specs.Machine as machine
 use Rattle.hints.specs.Machine.{turnOf, turn-phase, Advances, gone, broken, walks, wipes, idle}
-use Rattle.turns.specs.Check.{largest, answerOf}
+use Rattle.trail.specs.Recorded.{largest}
+use Rattle.turns.specs.Check.{answerOf}
 use Rattle.run.specs.Run as run
 use Rattle.run.specs.Run.{World, Turn, looks, keeps, judges, reads, Ran, Driven}
 use Rattle.run.specs.Termination.{Past, turn-falls}
@@ -49,8 +50,8 @@ live-some : (live : ℕ) (cl : List ℕ) → (live ≡ 0 → ⊥) → held live 
 live-some live cl e = rw (ne-eqb live 0 e)
 
 module _ (s : List ℕ) (lim : Limits) (A : Answer ℕ) (c : Check) (R : ℕ
-    → Row) (ws ms : List ℕ) (m : Machine) (p : Probe) (r : Machine) (ms′ : List ℕ)
-    (f : Finds (lim .rowsLent) R (c .tally .rows) (m .want) p) (a : Advances s m (p .hit) ws ms r ms′) where
+    → Row) (ws ms tr : List ℕ) (m : Machine) (p : Probe) (r : Machine) (ms′ tr′ : List ℕ)
+    (f : Finds (lim .rowsLent) R (c .tally .rows) (m .want) p) (a : Advances s m (p .hit) ws ms tr r ms′ tr′) where
   -- what was found, in a store that holds clauses
   module _ (b : Base lim (c .tally) R ws ms) where
     what : Found R (c .tally .rows) (m .want) p
@@ -59,59 +60,59 @@ module _ (s : List ℕ) (lim : Limits) (A : Answer ℕ) (c : Check) (R : ℕ
     clause-is : liveIn (c .tally) R ws (m .want) ≡ held (p .hit .live) (rowClause (p .hit) ws)
     clause-is = live-found R ws (c .tally .rows) (m .want) p (b .holding .rising) what
 
-  walk-turn : m .phase ≡ Walk → Walking s lim A (c .tally) (c .clause) R ws ms (m .want) (m .at)
-      → InvariantAt s lim A (c .tally) (c .clause) R ws ms′ r
-  walk-turn e w = by a
+  walk-turn : m .phase ≡ Walk → length tr < largest → Walking s lim A (c .tally) (c .clause) R ws ms tr (m .set) (m .want) (m .at)
+      → InvariantAt s lim A (c .tally) (c .clause) R ws ms′ tr′ r
+  walk-turn e few w = by a
     where
       b : Base lim (c .tally) R ws ms
       b = w .adding .base
 
-      by : Advances s m (p .hit) ws ms r ms′ → InvariantAt s lim A (c .tally) (c .clause) R ws ms′ r
-      by (gone z q) = rw q (hint-gone s lim A c R ws ms (m .want) (m .at) w (clause-is b ∙ gone-none _ _ z))
+      by : Advances s m (p .hit) ws ms tr r ms′ tr′ → InvariantAt s lim A (c .tally) (c .clause) R ws ms′ tr′ r
+      by (gone z q) = rw q (hint-gone s lim A c R ws ms tr (m .set) (m .want) (m .at) w (clause-is b ∙ gone-none _ _ z))
       by (broken k v n q) = let x = list-cut s (m .at) k v n in let y = w .left-at in impossible (cc)
-      by (walks id next l n z q t) =
-          rw (q, t)
-          (hint-judged s lim A c R ws ms (m .want) (m .at) w (rowClause (p .hit) ws) (clause-is b ∙ live-some _ _ l)
+      by (walks id next l n z q t u) =
+          rw (q, t, u)
+          (hint-judged s lim A c R ws ms tr (m .set) (m .want) (m .at) w (rowClause (p .hit) ws) (clause-is b ∙ live-some _ _ l)
           (found-good (lim .lastVariable) (lim .rowsLent) R ws (c .tally .rows) (c .tally .words) (c .tally .highest) (b .holding)
           (m .want) p (what b) l)
-          id next n)
+          few id next n)
       by (wipes id next l n z q t) = impossible (cc)
       by (machine.deletes id next l n z q t) = impossible (cc)
       by (idle z) = absurd (omega (arith, ap turnOf e))
 
   wipe-turn : m .phase ≡ Wipe → c .clause .hints ≤ m .at → length ms′ ≡ length ms
       → Wiping s lim A (c .tally) (c .clause) R ws ms (m .want) (m .at)
-      → InvariantAt s lim A (c .tally) (c .clause) R ws ms′ r
+      → InvariantAt s lim A (c .tally) (c .clause) R ws ms′ tr′ r
   wipe-turn e past long w = by a
     where
-      by : Advances s m (p .hit) ws ms r ms′ → InvariantAt s lim A (c .tally) (c .clause) R ws ms′ r
+      by : Advances s m (p .hit) ws ms tr r ms′ tr′ → InvariantAt s lim A (c .tally) (c .clause) R ws ms′ tr′ r
       by (gone z q) = absurd (rw (clause-is (w .base) ∙ gone-none _ _ z) at (w .live .0))
       by (broken k v n q) = let x = list-cut s (m .at) k v n in let y = w .left-at in impossible (cc)
-      by (walks id next l n z q t) = impossible (cc)
+      by (walks id next l n z q t u) = impossible (cc)
       by (wipes id next l n z q t) =
           rw q
-          (clause-wiped s lim A c R ws ms (m .want) (m .at) w (rowClause (p .hit) ws) ms′ (clause-is (w .base)
-          ∙ live-some _ _ l) t long id next n past)
+          (clause-wiped s lim A c R ws ms tr (m .set) (m .want) (m .at) w (rowClause (p .hit) ws) ms′ (clause-is (w .base)
+          ∙ live-some _ _ l) t long tr′ id next n past)
       by (machine.deletes id next l n z q t) = impossible (cc)
       by (idle z) = absurd (omega (arith, ap turnOf e))
 
   delete-turn : m .phase ≡ Delete → c .clause .hints ≤ m .at → (R′ : ℕ → Row) → Dies (lim .rowsLent) R R′ (p .at)
-      → Deleting s lim A (c .tally) (c .clause) R ws ms (m .want) (m .at) → InvariantAt s lim A (c .tally) (c .clause) R′ ws ms′ r
+      → Deleting s lim A (c .tally) (c .clause) R ws ms (m .want) (m .at) → InvariantAt s lim A (c .tally) (c .clause) R′ ws ms′ tr′ r
   delete-turn e past R′ d w = by a
     where
-      by : Advances s m (p .hit) ws ms r ms′ → InvariantAt s lim A (c .tally) (c .clause) R′ ws ms′ r
+      by : Advances s m (p .hit) ws ms tr r ms′ tr′ → InvariantAt s lim A (c .tally) (c .clause) R′ ws ms′ tr′ r
       by (gone z q) = rw q (id-gone s lim A c R ws ms (m .want) (m .at) w (clause-is (w .base) ∙ gone-none _ _ z))
       by (broken k v n q) = let x = list-cut s (m .at) k v n in let y = w .left-at in impossible (cc)
-      by (walks id next l n z q t) = impossible (cc)
+      by (walks id next l n z q t u) = impossible (cc)
       by (wipes id next l n z q t) = impossible (cc)
       by (machine.deletes id next l n z q t) = found (what (w .base))
         where
-          found : Found R (c .tally .rows) (m .want) p → InvariantAt s lim A (c .tally) (c .clause) R′ ws ms′ r
+          found : Found R (c .tally .rows) (m .want) p → InvariantAt s lim A (c .tally) (c .clause) R′ ws ms′ tr′ r
           found (hit h i j) =
               rw (q, t, d .dies (omega (arith, w .base .holding .fit)))
               (id-deleted s lim A c R ws ms (m .want) (m .at) (p .at) w (rowClause (p .hit) ws) (clause-is (w .base)
               ∙ live-some _ _ l) h
-              (ap (λ x. x .id) (sym i) ∙ j) id next n past)
+              (ap (λ x. x .id) (sym i) ∙ j) tr′ id next n past)
           found (miss i j) = absurd (l (ap (λ x. x .live) i))
       by (idle z) = absurd (omega (arith, ap turnOf e))
 
@@ -123,23 +124,23 @@ pub record Short (s : List ℕ) (lim : Limits) : Type 0 where
 
 -- a turn keeps what holds
 module _ (s : List ℕ) (lim : Limits) (A : Answer ℕ) (short : Short s lim) (w v : World)
-    (long : length (v .marks) ≡ length (w .marks)) (past : Past (w .check) (w .machine)) where
+    (long : length (v .marks) ≡ length (w .marks)) (few : length (w .trail) < largest) (past : Past (w .check) (w .machine)) where
   look-keeps : (p : Probe) → turnOf (w .machine .phase) ≡ 0
       → Finds (lim .rowsLent) (w .rows) (w .check .tally .rows) (w .machine .want) p
-      → Advances s (w .machine) (p .hit) (w .words) (w .marks) (v .machine) (v .marks)
-      → Invariant s lim A w → InvariantAt s lim A (w .check .tally) (w .check .clause) (w .rows) (w .words) (v .marks)
+      → Advances s (w .machine) (p .hit) (w .words) (w .marks) (w .trail) (v .machine) (v .marks) (v .trail)
+      → Invariant s lim A w → InvariantAt s lim A (w .check .tally) (w .check .clause) (w .rows) (w .words) (v .marks) (v .trail)
       (v .machine)
   look-keeps p t f a = go (w .machine .phase) refl t
     where
       go : (ph : Phase) → w .machine .phase ≡ ph → turnOf ph ≡ 0
-          → InvariantIn s lim A (w .check .tally) (w .check .clause) (w .rows) (w .words) (w .marks) ph (w .machine .at)
-          (w .machine .want)
-          → InvariantAt s lim A (w .check .tally) (w .check .clause) (w .rows) (w .words) (v .marks) (v .machine)
+          → InvariantIn s lim A (w .check .tally) (w .check .clause) (w .rows) (w .words) (w .marks) (w .trail) ph (w .machine .at)
+          (w .machine .want) (w .machine .set)
+          → InvariantAt s lim A (w .check .tally) (w .check .clause) (w .rows) (w .words) (v .marks) (v .trail) (v .machine)
       go Next e t x = absurd (omega arith)
-      go Walk e t x = walk-turn s lim A (w .check) (w .rows) (w .words) (w .marks) (w .machine) p (v .machine) (v .marks) f a e x
+      go Walk e t x = walk-turn s lim A (w .check) (w .rows) (w .words) (w .marks) (w .trail) (w .machine) p (v .machine) (v .marks) (v .trail) f a e few x
       go Followed e t x = absurd (omega arith)
       go Keep e t x = absurd (omega arith)
-      go Wipe e t x = wipe-turn s lim A (w .check) (w .rows) (w .words) (w .marks) (w .machine) p (v .machine) (v .marks) f a e
+      go Wipe e t x = wipe-turn s lim A (w .check) (w .rows) (w .words) (w .marks) (w .trail) (w .machine) p (v .machine) (v .marks) (v .trail) f a e
           past long x
       go Delete e t x = absurd (omega arith)
       go Proved e t x = absurd (omega arith)
@@ -147,58 +148,61 @@ module _ (s : List ℕ) (lim : Limits) (A : Answer ℕ) (short : Short s lim) (w
 
   -- what holds in the phase of a turn
   in-phase : (n : ℕ) → turnOf (w .machine .phase) ≡ n → 1 ≤ n → n ≤ 4 → Invariant s lim A w
-      → InvariantIn s lim A (w .check .tally) (w .check .clause) (w .rows) (w .words) (w .marks) (machine.phaseOf n)
+      → InvariantIn s lim A (w .check .tally) (w .check .clause) (w .rows) (w .words) (w .marks) (w .trail) (machine.phaseOf n)
       (w .machine .at)
-      (w .machine .want)
+      (w .machine .want) (w .machine .set)
   in-phase n t l h x = rw (turn-phase (w .machine .phase) t l h) at x
 
   pub turn-keeps : Turn s (lim .lastVariable) (lim .rowsLent) w v → Invariant s lim A w → Invariant s lim A v
   turn-keeps (looks p t f r d a c ws) x = rw (c, ws) (by (turnOf (w .machine .phase)) refl)
     where
       by : (n : ℕ) → turnOf (w .machine .phase) ≡ n
-          → InvariantAt s lim A (w .check .tally) (w .check .clause) (v .rows) (w .words) (v .marks) (v .machine)
+          → InvariantAt s lim A (w .check .tally) (w .check .clause) (v .rows) (w .words) (v .marks) (v .trail) (v .machine)
       by zero e = rw (r e) (look-keeps p e f a x)
       by (suc zero) e =
-          delete-turn s lim A (w .check) (w .rows) (w .words) (w .marks) (w .machine) p (v .machine) (v .marks) f a
+          delete-turn s lim A (w .check) (w .rows) (w .words) (w .marks) (w .trail) (w .machine) p (v .machine) (v .marks) (v .trail) f a
           (turn-phase (w .machine .phase) e (omega arith) (omega arith))
           past (v .rows) (d e) (in-phase 1 e (omega arith) (omega arith) x)
       by (suc (suc n)) e = absurd (omega arith)
   turn-keeps (keeps t a c k e ms) x =
       let y = in-phase 2 t (omega arith) (omega arith) x in
-      rw (
-        e,
-        c,
-        ms,
-        a .appends (omega (arith, y .rows-fit)),
-        k .copies (y .adding .literals) (y .adding .middle)
-            (y .adding .literals-at),
-      )
-      (clause-kept s lim A (w .check) (w .rows) (w .words) (w .marks) y (short .few-rows) (short .few-words))
-  turn-keeps (judges t c e r ws ms) x =
-      rw (e, c, r, ws, ms) (clause-judged s lim A (w .check) (w .rows) (w .words) (w .marks) (w .machine .at)
+      let d = k .copies (y .adding .literals) (y .adding .middle) (y .adding .literals-at) in
+      let l = rw (ms, c, d) at long in
+      rw (e, ms, c, a .appends (omega (arith, y .rows-fit)), d)
+      (clause-kept s lim A (w .check) (w .rows) (w .words) (w .marks) (w .trail) (w .machine) y (short .few-rows) (short .few-words) past
+      (v .trail) l)
+  turn-keeps (judges t c e r ws ms tr) x =
+      rw (e, c, r, ws, ms, tr) (clause-judged s lim A (w .check) (w .rows) (w .words) (w .marks) (w .trail) (w .machine .set) (w .machine .at)
       (in-phase 3 t (omega arith) (omega arith) x))
   turn-keeps (reads t a e r ws) x =
       rw (e, r, ws)
-      (step-read s lim A (w .check) (w .rows) (w .words) (w .marks) (w .machine .at) (v .check) (v .marks)
+      (step-read s lim A (w .check) (w .rows) (w .words) (w .marks) (v .trail) (w .machine .at) (v .check) (v .marks)
       (in-phase 4 t (omega arith) (omega arith) x) (short .few-bytes) long a)
 
 -- a run keeps what holds
-ran-keeps : (s : List ℕ) (lim : Limits) (A : Answer ℕ) → Short s lim → (w v : World)
-    → Ran s (lim .lastVariable) (lim .rowsLent) w v
-    → Past (w .check) (w .machine) × Invariant s lim A w → Past (v .check) (v .machine) × Invariant s lim A v
-ran-keeps s lim A short w v run.none x = x
-ran-keeps s lim A short w v (run.more u v′ r t long) x =
-    let y = ran-keeps s lim A short w u r x in
-    (turn-falls s (lim .lastVariable) (lim .rowsLent) u v t (y .0) .0, turn-keeps s lim A short u v long (y .0) t (y .1))
+pub record Held (s : List ℕ) (lim : Limits) (A : Answer ℕ) (w : World) : Type 0 where
+  pub past : Past (w .check) (w .machine)
+  pub few : length (w .trail) < largest
+  pub kept : Invariant s lim A w
 
--- the answer of a check that has ended
+ran-keeps : (s : List ℕ) (lim : Limits) (A : Answer ℕ) → Short s lim → (w v : World)
+    → Ran s (lim .lastVariable) (lim .rowsLent) w v → Held s lim A w → Held s lim A v
+ran-keeps s lim A short w v run.none x = x
+ran-keeps s lim A short w v (run.more u v′ r t long trail) x =
+    let y = ran-keeps s lim A short w u r x in
+    record {
+      past = turn-falls s (lim .lastVariable) (lim .rowsLent) u v t (y .past) .0;
+      few = omega (arith, y .few, trail);
+      kept = turn-keeps s lim A short u v long (y .few) (y .past) t (y .kept);
+    }
+
 ended-answer : (s : List ℕ) (lim : Limits) (A : Answer ℕ) (w : World) → 5 ≤ turnOf (w .machine .phase) → Invariant s lim A w
     → checkMeans (answerOf (w .check .tally .steps) (w .machine .phase)) ≡ A
 ended-answer s lim A w h = go (w .machine .phase) h
   where
     go : (ph : Phase) → 5 ≤ turnOf ph
-        → InvariantIn s lim A (w .check .tally) (w .check .clause) (w .rows) (w .words) (w .marks) ph (w .machine .at)
-        (w .machine .want)
+        → InvariantIn s lim A (w .check .tally) (w .check .clause) (w .rows) (w .words) (w .marks) (w .trail) ph (w .machine .at)
+        (w .machine .want) (w .machine .set)
         → checkMeans (answerOf (w .check .tally .steps) ph) ≡ A
     go Next t x = absurd (omega arith)
     go Walk t x = absurd (omega arith)
@@ -245,7 +249,7 @@ driven-means s last cap n used R ws ms r f d x =
     let lim = limits last (length ws) cap in
     let A = plainRun lim f s in
     let short : Short s lim = record { few-bytes = d .few-bytes; few-words = d .few-words; few-rows = d .few-rows } in
-    let begins : Invariant s lim A (run.ready n used R ws ms) =
+    let begins : Invariant s lim A (run.ready n used R ws ms (d .trail)) =
     record {
       base = record { holding = x .holding; lent = refl; marked = x .marked };
       unmarked = x .unmarked;
@@ -255,10 +259,8 @@ driven-means s last cap n used R ws ms r f d x =
       answer = rw (x .live, x .count, x .size);
     } in
     ap checkMeans (d .answer)
-    ∙ ended-answer s lim A (d .end) (d .over) (ran-keeps s lim A short (run.ready n used R ws ms) (d .end) (d .ran) (
-      omega arith,
-      begins,
-    ) .1)
+    ∙ ended-answer s lim A (d .end) (d .over) (ran-keeps s lim A short (run.ready n used R ws ms (d .trail)) (d .end) (d .ran)
+    (record { past = omega arith; few = d .short-trail; kept = begins }) .kept)
 
 -- the same for a formula that stood in the words with each clause's last word marked, of which the directory was built
 pub check-means : (s : List ℕ) (last n : ℕ) (ys₀ ys : List Row) (ws₀ ws ms : List ℕ) (r : CheckAnswer) (f : List (List ℕ)) (rest : List ℕ) {R′ : ℕ → Row} {ws′ ms′ : List ℕ}

@@ -29,7 +29,8 @@ use Rattle.turns.specs.declared.check.Check.{Check}
 use Rattle.reading.specs.Reading.{tokensAt, AddsAt, DeletesAt, MisformedAt, Open, ReadsStep, adds, deletes, misformed}
 use Rattle.reading.specs.Listing.{Ahead, last-id, more-ids, ids-ahead, list-cut}
 use Rattle.hints.specs.Machine.{onward, onward-end, onward-more}
-use Rattle.turns.specs.Check.{largest, firstId, entered, counted, stepped, TakesStep, over, takes}
+use Rattle.trail.specs.Recorded.{largest}
+use Rattle.turns.specs.Check.{firstId, entered, counted, stepped, TakesStep, over, takes}
 use Rattle.bound.specs.Invariant.{Base, InStep, ending, Adding, before, liveIn, stateOf, Reading, InvariantAt}
 
 -- where bytes are left, the run takes the step that is read
@@ -50,7 +51,7 @@ misformed-answer : (lim : Limits) (st : State) (x : StepRead) (go : Tokens → S
 misformed-answer lim st misread go m = refl
 misformed-answer lim st (read t ts) go m = rw (m t ts refl)
 
-module _ (s : List ℕ) (lim : Limits) (A : Answer ℕ) (c : Check) (R : ℕ → Row) (ws ms : List ℕ) (at : ℕ)
+module _ (s : List ℕ) (lim : Limits) (A : Answer ℕ) (c : Check) (R : ℕ → Row) (ws ms tr : List ℕ) (at : ℕ)
     (w : Reading s lim A (c .tally) (c .clause) R ws ms at) where
   -- no step is left
   pub no-step : length s ≤ at → A ≡ refusal 18 (c .tally .steps)
@@ -133,16 +134,17 @@ module _ (s : List ℕ) (lim : Limits) (A : Answer ℕ) (c : Check) (R : ℕ →
       unfolding hintsShow
       none-show = rw one-more
 
-      pub step-adds : InvariantAt s lim A (counted (c .tally)) k R ws ms′ (entered s (stepped c (Adds k)))
+      pub step-adds : InvariantAt s lim A (counted (c .tally)) k R ws ms′ tr (entered s (stepped c (Adds k)))
       step-adds = go (number s (k .hints)) refl
         where
           by : (id next : ℕ) (hs : List ℕ) → a .hints ≡ hs → Ahead s next id (tokensAt s (a .next)) hs
-              → InvariantAt s lim A (counted (c .tally)) k R ws ms′ (onward Walk (Refused 16) id next)
-          by id next hs q (last-id z t) = rw (onward-end Walk (Refused 16) id next z) (answer-adds [] q ∙ none-show)
+              → InvariantAt s lim A (counted (c .tally)) k R ws ms′ tr (onward Walk (Refused 16) id next 0)
+          by id next hs q (last-id z t) = rw (onward-end Walk (Refused 16) id next 0 z) (answer-adds [] q ∙ none-show)
           by id next hs q (more-ids z rest t) =
-              rw (onward-more Walk (Refused 16) id next z)
+              rw (onward-more Walk (Refused 16) id next 0 z)
               (record {
                 adding = adding;
+                trail = record { trailed = λ h v f. ap (λ m. m v) (a .marks) };
                 left = rest;
                 left-at = t;
                 among = λ v f. rw q at f;
@@ -151,7 +153,7 @@ module _ (s : List ℕ) (lim : Limits) (A : Answer ℕ) (c : Check) (R : ℕ →
               })
 
           go : (x : Parsed ℕ) → number s (k .hints) ≡ x
-              → InvariantAt s lim A (counted (c .tally)) k R ws ms′ (firstId Walk (Refused 16) (k .hints) x)
+              → InvariantAt s lim A (counted (c .tally)) k R ws ms′ tr (firstId Walk (Refused 16) (k .hints) x)
           go (got id next) e = by id next (a .hints) refl (ids-ahead s (k .hints) id next (a .hints) (tokensAt s (a .next)) e
               (a .hints-stand .listed))
           go (refused j o) e = let x = list-cut s (k .hints) j o e in let y = a .hints-stand .listed in impossible (cc)
@@ -170,14 +172,14 @@ module _ (s : List ℕ) (lim : Limits) (A : Answer ℕ) (c : Check) (R : ℕ →
       unfolding perform wellFormed
       answer-deletes ids q = taken .2 ∙ rw (d .step, q)
 
-      pub step-deletes : InvariantAt s lim A (counted (c .tally)) ids-clause R ws ms (entered s (stepped c (Deletes from)))
+      pub step-deletes : InvariantAt s lim A (counted (c .tally)) ids-clause R ws ms tr (entered s (stepped c (Deletes from)))
       unfolding deleted
       step-deletes = go (number s from) refl
         where
           by : (id next : ℕ) → from < next → (ids : List ℕ) → d .ids ≡ ids → Ahead s next id (tokensAt s (d .next)) ids
-              → InvariantAt s lim A (counted (c .tally)) ids-clause R ws ms (onward Delete Next id next)
+              → InvariantAt s lim A (counted (c .tally)) ids-clause R ws ms tr (onward Delete Next id next 0)
           by id next l ids q (last-id z t) =
-              rw (onward-end Delete Next id next z)
+              rw (onward-end Delete Next id next 0 z)
               (record {
                 base = base′ ids-clause ahead ms refl;
                 unmarked = w .unmarked;
@@ -187,7 +189,7 @@ module _ (s : List ℕ) (lim : Limits) (A : Answer ℕ) (c : Check) (R : ℕ →
                 answer = answer-deletes [] q ∙ rw (one-more, t);
               })
           by id next l ids q (more-ids z rest t) =
-              rw (onward-more Delete Next id next z)
+              rw (onward-more Delete Next id next 0 z)
               (record {
                 base = base′ ids-clause ahead ms refl;
                 unmarked = w .unmarked;
@@ -198,24 +200,24 @@ module _ (s : List ℕ) (lim : Limits) (A : Answer ℕ) (c : Check) (R : ℕ →
               })
 
           go : (x : Parsed ℕ) → number s from ≡ x
-              → InvariantAt s lim A (counted (c .tally)) ids-clause R ws ms (firstId Delete Next from x)
+              → InvariantAt s lim A (counted (c .tally)) ids-clause R ws ms tr (firstId Delete Next from x)
           go (got id next) e = by id next (number-got s from e .ahead) (d .ids) refl
               (ids-ahead s from id next (d .ids) (tokensAt s (d .next)) e (d .stand .listed))
           go (refused j o) e = let x = list-cut s from j o e in let y = d .stand .listed in impossible (cc)
 
 -- the step at an offset
 pub step-read : (s : List ℕ) (lim : Limits) (A : Answer ℕ) (c : Check) (R : ℕ
-    → Row) (ws ms : List ℕ) (at : ℕ) (r : Check) (ms′ : List ℕ)
+    → Row) (ws ms tr : List ℕ) (at : ℕ) (r : Check) (ms′ : List ℕ)
     → Reading s lim A (c .tally) (c .clause) R ws ms at → length s ≤ largest → length ms′ ≡ length ms
-    → TakesStep s c at (lim .lastVariable) ms r ms′ → InvariantAt s lim A (r .tally) (r .clause) R ws ms′ (entered s r)
-step-read s lim A c R ws ms at r ms′ w short long (over h q) = rw q (no-step s lim A c R ws ms at w h)
-step-read s lim A c R ws ms at r ms′ w short long (takes x h rs q) = rw q (by x rs)
+    → TakesStep s c at (lim .lastVariable) ms r ms′ → InvariantAt s lim A (r .tally) (r .clause) R ws ms′ tr (entered s r)
+step-read s lim A c R ws ms tr at r ms′ w short long (over h q) = rw q (no-step s lim A c R ws ms tr at w h)
+step-read s lim A c R ws ms tr at r ms′ w short long (takes x h rs q) = rw q (by x rs)
   where
     clean : Open (lim .lastVariable) ms
     clean = (w .base .marked, w .unmarked)
 
     by : (x : Read) → ReadsStep (readStep (tokensAt s at)) s at (c .tally .highest) (lim .lastVariable) ms ms′ x
-        → InvariantAt s lim A (stepped c x .tally) (stepped c x .clause) R ws ms′ (entered s (stepped c x))
-    by x (adds k a i f) = step-adds s lim A c R ws ms at w h short k a ms′ long (f clean)
-    by x (deletes from a i e d) = rw e (step-deletes s lim A c R ws ms at w h short from a d)
-    by x (misformed f) = step-misformed s lim A c R ws ms at w h short (f clean)
+        → InvariantAt s lim A (stepped c x .tally) (stepped c x .clause) R ws ms′ tr (entered s (stepped c x))
+    by x (adds k a i f) = step-adds s lim A c R ws ms tr at w h short k a ms′ long (f clean)
+    by x (deletes from a i e d) = rw e (step-deletes s lim A c R ws ms tr at w h short from a d)
+    by x (misformed f) = step-misformed s lim A c R ws ms tr at w h short (f clean)

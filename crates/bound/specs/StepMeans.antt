@@ -1,5 +1,5 @@
 -- A step-level turn keeps what holds of a check: a clause is deleted, kept or judged, and a step is read.
-use mathlib.Core.Path.{_≡_, refl, sym, ap, _∙_}
+use mathlib.Core.Path.{_≡_, refl, sym, ap, _∙_, fun-ext}
 use mathlib.Core.Bool.{Bool, true, false, cond, _&&_}
 use mathlib.Core.List.{List, [], _∷_}
 use mathlib.Core.Option.{Option, none, some}
@@ -17,26 +17,29 @@ use Rattle.theory.specs.StepTokens.{byFront, tokensAfter}
 use Rattle.theory.specs.Marked.{allOpen}
 use Rattle.theory.specs.MarkedRun as plain
 use Rattle.scope.specs.PlainRun.{State, Limits, withClause, fits}
-use Rattle.theory.specs.MarkedRun.{byShown, byDeleted, atEnd}
+use Rattle.theory.specs.MarkedRun.{byShown, byDeleted, atEnd, run}
 use Rattle.number.specs.Laws.{number-got}
 use Rattle.store.specs.declared.directory.Row.{Row}
 use Rattle.store.specs.Marks.{marksOf}
-use Rattle.store.specs.Clauses.{inClause}
+use Rattle.store.specs.Clauses.{part, inClause, wiped, wiped-opens}
 use Rattle.store.specs.Rows.{dying}
 use Rattle.store.specs.Live.{liveRows, live-dead, put-same, put-other}
-use Rattle.store.specs.Holding.{All, Good, Holding, holding-kept, live-kept, id-free, holding-dead}
+use Rattle.store.specs.Holding.{All, Good, Holding, part-stored, holding-kept, live-kept, id-free, holding-dead}
 use Rattle.laws.specs.Booleans.{impossible, and-true, or-false}
 use Rattle.theory.specs.Tokens.{tokens-stop}
 use Rattle.hints.specs.declared.machine.Phase.{Phase}
-use Rattle.hints.specs.declared.machine.Phase.the-variants.{Next, Keep, Delete, Proved, Refused}
+use Rattle.hints.specs.declared.machine.Phase.the-variants.{Next, Keep, Wipe, Delete, Proved, Refused}
+use Rattle.hints.specs.declared.machine.Machine.{Machine}
 use Rattle.turns.specs.declared.check.Check.{Check}
 use Rattle.turns.specs.declared.check.Tally.{Tally}
+use Rattle.steps.specs.declared.step.Clause.{Clause}
 use Rattle.reading.specs.Reading.{tokensAt}
 use Rattle.reading.specs.Listing.{Ahead, last-id, more-ids, ids-ahead}
-use Rattle.hints.specs.Machine.{onward, onward-end, onward-more}
-use Rattle.turns.specs.Check.{withPhase, verdict, rowOf, largest, keptAs, entered}
+use Rattle.hints.specs.Machine.{stopped, onward, onward-end, onward-more}
+use Rattle.trail.specs.Recorded.{largest}
+use Rattle.turns.specs.Check.{verdict, rowOf, keptAs, unwound, unwoundMarks}
 use Rattle.bound.specs.Hints.{inHint, inHints, IsLive, outside-false, literals-good, hints-same, live-same}
-use Rattle.bound.specs.Invariant.{Base, ending, before, liveIn, stateOf, Following, Keeping, Deleting, InvariantAt}
+use Rattle.bound.specs.Invariant.{Base, InStep, ending, before, liveIn, stateOf, Following, Keeping, Wiping, Deleting, InvariantAt}
 
 -- what a deletion leaves does not go by the clauses that were live before it
 not-by-live : (n : ℕ) (t : Tally) (L L′ : Live) (o : Option Live) → byDeleted (stateOf n t L) o ≡ byDeleted (stateOf n t L′) o
@@ -57,6 +60,13 @@ non-empty : (lim : Limits) (st : State) (id : ℕ) (c : List ℕ) (l : ℕ) (ls 
     → byShown follows lim st id c ≡ cond t (plain.next (withClause st id c)) (plain.refused 17)
 non-empty lim st id [] l ls t e f = impossible (cc)
 non-empty lim st id (k ∷ ks) l ls t e f = rw f
+
+-- after a step, what is left is read on
+next-answer : (s : List ℕ) (lim : Limits) (A : Answer ℕ) (tally : Tally) (clause : Clause) (R : ℕ → Row) (ws : List ℕ)
+    (step : InStep s tally clause) (at : ℕ)
+    → A ≡ run (step .fuel) lim (stateOf (step .done + 1) tally (liveIn tally R ws)) (step .after) → tokensAt s at ≡ step .after
+    → A ≡ run (step .fuel) lim (stateOf (tally .steps) tally (liveIn tally R ws)) (tokensAt s at)
+next-answer s lim A tally clause R ws step at a e = a ∙ rw (step .counts, e)
 
 module _ (s : List ℕ) (lim : Limits) (A : Answer ℕ) (c : Check) (R : ℕ → Row) (ws ms : List ℕ) where
   -- an id to delete that is not live
@@ -83,18 +93,18 @@ module _ (s : List ℕ) (lim : Limits) (A : Answer ℕ) (c : Check) (R : ℕ →
           marked = w .base .marked;
         }
 
-    pub id-deleted : (id next : ℕ) → number s at ≡ got id next → c .clause .hints ≤ at
-        → InvariantAt s lim A (c .tally) (c .clause) R′ ws ms (onward Delete Next id next)
+    pub id-deleted : (tr : List ℕ) (id next : ℕ) → number s at ≡ got id next → c .clause .hints ≤ at
+        → InvariantAt s lim A (c .tally) (c .clause) R′ ws ms tr (onward Delete Next id next 0)
     unfolding deleted
-    id-deleted id next n past = go (w .left) refl (ids-ahead s at id next (w .left) (w .step .after) n (w .left-at))
+    id-deleted tr id next n past = go (w .left) refl (ids-ahead s at id next (w .left) (w .step .after) n (w .left-at))
       where
         k : at < next
         k = number-got s at n .ahead
 
         go : (left : List ℕ) → w .left ≡ left → Ahead s next id (w .step .after) left
-            → InvariantAt s lim A (c .tally) (c .clause) R′ ws ms (onward Delete Next id next)
+            → InvariantAt s lim A (c .tally) (c .clause) R′ ws ms tr (onward Delete Next id next 0)
         go left q (last-id z t) =
-            rw (onward-end Delete Next id next z)
+            rw (onward-end Delete Next id next 0 z)
             (record {
               base = deleted-base;
               unmarked = w .unmarked;
@@ -104,7 +114,7 @@ module _ (s : List ℕ) (lim : Limits) (A : Answer ℕ) (c : Check) (R : ℕ →
               answer = w .answer ∙ rw (e, q, now-live, w .step .counts, t);
             })
         go left q (more-ids z rest t) =
-            rw (onward-more Delete Next id next z)
+            rw (onward-more Delete Next id next 0 z)
             (record {
               base = deleted-base;
               unmarked = w .unmarked;
@@ -118,8 +128,8 @@ module _ (s : List ℕ) (lim : Limits) (A : Answer ℕ) (c : Check) (R : ℕ →
                   (deleted (put (liveIn (c .tally) R ws) h none) (id ∷ rest))));
             })
 
-  -- a clause is kept
-  module _ (w : Keeping s lim A (c .tally) (c .clause) R ws ms) where
+  -- a clause is kept, where the machine stands behind its step
+  module _ (tr : List ℕ) (m : Machine) (w : Keeping s lim A (c .tally) (c .clause) R ws ms tr (m .set) (m .at)) where
     abbrev row : Row
     row = rowOf c
 
@@ -184,8 +194,8 @@ module _ (s : List ℕ) (lim : Limits) (A : Answer ℕ) (c : Check) (R : ℕ →
       kept-used : min (c .tally .words + c .clause .size) largest ≡ c .tally .words + length (w .adding .literals)
       kept-used = omega (arith, w .words-fit, w .adding .size)
 
-      pub clause-kept : InvariantAt s lim A (keptAs c .tally) (keptAs c .clause) kept-rows kept-words ms (entered s (keptAs c))
-      clause-kept =
+      kept-wiping : Wiping s lim A (keptAs c .tally) (keptAs c .clause) kept-rows kept-words ms (c .clause .id) (c .clause .hints)
+      kept-wiping =
           record {
             base =
                 record {
@@ -213,10 +223,56 @@ module _ (s : List ℕ) (lim : Limits) (A : Answer ℕ) (c : Check) (R : ℕ →
             answer = w .answer ∙ rw (kept-count, kept-used, kept-live, add-one (c .tally .rows));
           }
 
+      -- the kept clause among the words, and the marks without it and the literals of the trail
+      kept-part : part (keptAs c .tally .words - c .clause .size) (c .clause .size) kept-words ≡ w .adding .literals
+      kept-part =
+          let e : keptAs c .tally .words - c .clause .size ≡ c .tally .words = omega (arith, kept-used, w .adding .size) in
+          rw (e, ← w .adding .size) (part-stored ws (c .tally .words) (w .adding .literals) room)
+
+      all-open : m .set ≤ length tr → (v : ℕ) → marksOf (wiped (wiped ms (w .adding .literals)) (part 0 (m .set) tr)) v ≡ 0
+      all-open h v =
+          wiped-opens (part 0 (m .set) tr) (wiped ms (w .adding .literals)) .opened v
+          ∙ ap (cond (inClause (part 0 (m .set) tr) v) 0) (wiped-opens (w .adding .literals) ms .opened v)
+          ∙ go (inClause (part 0 (m .set) tr) v) refl (inClause (w .adding .literals) v) refl
+        where
+          go : (x : Bool) → inClause (part 0 (m .set) tr) v ≡ x → (y : Bool) → inClause (w .adding .literals) v ≡ y
+              → cond x 0 (cond y 0 (marksOf ms v)) ≡ 0
+          go true e y f = refl
+          go false e true f = refl
+          go false e false f = w .trail .trailed h v e ∙ outside-false (w .adding .literals) allOpen v f
+
+      pub clause-kept : c .clause .hints ≤ m .at → (tr′ : List ℕ) → length (unwoundMarks (keptAs c) m kept-words ms tr) ≡ length ms
+          → InvariantAt s lim A (keptAs c .tally) (keptAs c .clause) kept-rows kept-words
+          (unwoundMarks (keptAs c) m kept-words ms tr) tr′ (unwound (keptAs c) m (length tr))
+      unfolding unwound unwoundMarks kept-wiping
+      clause-kept past tr′ = rw kept-part (go (leb (m .set) (length tr)) refl)
+        where
+          go : (t : Bool) → leb (m .set) (length tr) ≡ t
+              → length (cond t (wiped (wiped ms (w .adding .literals)) (part 0 (m .set) tr)) ms) ≡ length ms
+              → InvariantAt s lim A (keptAs c .tally) (keptAs c .clause) kept-rows kept-words
+              (cond t (wiped (wiped ms (w .adding .literals)) (part 0 (m .set) tr)) ms) tr′
+              (cond t (stopped Next (m .at)) (record { phase = Wipe; at = c .clause .hints; want = c .clause .id; set = 0 }))
+          go true t long =
+              record {
+                base =
+                    record {
+                      holding = kept-wiping .base .holding;
+                      lent = kept-wiping .base .lent;
+                      marked = rw long (w .adding .base .marked);
+                    };
+                unmarked = fun-ext (all-open (leb-true (m .set) (length tr) t));
+                early = omega (arith, w .adding .step .early);
+                fuel = w .adding .step .fuel;
+                enough = omega (arith, w .adding .step .enough);
+                answer = next-answer s lim A (keptAs c .tally) (keptAs c .clause) kept-rows kept-words (kept-wiping .step) (m .at)
+                    (kept-wiping .answer) (w .after-at);
+              }
+          go false t long = kept-wiping
+
   -- a clause that follows is judged
-  module _ (at : ℕ) (w : Following s lim A (c .tally) (c .clause) R ws ms at) where
+  module _ (tr : List ℕ) (n at : ℕ) (w : Following s lim A (c .tally) (c .clause) R ws ms tr n at) where
     abbrev Judged : Phase → Type 0
-    Judged p = InvariantAt s lim A (c .tally) (c .clause) R ws ms (entered s (withPhase c p))
+    Judged p = InvariantAt s lim A (c .tally) (c .clause) R ws ms tr (record { phase = p; at = at; want = 0; set = n })
 
     -- the empty clause
     empty-judged : w .adding .literals ≡ [] → (t : Bool) → ltb at (length s) ≡ t → Judged (cond t (Refused 18) Proved)
@@ -236,7 +292,9 @@ module _ (s : List ℕ) (lim : Limits) (A : Answer ℕ) (c : Check) (R : ℕ →
         (leb (c .tally .rows + 1) (lim .rowsLent)) t in
         record {
           adding = w .adding;
+          trail = w .trail;
           live = w .live;
+          after-at = w .after-at;
           words-fit = leb-true (c .tally .words + length (w .adding .literals)) (lim .wordsLent) (p .0);
           rows-fit = leb-true (c .tally .rows + 1) (lim .rowsLent) (p .1);
           answer = w .answer ∙ ap (ending lim (w .adding .step))

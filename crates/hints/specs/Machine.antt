@@ -5,6 +5,7 @@ use mathlib.Core.List.{List}
 use Prim.Native.Nat.{ℕ, zero, suc, _+_, _/_, _%_, _≤_}
 use native.Mathlib.Omega.{arith}
 use lib.Dec.{eqb}
+use lib.ListN.{length}
 use borrow.Author.Tests.{eqb-true, eqb-false}
 use Rattle.scope.specs.Parsed.{Parsed, got, refused}
 use Rattle.scope.specs.Number.{number}
@@ -13,36 +14,46 @@ use Rattle.store.specs.declared.directory.Row.{Row}
 use Rattle.store.specs.Marks.{marksOf, putMark}
 use Rattle.store.specs.Clauses.{Wiped, inClause, wiped, wiped-opens}
 use Rattle.store.specs.Live.{rowClause}
+use Rattle.trail.specs.Recorded.{recorded, recordedAt}
 use Rattle.hints.specs.declared.machine.Phase.{Phase}
 use Rattle.hints.specs.declared.machine.Phase.the-variants.{Next, Walk, Followed, Keep, Wipe, Delete, Proved, Refused}
 use Rattle.hints.specs.declared.machine.Machine.{Machine}
 
 -- no id is wanted
 abbrev pub stopped : Phase → ℕ → Machine
-stopped p at = record { phase = p; at = at; want = 0 }
+stopped p at = record { phase = p; at = at; want = 0; set = 0 }
+
+-- the step's clause follows, and the trail holds n literals
+abbrev pub followed : ℕ → ℕ → Machine
+followed at n = record { phase = Followed; at = at; want = 0; set = n }
 
 -- an id was read before next: it is wanted, or a 0 ends the ids
-unfoldable pub onward : Phase → Phase → ℕ → ℕ → Machine
-onward p over zero next = stopped over next
-onward p over (suc id) next = record { phase = p; at = next; want = suc id }
+unfoldable pub onward : Phase → Phase → ℕ → ℕ → ℕ → Machine
+onward p over zero next n = stopped over next
+onward p over (suc id) next n = record { phase = p; at = next; want = suc id; set = n }
 
-pub onward-end : (p over : Phase) (id next : ℕ) → id ≡ 0 → onward p over id next ≡ stopped over next
+pub onward-end : (p over : Phase) (id next n : ℕ) → id ≡ 0 → onward p over id next n ≡ stopped over next
 unfolding onward
-onward-end p over zero next h = refl
-onward-end p over (suc id) next h = absurd (omega arith)
+onward-end p over zero next n h = refl
+onward-end p over (suc id) next n h = absurd (omega arith)
 
-pub onward-more : (p over : Phase) (id next : ℕ) → (id ≡ 0 → ⊥)
-    → onward p over id next ≡ record { phase = p; at = next; want = id }
+pub onward-more : (p over : Phase) (id next n : ℕ) → (id ≡ 0 → ⊥)
+    → onward p over id next n ≡ record { phase = p; at = next; want = id; set = n }
 unfolding onward
-onward-more p over zero next h = absurd (h refl)
-onward-more p over (suc id) next h = refl
+onward-more p over zero next n h = absurd (h refl)
+onward-more p over (suc id) next n h = refl
 
 -- a hint was judged, where an id was read before next
-unfoldable pub walked : Standing → ℕ → ℕ → Machine
-walked falsified zero next = stopped Followed next
-walked falsified (suc id) next = stopped (Refused 16) next
-walked (oneOpen l) id next = onward Walk (Refused 16) id next
-walked other id next = stopped (Refused 16) next
+unfoldable pub walked : ℕ → Standing → ℕ → ℕ → ℕ → Machine
+walked k falsified zero next n = followed next n
+walked k falsified (suc id) next n = stopped (Refused 16) next
+walked k (oneOpen l) id next n = onward Walk (Refused 16) id next (recordedAt k n)
+walked k other id next n = stopped (Refused 16) next
+
+unfoldable pub walkedTrail : Standing → ℕ → List ℕ → List ℕ
+walkedTrail falsified n tr = tr
+walkedTrail (oneOpen l) n tr = recorded tr n l
+walkedTrail other n tr = tr
 
 unfoldable pub walkedMarks : Standing → List ℕ → List ℕ
 walkedMarks falsified ms = ms
@@ -50,15 +61,15 @@ walkedMarks (oneOpen l) ms = putMark ms (l / 2) (1 + l % 2)
 walkedMarks other ms = ms
 
 -- all literals of the hint are false
-pub walked-last : (id next : ℕ) → id ≡ 0 → walked falsified id next ≡ stopped Followed next
+pub walked-last : (k id next n : ℕ) → id ≡ 0 → walked k falsified id next n ≡ followed next n
 unfolding walked
-walked-last zero next h = refl
-walked-last (suc id) next h = absurd (omega arith)
+walked-last k zero next n h = refl
+walked-last k (suc id) next n h = absurd (omega arith)
 
-pub walked-early : (id next : ℕ) → (id ≡ 0 → ⊥) → walked falsified id next ≡ stopped (Refused 16) next
+pub walked-early : (k id next n : ℕ) → (id ≡ 0 → ⊥) → walked k falsified id next n ≡ stopped (Refused 16) next
 unfolding walked
-walked-early zero next h = absurd (h refl)
-walked-early (suc id) next h = refl
+walked-early k zero next n h = absurd (h refl)
+walked-early k (suc id) next n h = refl
 
 -- the turn that a machine waits for: a clause is looked at (0); one is deleted (1); one is kept (2); one is judged (3);
 -- a step is read (4); none is left (5)
@@ -93,16 +104,16 @@ turn-phase p e l h = rw (← e) (go p (omega arith) (omega arith))
     go Proved l h = absurd (omega arith)
     go (Refused k) l h = absurd (omega arith)
 
--- One turn with the row of the id that was wanted: by the phase, where an id was read before next
-abbrev pub turnedOn : Phase → Machine → Standing → ℕ → ℕ → Machine
-turnedOn Walk m x id next = walked x id next
-turnedOn Wipe m x id next = onward Wipe Next id next
-turnedOn Delete m x id next = onward Delete Next id next
-turnedOn Next m x id next = m
-turnedOn Followed m x id next = m
-turnedOn Keep m x id next = m
-turnedOn Proved m x id next = m
-turnedOn (Refused k) m x id next = m
+-- One turn with the row of the id that was wanted: by the phase, where an id was read before next and the trail has room for k
+abbrev pub turnedOn : ℕ → Phase → Machine → Standing → ℕ → ℕ → Machine
+turnedOn k Walk m x id next = walked k x id next (m .set)
+turnedOn k Wipe m x id next = onward Wipe Next id next 0
+turnedOn k Delete m x id next = onward Delete Next id next 0
+turnedOn k Next m x id next = m
+turnedOn k Followed m x id next = m
+turnedOn k Keep m x id next = m
+turnedOn k Proved m x id next = m
+turnedOn k (Refused r) m x id next = m
 
 abbrev pub turnedMarks : Phase → Standing → List ℕ → List ℕ → List ℕ
 turnedMarks Walk x c ms = walkedMarks x ms
@@ -114,49 +125,67 @@ turnedMarks Keep x c ms = ms
 turnedMarks Proved x c ms = ms
 turnedMarks (Refused k) x c ms = ms
 
+abbrev pub turnedTrail : Phase → Standing → ℕ → List ℕ → List ℕ
+turnedTrail Walk x n tr = walkedTrail x n tr
+turnedTrail Wipe x n tr = tr
+turnedTrail Delete x n tr = tr
+turnedTrail Next x n tr = tr
+turnedTrail Followed x n tr = tr
+turnedTrail Keep x n tr = tr
+turnedTrail Proved x n tr = tr
+turnedTrail (Refused k) x n tr = tr
+
 -- how a clause stands
 abbrev pub standsBy : List ℕ → List ℕ → Standing
 standsBy ms c = standing (marksOf ms) falsified c
 
 -- by the number at the machine's place
-abbrev pub readOn : Machine → List ℕ → List ℕ → Parsed ℕ → Machine
-readOn m c ms (refused k v) = stopped (Refused 14) (m .at)
-readOn m c ms (got id next) = turnedOn (m .phase) m (standsBy ms c) id next
+abbrev pub readOn : ℕ → Machine → List ℕ → List ℕ → Parsed ℕ → Machine
+readOn k m c ms (refused j v) = stopped (Refused 14) (m .at)
+readOn k m c ms (got id next) = turnedOn k (m .phase) m (standsBy ms c) id next
 
 abbrev pub readMarks : Phase → List ℕ → List ℕ → Parsed ℕ → List ℕ
 readMarks p c ms (refused k v) = ms
 readMarks p c ms (got id next) = turnedMarks p (standsBy ms c) c ms
 
+abbrev pub readTrail : Machine → List ℕ → List ℕ → List ℕ → Parsed ℕ → List ℕ
+readTrail m c ms tr (refused k v) = tr
+readTrail m c ms tr (got id next) = turnedTrail (m .phase) (standsBy ms c) (m .set) tr
+
 -- 15 where the row is not live
-unfoldable pub advanced : List ℕ → Machine → Row → List ℕ → List ℕ → Machine
-advanced s m row ws ms =
-    cond (eqb (row .live) 0) (stopped (Refused 15) (m .at)) (readOn m (rowClause row ws) ms (number s (m .at)))
+unfoldable pub advanced : List ℕ → ℕ → Machine → Row → List ℕ → List ℕ → Machine
+advanced s k m row ws ms =
+    cond (eqb (row .live) 0) (stopped (Refused 15) (m .at)) (readOn k m (rowClause row ws) ms (number s (m .at)))
 
 unfoldable pub advancedMarks : List ℕ → Machine → Row → List ℕ → List ℕ → List ℕ
 advancedMarks s m row ws ms = cond (eqb (row .live) 0) ms (readMarks (m .phase) (rowClause row ws) ms (number s (m .at)))
 
--- what a turn comes to
-pub data Advances (s : List ℕ) (m : Machine) (row : Row) (ws ms : List ℕ) (r : Machine) (ms′ : List ℕ) : Type 0 where
-  gone : row .live ≡ 0 → r ≡ stopped (Refused 15) (m .at) → Advances s m row ws ms r ms′
-  broken : (k v : ℕ) → number s (m .at) ≡ refused k v → r ≡ stopped (Refused 14) (m .at) → Advances s m row ws ms r ms′
-  walks : (id next : ℕ) → (row .live ≡ 0 → ⊥) → number s (m .at) ≡ got id next → m .phase ≡ Walk
-      → r ≡ walked (standing (marksOf ms) falsified (rowClause row ws)) id next
-      → ms′ ≡ walkedMarks (standing (marksOf ms) falsified (rowClause row ws)) ms → Advances s m row ws ms r ms′
-  wipes : (id next : ℕ) → (row .live ≡ 0 → ⊥) → number s (m .at) ≡ got id next → m .phase ≡ Wipe → r ≡ onward Wipe Next id next
-      → Wiped (inClause (rowClause row ws)) ms ms′ → Advances s m row ws ms r ms′
-  deletes : (id next : ℕ) → (row .live ≡ 0 → ⊥) → number s (m .at) ≡ got id next → m .phase ≡ Delete
-      → r ≡ onward Delete Next id next
-      → ms′ ≡ ms → Advances s m row ws ms r ms′
-  idle : 2 ≤ turnOf (m .phase) → Advances s m row ws ms r ms′
+unfoldable pub advancedTrail : List ℕ → Machine → Row → List ℕ → List ℕ → List ℕ → List ℕ
+advancedTrail s m row ws ms tr = cond (eqb (row .live) 0) tr (readTrail m (rowClause row ws) ms tr (number s (m .at)))
 
-pub advances : (s : List ℕ) (m : Machine) (row : Row) (ws ms : List ℕ)
-    → Advances s m row ws ms (advanced s m row ws ms) (advancedMarks s m row ws ms)
-unfolding advanced advancedMarks
-advances s m row ws ms = go (eqb (row .live) 0) refl
+-- what a turn comes to
+pub data Advances (s : List ℕ) (m : Machine) (row : Row) (ws ms tr : List ℕ) (r : Machine) (ms′ tr′ : List ℕ) : Type 0 where
+  gone : row .live ≡ 0 → r ≡ stopped (Refused 15) (m .at) → Advances s m row ws ms tr r ms′ tr′
+  broken : (k v : ℕ) → number s (m .at) ≡ refused k v → r ≡ stopped (Refused 14) (m .at) → Advances s m row ws ms tr r ms′ tr′
+  walks : (id next : ℕ) → (row .live ≡ 0 → ⊥) → number s (m .at) ≡ got id next → m .phase ≡ Walk
+      → r ≡ walked (length tr) (standing (marksOf ms) falsified (rowClause row ws)) id next (m .set)
+      → ms′ ≡ walkedMarks (standing (marksOf ms) falsified (rowClause row ws)) ms
+      → tr′ ≡ walkedTrail (standing (marksOf ms) falsified (rowClause row ws)) (m .set) tr → Advances s m row ws ms tr r ms′ tr′
+  wipes : (id next : ℕ) → (row .live ≡ 0 → ⊥) → number s (m .at) ≡ got id next → m .phase ≡ Wipe → r ≡ onward Wipe Next id next 0
+      → Wiped (inClause (rowClause row ws)) ms ms′ → Advances s m row ws ms tr r ms′ tr′
+  deletes : (id next : ℕ) → (row .live ≡ 0 → ⊥) → number s (m .at) ≡ got id next → m .phase ≡ Delete
+      → r ≡ onward Delete Next id next 0
+      → ms′ ≡ ms → Advances s m row ws ms tr r ms′ tr′
+  idle : 2 ≤ turnOf (m .phase) → Advances s m row ws ms tr r ms′ tr′
+
+pub advances : (s : List ℕ) (m : Machine) (row : Row) (ws ms tr : List ℕ)
+    → Advances s m row ws ms tr (advanced s (length tr) m row ws ms) (advancedMarks s m row ws ms) (advancedTrail s m row ws ms tr)
+unfolding advanced advancedMarks advancedTrail
+advances s m row ws ms tr = go (eqb (row .live) 0) refl
   where
     by-phase : (row .live ≡ 0 → ⊥) → (id next : ℕ) → number s (m .at) ≡ got id next → (p : Phase) → m .phase ≡ p
-        → Advances s m row ws ms (turnedOn p m (standsBy ms (rowClause row ws)) id next) (turnedMarks p (standsBy ms (rowClause row ws)) (rowClause row ws) ms)
-    by-phase l id next e Walk p = walks id next l e p refl refl
+        → Advances s m row ws ms tr (turnedOn (length tr) p m (standsBy ms (rowClause row ws)) id next) (turnedMarks p (standsBy ms (rowClause row ws)) (rowClause row ws) ms) (turnedTrail p (standsBy ms (rowClause row ws)) (m .set) tr)
+    by-phase l id next e Walk p = walks id next l e p refl refl refl
     by-phase l id next e Wipe p = wipes id next l e p refl (wiped-opens (rowClause row ws) ms)
     by-phase l id next e Delete p = deletes id next l e p refl refl
     by-phase l id next e Next p = idle (rw p (omega arith))
@@ -166,12 +195,12 @@ advances s m row ws ms = go (eqb (row .live) 0) refl
     by-phase l id next e (Refused k) p = idle (rw p (omega arith))
 
     by-number : (row .live ≡ 0 → ⊥) → (x : Parsed ℕ) → number s (m .at) ≡ x
-        → Advances s m row ws ms (readOn m (rowClause row ws) ms x) (readMarks (m .phase) (rowClause row ws) ms x)
+        → Advances s m row ws ms tr (readOn (length tr) m (rowClause row ws) ms x) (readMarks (m .phase) (rowClause row ws) ms x) (readTrail m (rowClause row ws) ms tr x)
     by-number l (refused k v) e = broken k v e refl
     by-number l (got id next) e = by-phase l id next e (m .phase) refl
 
     go : (t : Bool) → eqb (row .live) 0 ≡ t
-        → Advances s m row ws ms (cond t (stopped (Refused 15) (m .at)) (readOn m (rowClause row ws) ms (number s (m .at))))
-        (cond t ms (readMarks (m .phase) (rowClause row ws) ms (number s (m .at))))
+        → Advances s m row ws ms tr (cond t (stopped (Refused 15) (m .at)) (readOn (length tr) m (rowClause row ws) ms (number s (m .at))))
+        (cond t ms (readMarks (m .phase) (rowClause row ws) ms (number s (m .at)))) (cond t tr (readTrail m (rowClause row ws) ms tr (number s (m .at))))
     go true t = gone (eqb-true (row .live) 0 t) refl
     go false t = by-number (eqb-false (row .live) 0 t) (number s (m .at)) refl

@@ -11,11 +11,13 @@ use store::clauses::standing_of;
 use store::clauses::wipe_clause;
 use store::directory::Row;
 use store::marks::put_mark;
+use trail::record_literal;
 ghost use mathlib.Core.Path.{_≡_};
 ghost use Rattle.theory.specs.Marked.{standing, falsified};
 ghost use Rattle.store.specs.Marks.{marksOf};
 ghost use Rattle.store.specs.Live.{rowClause};
-ghost use Rattle.hints.specs.Machine.{turnOf, stopped, onward, walked, walkedMarks, advanced, advancedMarks};
+ghost use lib.ListN.{length};
+ghost use Rattle.hints.specs.Machine.{turnOf, stopped, onward, walked, walkedMarks, walkedTrail, advanced, advancedMarks, advancedTrail};
 
 // What is to be done next.
 pub enum Phase {
@@ -50,11 +52,13 @@ pub const READ: u8 = 4;
 
 pub const END: u8 = 5;
 
-// A phase, where the next number of the proof stands, and the id that is wanted.
+// A phase, where the next number of the proof stands, the id that is wanted, and how many literals the trail of the step at hand
+// holds: those that its hints set true; the largest number where it has no room for them.
 pub struct Machine {
     pub phase: Phase,
     pub at: usize,
     pub want: usize,
+    pub set: usize,
 }
 
 // The turn that a machine waits for.
@@ -78,12 +82,17 @@ pub fn turn_of(m: Machine) -> u8
 pub fn stop(phase: Phase, at: usize) -> Machine
     ensures { λ r. ⌜ r ≡ stopped phase at ⌝ }
 {
-    Machine { phase, at, want: 0 }
+    Machine {
+        phase,
+        at,
+        want: 0,
+        set: 0,
+    }
 }
 
 // An id was read, before the offset next: it is wanted, or a 0 ends the ids.
-pub fn step_on(phase: Phase, over: Phase, id: u32, next: usize) -> Machine
-    ensures { λ r. ⌜ r ≡ onward phase over id next ⌝ }
+pub fn step_on(phase: Phase, over: Phase, id: u32, next: usize, set: usize) -> Machine
+    ensures { λ r. ⌜ r ≡ onward phase over id next set ⌝ }
 {
     if id == 0 {
         return stop(over, next);
@@ -92,19 +101,34 @@ pub fn step_on(phase: Phase, over: Phase, id: u32, next: usize) -> Machine
         phase,
         at: next,
         want: wide(id),
+        set,
     }
 }
 
 // A hint's clause has exactly one open literal, which is then set true; or all its literals are false, and it is the last hint.
-fn take_hint(row: Row, id: u32, next: usize, words: &[u32], marks: &mut [u8]) -> Machine
-    ensures { λ r. ⌜ r ≡ walked (standing (marksOf (now (marks .entry))) falsified (rowClause row (now (words .entry)))) id next ⌝ }
+fn take_hint(
+    row: Row,
+    id: u32,
+    next: usize,
+    set: usize,
+    words: &[u32],
+    marks: &mut [u8],
+    trail: &mut [u32],
+) -> Machine
+    ensures { λ r. ⌜ r ≡ walked (length (now (trail .entry))) (standing (marksOf (now (marks .entry))) falsified (rowClause row (now (words .entry)))) id next set ⌝ }
     ensures { λ r. ⌜ now (marks .exit) ≡ walkedMarks (standing (marksOf (now (marks .entry))) falsified (rowClause row (now (words .entry)))) (now (marks .entry)) ⌝ }
+    ensures { λ r. ⌜ now (trail .exit) ≡ walkedTrail (standing (marksOf (now (marks .entry))) falsified (rowClause row (now (words .entry)))) set (now (trail .entry)) ⌝ }
 {
     let s = standing_of(marks, words, row.first, row.len);
     match s {
         Standing::Falsified => {
             if id == 0 {
-                return stop(Phase::Followed, next);
+                return Machine {
+                    phase: Phase::Followed,
+                    at: next,
+                    want: 0,
+                    set,
+                };
             }
             stop(Phase::Refused(BAD_HINT), next)
         }
@@ -112,16 +136,25 @@ fn take_hint(row: Row, id: u32, next: usize, words: &[u32], marks: &mut [u8]) ->
             let v = wide(l / 2);
             let mark = (1 + l % 2) as u8;
             put_mark(marks, v, mark);
-            step_on(Phase::Walk, Phase::Refused(BAD_HINT), id, next)
+            let more = record_literal(trail, set, l);
+            step_on(Phase::Walk, Phase::Refused(BAD_HINT), id, next, more)
         }
         Standing::Other => stop(Phase::Refused(BAD_HINT), next),
     }
 }
 
 // One turn with the row of the id that was wanted.
-pub fn advance(m: Machine, row: Row, proof: &[u8], words: &[u32], marks: &mut [u8]) -> Machine
-    ensures { λ r. ⌜ r ≡ advanced (now (proof .entry)) m row (now (words .entry)) (now (marks .entry)) ⌝ }
+pub fn advance(
+    m: Machine,
+    row: Row,
+    proof: &[u8],
+    words: &[u32],
+    marks: &mut [u8],
+    trail: &mut [u32],
+) -> Machine
+    ensures { λ r. ⌜ r ≡ advanced (now (proof .entry)) (length (now (trail .entry))) m row (now (words .entry)) (now (marks .entry)) ⌝ }
     ensures { λ _. ⌜ now (marks .exit) ≡ advancedMarks (now (proof .entry)) m row (now (words .entry)) (now (marks .entry)) ⌝ }
+    ensures { λ _. ⌜ now (trail .exit) ≡ advancedTrail (now (proof .entry)) m row (now (words .entry)) (now (marks .entry)) (now (trail .entry)) ⌝ }
 {
     let at = m.at;
     if row.live == 0 {
@@ -133,12 +166,12 @@ pub fn advance(m: Machine, row: Row, proof: &[u8], words: &[u32], marks: &mut [u
     };
     let phase = m.phase;
     match phase {
-        Phase::Walk => take_hint(row, id, next, words, marks),
+        Phase::Walk => take_hint(row, id, next, m.set, words, marks, trail),
         Phase::Wipe => {
             wipe_clause(marks, words, row.first, row.len);
-            step_on(Phase::Wipe, Phase::Next, id, next)
+            step_on(Phase::Wipe, Phase::Next, id, next, 0)
         }
-        Phase::Delete => step_on(Phase::Delete, Phase::Next, id, next),
+        Phase::Delete => step_on(Phase::Delete, Phase::Next, id, next, 0),
         Phase::Next => m,
         Phase::Followed => m,
         Phase::Keep => m,

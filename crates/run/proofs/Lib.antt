@@ -1,1 +1,2 @@
 mod Taking
+mod Local

@@ -21,7 +21,8 @@ use Rattle.turns.specs.declared.check.Check.{Check}
 use Rattle.reading.specs.Reading.{ReadsStep, adds, deletes, misformed}
 use Rattle.hints.specs.Machine as machine
 use Rattle.hints.specs.Machine.{turnOf, turn-phase, stopped, onward, walked, Advances, gone, broken, walks, wipes, idle}
-use Rattle.turns.specs.Check.{verdict, firstId, enteredAt, entered, stepped, TakesStep, over, takes}
+use Rattle.trail.specs.Recorded.{recordedAt}
+use Rattle.turns.specs.Check.{keptAs, verdict, firstId, enteredAt, entered, proceeded, unwound, stepped, TakesStep, over, takes}
 use Rattle.run.specs.Run.{World, Turn, looks, keeps, judges, reads}
 
 -- what is left: of a proof of P bytes and a step whose hints stand at h, by stages and by the offset in each
@@ -55,11 +56,11 @@ unfolding leftAt
 ended-lower P h n at k l z = record { past = l; less = z }
 
 -- an id was read
-on-lower : (P h n : ℕ) (p q : Phase) (id next : ℕ) → h ≤ next → leftAt P h next p < n → leftAt P h next q < n
-    → Lower P h n (onward p q id next)
+on-lower : (P h n : ℕ) (p q : Phase) (id next k : ℕ) → h ≤ next → leftAt P h next p < n → leftAt P h next q < n
+    → Lower P h n (onward p q id next k)
 unfolding onward
-on-lower P h n p q zero next l x y = record { past = l; less = y }
-on-lower P h n p q (suc id) next l x y = record { past = l; less = x }
+on-lower P h n p q zero next k l x y = record { past = l; less = y }
+on-lower P h n p q (suc id) next k l x y = record { past = l; less = x }
 
 same-stage : (P h stage at next : ℕ) → at < next → next ≤ P → budget P h stage next < budget P h stage at
 unfolding budget
@@ -79,14 +80,14 @@ next-step P h g k at next l i j =
       mul-le-mul-right {m = k} {n = 4} (suc P) j,
     )
 
-walk-lower : (P h at : ℕ) (x : Standing) (id next : ℕ) → h ≤ at → at < next → next ≤ P
-    → Lower P h (budget P h 4 at) (walked x id next)
+walk-lower : (P h at k : ℕ) (x : Standing) (id next n : ℕ) → h ≤ at → at < next → next ≤ P
+    → Lower P h (budget P h 4 at) (walked k x id next n)
 unfolding walked leftAt budget
-walk-lower P h at falsified zero next l a i = record { past = omega arith; less = omega arith }
-walk-lower P h at falsified (suc id) next l a i = record { past = omega arith; less = omega arith }
-walk-lower P h at (oneOpen k) id next l a i =
-    on-lower P h (budget P h 4 at) Walk (Refused 16) id next (omega arith) (same-stage P h 4 at next a i) (omega arith)
-walk-lower P h at other id next l a i = record { past = omega arith; less = omega arith }
+walk-lower P h at k falsified zero next n l a i = record { past = omega arith; less = omega arith }
+walk-lower P h at k falsified (suc id) next n l a i = record { past = omega arith; less = omega arith }
+walk-lower P h at k (oneOpen x) id next n l a i =
+    on-lower P h (budget P h 4 at) Walk (Refused 16) id next (recordedAt k n) (omega arith) (same-stage P h 4 at next a i) (omega arith)
+walk-lower P h at k other id next n l a i = record { past = omega arith; less = omega arith }
 
 some-left : (P h at : ℕ) (p : Phase) → turnOf p ≤ 4 → 0 < leftAt P h at p
 unfolding leftAt budget
@@ -104,25 +105,25 @@ unfolding budget
 some-budget P h k at = omega arith
 
 -- a turn with a row
-advance-lower : (s : List ℕ) (h : ℕ) (m : Machine) {row : Row} {ws ms : List ℕ} {r : Machine} {ms′ : List ℕ}
-    → Advances s m row ws ms r ms′
+advance-lower : (s : List ℕ) (h : ℕ) (m : Machine) {row : Row} {ws ms tr : List ℕ} {r : Machine} {ms′ tr′ : List ℕ}
+    → Advances s m row ws ms tr r ms′ tr′
     → turnOf (m .phase) ≤ 1 → h ≤ m .at → Lower (length s) h (leftAt (length s) h (m .at) (m .phase)) r
 unfolding leftAt
 advance-lower s h m (gone e q) t l = rw q
     (ended-lower (length s) h _ (m .at) 15 l (some-left (length s) h (m .at) (m .phase) (omega arith)))
 advance-lower s h m (broken k v e q) t l = rw q
     (ended-lower (length s) h _ (m .at) 14 l (some-left (length s) h (m .at) (m .phase) (omega arith)))
-advance-lower s h m (walks id next a e p q w) t l =
-    let k = number-got s (m .at) e in rw (q, p) (walk-lower (length s) h (m .at) _ id next l (k .ahead) (k .inside))
+advance-lower s h m (walks id next a e p q w x) t l =
+    let k = number-got s (m .at) e in rw (q, p) (walk-lower (length s) h (m .at) _ _ id next (m .set) l (k .ahead) (k .inside))
 advance-lower s h m (wipes id next a e p q w) t l =
     let k = number-got s (m .at) e in
     rw (q, p)
-    (on-lower (length s) h (budget (length s) h 1 (m .at)) Wipe Next id next (omega (arith, k .ahead))
+    (on-lower (length s) h (budget (length s) h 1 (m .at)) Wipe Next id next 0 (omega (arith, k .ahead))
     (same-stage (length s) h 1 (m .at) next (k .ahead) (k .inside)) (next-stage (length s) h 0 1 next (m .at) (omega arith)))
 advance-lower s h m (machine.deletes id next a e p q w) t l =
     let k = number-got s (m .at) e in
     rw (q, p)
-    (on-lower (length s) h (budget (length s) h 4 (m .at)) Delete Next id next (omega (arith, k .ahead))
+    (on-lower (length s) h (budget (length s) h 4 (m .at)) Delete Next id next 0 (omega (arith, k .ahead))
     (same-stage (length s) h 4 (m .at) next (k .ahead) (k .inside)) (next-stage (length s) h 0 4 next (m .at) (omega arith)))
 advance-lower s h m (idle z) t l = absurd (omega arith)
 
@@ -134,7 +135,7 @@ module _ (s : List ℕ) (h n : ℕ) (z : 0 < n) where
   first-lower p q f g = go (number s h) refl
     where
       go : (x : Parsed ℕ) → number s h ≡ x → Lower (length s) h n (firstId p q h x)
-      go (got id next) e = on-lower (length s) h n p q id next (omega (arith, number-got s h e .ahead)) (f next) (g next)
+      go (got id next) e = on-lower (length s) h n p q id next 0 (omega (arith, number-got s h e .ahead)) (f next) (g next)
       go (refused k v) e = record { past = omega arith; less = z }
 
   enter-lower : (id : ℕ) (p : Phase) → ((at : ℕ) → leftAt (length s) h at p < n) → ((at : ℕ) → leftAt (length s) h at Next < n)
@@ -164,6 +165,21 @@ verdict-less P h at e c to bytes words rows =
     go true false z = some 3
     go false y true = next-stage P h 2 3 at e (omega arith)
     go false y false = some 3
+
+-- what a clause that was kept leaves
+unwound-lower : (P : ℕ) (c d : Check) (m : Machine) (k : ℕ) → d .clause .hints ≡ c .clause .hints → c .clause .hints ≤ m .at
+    → Lower P (c .clause .hints) (budget P (c .clause .hints) 2 (m .at)) (unwound d m k)
+unfolding unwound leftAt
+unwound-lower P c d m k e l = go (leb (m .set) k)
+  where
+    go : (t : Bool) → Lower P (c .clause .hints) (budget P (c .clause .hints) 2 (m .at))
+        (cond t (stopped Next (m .at)) (record { phase = Wipe; at = d .clause .hints; want = d .clause .id; set = 0 }))
+    go true = record { past = l; less = next-stage P (c .clause .hints) 0 2 (m .at) (m .at) (omega arith) }
+    go false =
+        record {
+          past = omega (arith, e);
+          less = next-stage P (c .clause .hints) 1 2 (d .clause .hints) (m .at) (omega arith);
+        }
 
 -- what a step that was read leaves
 step-lower : (s : List ℕ) (c : Check) (e highest last : ℕ) {x : StepRead} {ms ms′ : List ℕ} (r : Read)
@@ -208,19 +224,16 @@ turn-falls s last cap w v (looks p t f r d a c ws) l =
 turn-falls s last cap w v (keeps t a c k e ms) l =
     let h = w .check .clause .hints in
     lower-falls (length s) w v h
-    (rw (turn-phase (w .machine .phase) t (omega arith) (omega arith), e, c)
-    (enter-lower s h _ (some-budget (length s) h 2 (w .machine .at)) (w .check .clause .id) Wipe
-    (λ at. next-stage (length s) h 1 2 at (w .machine .at) (omega arith))
-    (λ at. next-stage (length s) h 0 2 at (w .machine .at) (omega arith))))
+    (rw (turn-phase (w .machine .phase) t (omega arith) (omega arith), e, c) (unwound-lower (length s) (w .check) (keptAs (w .check)) (w .machine) (length (w .trail)) refl l))
     (rw c)
-turn-falls s last cap w v (judges t c e r ws ms) l =
+turn-falls s last cap w v (judges t c e r ws ms tr) l =
     let h = w .check .clause .hints in
     lower-falls (length s) w v h
     (rw (turn-phase (w .machine .phase) t (omega arith) (omega arith), e, c)
-    (enter-lower s h _ (some-budget (length s) h 3 (w .machine .at)) (w .check .clause .id)
-    (verdict (w .check) (w .machine .at) (length s) (length (w .words)) cap)
-    (λ at. verdict-less (length s) h at (w .machine .at) (w .check) (w .machine .at) (length s) (length (w .words)) cap)
-    (λ at. next-stage (length s) h 0 3 at (w .machine .at) (omega arith))))
+    (record {
+      past = l;
+      less = verdict-less (length s) h (w .machine .at) (w .machine .at) (w .check) (w .machine .at) (length s) (length (w .words)) cap;
+    }))
     (rw c)
 turn-falls s last cap w v (reads t x e r ws) l =
     lower-falls (length s) w v _

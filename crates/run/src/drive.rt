@@ -9,18 +9,20 @@ use hints::machine::READ;
 use hints::machine::advance;
 use hints::machine::stop;
 use hints::machine::turn_of;
+use phases::next::answer;
+use phases::next::enter;
+use phases::next::proceed;
 use scope::CheckAnswer;
 use store::directory::Row;
 use store::directory::append;
 use store::directory::find;
 use store::directory::mark_dead;
-use turns::check::answer;
+use taking::step::next_step;
 use turns::check::begin;
-use turns::check::enter;
 use turns::check::judge;
 use turns::check::keep;
-use turns::check::next_step;
 use turns::check::row_of;
+use unwinding::marks::unwind;
 ghost use mathlib.Core.Path.{_≡_};
 ghost use lib.ListN.{length};
 ghost use Rattle.store.specs.Directory.{rowsOf};
@@ -33,6 +35,45 @@ fn ready() -> Machine
     ensures { λ r. ⌜ r ≡ stopped Next 0 ⌝ }
 {
     stop(Phase::Next, 0)
+}
+
+// The proof is judged turn by turn, with some trail.
+fn drive_with(
+    proof: &[u8],
+    words: &mut [u32],
+    rows: &mut [Row],
+    marks: &mut [u8],
+    trail: &mut [u32],
+    last: usize,
+    n: usize,
+    used: usize,
+) -> CheckAnswer
+    ensures { λ r. ⌜ Driven (now (proof .entry)) last (length (now (rows .entry))) n used (rowsOf (now (rows .entry))) (now (words .entry)) (now (marks .entry)) r (rowsOf (now (rows .exit))) (now (words .exit)) (now (marks .exit)) ⌝ }
+{
+    let mut c = begin(n, used);
+    let mut m = ready();
+    loop {
+        let turn = turn_of(m);
+        if turn <= DELETE {
+            let p = find(rows, c.tally.rows, m.want);
+            m = advance(m, p.hit, proof, words, marks, trail);
+            if turn == DELETE {
+                mark_dead(rows, p.at);
+            }
+        } else if turn == KEEP {
+            append(rows, c.tally.rows, row_of(c));
+            c = keep(c, proof, words);
+            m = unwind(c, m, words, marks, trail);
+        } else if turn == JUDGE {
+            c = judge(c, m.at, proof.len(), words.len(), rows.len());
+            m = proceed(c, m);
+        } else if turn == READ {
+            c = next_step(c, m.at, proof, last, marks);
+            m = enter(c, proof);
+        } else {
+            return answer(c, m);
+        }
+    }
 }
 
 // The proof is judged, where the stores hold a formula of n clauses and used words: its clauses are the first n rows and have
@@ -48,28 +89,6 @@ pub fn drive(
 ) -> CheckAnswer
     ensures { λ r. ⌜ Driven (now (proof .entry)) last (length (now (rows .entry))) n used (rowsOf (now (rows .entry))) (now (words .entry)) (now (marks .entry)) r (rowsOf (now (rows .exit))) (now (words .exit)) (now (marks .exit)) ⌝ }
 {
-    let mut c = begin(n, used);
-    let mut m = ready();
-    loop {
-        let turn = turn_of(m);
-        if turn <= DELETE {
-            let p = find(rows, c.tally.rows, m.want);
-            m = advance(m, p.hit, proof, words, marks);
-            if turn == DELETE {
-                mark_dead(rows, p.at);
-            }
-        } else if turn == KEEP {
-            append(rows, c.tally.rows, row_of(c));
-            c = keep(c, proof, words);
-            m = enter(c, proof);
-        } else if turn == JUDGE {
-            c = judge(c, m.at, proof.len(), words.len(), rows.len());
-            m = enter(c, proof);
-        } else if turn == READ {
-            c = next_step(c, m.at, proof, last, marks);
-            m = enter(c, proof);
-        } else {
-            return answer(c, m);
-        }
-    }
+    let mut trail = [0u32; 4096];
+    drive_with(proof, words, rows, marks, &mut trail, last, n, used)
 }

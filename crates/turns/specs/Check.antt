@@ -2,7 +2,7 @@
 use mathlib.Core.Path.{_≡_}
 use mathlib.Core.Bool.{true, false, cond, _&&_}
 use mathlib.Core.List.{List}
-use Prim.Native.Nat.{ℕ, suc, _+_, _≤_, _<_, min}
+use Prim.Native.Nat.{ℕ, suc, _+_, _-_, _≤_, _<_, min}
 use lib.Dec.{eqb, ltb, leb}
 use lib.ListN.{length}
 use Rattle.scope.specs.Parsed.{Parsed, got, refused}
@@ -10,6 +10,7 @@ use Rattle.scope.specs.Number.{number}
 use Rattle.theory.specs.StepTokens.{readStep}
 use Rattle.scope.specs.declared.CheckAnswer.{CheckAnswer}
 use Rattle.store.specs.declared.directory.Row.{Row}
+use Rattle.store.specs.Clauses.{part, wiped}
 use Rattle.steps.specs.declared.step.Read.{Read}
 use Rattle.steps.specs.declared.step.Read.the-variants.{Adds, Deletes, Misformed}
 use Rattle.hints.specs.declared.machine.Phase.{Phase}
@@ -20,6 +21,7 @@ use Rattle.turns.specs.declared.check.Check.{Check}
 use Rattle.steps.specs.Step.{stepAt}
 use Rattle.reading.specs.Reading.{tokensAt, ReadsStep}
 use Rattle.hints.specs.Machine.{stopped, onward}
+use Rattle.trail.specs.Recorded.{largest}
 
 -- before the first step, with a formula of so many rows and words
 abbrev pub begun : ℕ → ℕ → Check
@@ -47,10 +49,6 @@ judged c at bytes words rows = withPhase c (verdict c at bytes words rows)
 abbrev pub rowOf : Check → Row
 rowOf c = record { id = c .clause .id; first = c .tally .words; len = c .clause .size; live = 1 }
 
--- the largest number of a machine's word
-abbrev pub largest : ℕ
-largest = 18446744073709551615
-
 -- the clause at hand was stored, and is counted
 abbrev pub keptAs : Check → Check
 keptAs c =
@@ -68,7 +66,7 @@ keptAs c =
 
 -- a walk over the ids at an offset, where x is the number there
 abbrev pub firstId : Phase → Phase → ℕ → Parsed ℕ → Machine
-firstId p over at (got id next) = onward p over id next
+firstId p over at (got id next) = onward p over id next 0
 firstId p over at (refused k v) = stopped (Refused 14) at
 
 -- the machine at the start of what comes next
@@ -77,13 +75,26 @@ enteredAt s at id Next = stopped Next at
 enteredAt s at id Walk = firstId Walk (Refused 16) at (number s at)
 enteredAt s at id Followed = stopped Followed at
 enteredAt s at id Keep = stopped Keep at
-enteredAt s at id Wipe = record { phase = Wipe; at = at; want = id }
+enteredAt s at id Wipe = record { phase = Wipe; at = at; want = id; set = 0 }
 enteredAt s at id Delete = firstId Delete Next at (number s at)
 enteredAt s at id Proved = stopped Proved at
 enteredAt s at id (Refused k) = stopped (Refused k) at
 
 abbrev pub entered : List ℕ → Check → Machine
 entered s c = enteredAt s (c .clause .hints) (c .clause .id) (c .phase)
+
+-- the machine once the clause at hand was judged
+abbrev pub proceeded : Check → Machine → Machine
+proceeded c m = record { phase = c .phase; at = m .at; want = 0; set = m .set }
+
+-- the clause at hand was kept, and a trail of room for k was recorded: what is next, and the marks
+unfoldable pub unwound : Check → Machine → ℕ → Machine
+unwound c m k = cond (leb (m .set) k) (stopped Next (m .at)) (record { phase = Wipe; at = c .clause .hints; want = c .clause .id; set = 0 })
+
+unfoldable pub unwoundMarks : Check → Machine → List ℕ → List ℕ → List ℕ → List ℕ
+unwoundMarks c m ws ms tr =
+    cond (leb (m .set) (length tr))
+    (wiped (wiped ms (part (c .tally .words - c .clause .size) (c .clause .size) ws)) (part 0 (m .set) tr)) ms
 
 -- one step more
 abbrev pub counted : Tally → Tally

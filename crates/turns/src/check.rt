@@ -1,26 +1,14 @@
 // A check between two walks over ids: what is counted, and the clause at hand.
 use copying::literals::copy_literals;
-use hints::machine::Machine;
 use hints::machine::Phase;
-use hints::machine::step_on;
-use hints::machine::stop;
-use number::Number;
-use reader::number_in;
-use scope::CheckAnswer;
-use scope::Refusal;
 use scope::refusals::BAD_END;
-use scope::refusals::BAD_HINT;
-use scope::refusals::BAD_STEP;
 use scope::refusals::CLAUSE_TOO_LONG;
 use steps::step::Clause;
-use steps::step::Read;
-use steps::step::read_step;
 use store::directory::Row;
 ghost use mathlib.Core.Path.{_≡_};
 ghost use Prim.Native.Nat.{_+_, min};
-ghost use Rattle.scope.specs.Number.{number as numberAt};
 ghost use Rattle.copying.specs.Copies.{copiedAt};
-ghost use Rattle.turns.specs.Check.{begun, withPhase, judged, rowOf, keptAs, firstId, entered, stepTaken, answerOf};
+ghost use Rattle.turns.specs.Check.{begun, withPhase, judged, rowOf, keptAs};
 
 // Steps, the one at hand counted; the highest id; rows and words in use.
 pub struct Tally {
@@ -47,15 +35,6 @@ fn sum(a: usize, b: usize) -> usize
     a + b
 }
 
-fn next_number(n: u64) -> u64
-    ensures { λ r. ⌜ r ≡ min (n + 1) 18446744073709551615 ⌝ }
-{
-    if n == 18446744073709551615 {
-        return n;
-    }
-    n + 1
-}
-
 // Before the first step, with a formula of so many rows and words.
 pub fn begin(rows: usize, words: usize) -> Check
     ensures { λ r. ⌜ r ≡ begun rows words ⌝ }
@@ -79,7 +58,8 @@ pub fn begin(rows: usize, words: usize) -> Check
     }
 }
 
-fn in_phase(c: Check, phase: Phase) -> Check
+// The check in another phase.
+pub fn in_phase(c: Check, phase: Phase) -> Check
     ensures { λ r. ⌜ r ≡ withPhase c phase ⌝ }
 {
     let tally = c.tally;
@@ -148,112 +128,5 @@ pub fn keep(c: Check, proof: &[u8], words: &mut [u32]) -> Check
         phase: Phase::Wipe,
         tally,
         clause,
-    }
-}
-
-// A walk over the ids that stand at an offset.
-fn first_id(phase: Phase, over: Phase, proof: &[u8], at: usize) -> Machine
-    ensures { λ r. ⌜ r ≡ firstId phase over at (numberAt (now (proof .entry)) at) ⌝ }
-{
-    let t = number_in(proof, at);
-    let Number::Value(id, next) = t else {
-        return stop(Phase::Refused(BAD_STEP), at);
-    };
-    step_on(phase, over, id, next)
-}
-
-// The machine at the start of what comes next. The clause that was kept is wiped first, then those of its hints.
-pub fn enter(c: Check, proof: &[u8]) -> Machine
-    ensures { λ r. ⌜ r ≡ entered (now (proof .entry)) c ⌝ }
-{
-    let clause = c.clause;
-    let at = clause.hints;
-    let phase = c.phase;
-    match phase {
-        Phase::Walk => first_id(Phase::Walk, Phase::Refused(BAD_HINT), proof, at),
-        Phase::Delete => first_id(Phase::Delete, Phase::Next, proof, at),
-        Phase::Wipe => Machine {
-            phase,
-            at,
-            want: clause.id,
-        },
-        Phase::Next => stop(phase, at),
-        Phase::Followed => stop(phase, at),
-        Phase::Keep => stop(phase, at),
-        Phase::Proved => stop(phase, at),
-        Phase::Refused(_) => stop(phase, at),
-    }
-}
-
-// The step that stands at an offset, if there is one.
-pub fn next_step(c: Check, at: usize, proof: &[u8], last: usize, marks: &mut [u8]) -> Check
-    ensures { λ r. ⌜ r ≡ stepTaken (now (proof .entry)) c at last (now (marks .entry)) .check ⌝ }
-    ensures { λ _. ⌜ now (marks .exit) ≡ stepTaken (now (proof .entry)) c at last (now (marks .entry)) .marks ⌝ }
-{
-    if proof.len() <= at {
-        return in_phase(c, Phase::Refused(BAD_END));
-    }
-    let old = c.tally;
-    let tally = Tally {
-        steps: next_number(old.steps),
-        highest: old.highest,
-        rows: old.rows,
-        words: old.words,
-    };
-    let none = c.clause;
-    let read = read_step(proof, at, old.highest, last, marks);
-    match read {
-        Read::Misformed => Check {
-            phase: Phase::Refused(BAD_STEP),
-            tally,
-            clause: none,
-        },
-        Read::Adds(clause) => Check {
-            phase: Phase::Walk,
-            tally,
-            clause,
-        },
-        Read::Deletes(from) => {
-            let clause = Clause {
-                id: 0,
-                literals: from,
-                size: 0,
-                hints: from,
-            };
-            Check {
-                phase: Phase::Delete,
-                tally,
-                clause,
-            }
-        }
-    }
-}
-
-// The answer of a check that has ended; one that has not is never asked.
-pub fn answer(c: Check, m: Machine) -> CheckAnswer
-    ensures { λ r. ⌜ r ≡ answerOf (c .tally .steps) (m .phase) ⌝ }
-{
-    let tally = c.tally;
-    let steps = tally.steps;
-    let unread = Refusal {
-        number: BAD_STEP,
-        value: steps,
-    };
-    let phase = m.phase;
-    match phase {
-        Phase::Proved => CheckAnswer::NoTimetable(steps),
-        Phase::Refused(number) => {
-            let refusal = Refusal {
-                number,
-                value: steps,
-            };
-            CheckAnswer::Refused(refusal)
-        }
-        Phase::Next => CheckAnswer::Refused(unread),
-        Phase::Walk => CheckAnswer::Refused(unread),
-        Phase::Followed => CheckAnswer::Refused(unread),
-        Phase::Keep => CheckAnswer::Refused(unread),
-        Phase::Wipe => CheckAnswer::Refused(unread),
-        Phase::Delete => CheckAnswer::Refused(unread),
     }
 }

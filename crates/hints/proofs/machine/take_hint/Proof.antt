@@ -1,6 +1,6 @@
 use mathlib.Core.Path.{sym, ap, _∙_}
 use Rattle.store.specs.Clauses.{stands}
-use Rattle.hints.specs.Machine.{walked, walkedMarks, walked-last, walked-early}
+use Rattle.hints.specs.Machine.{walked, walkedMarks, walkedTrail, walked-last, walked-early}
 use borrow.Author.Needs.{needs}
 use Rattle.hints.proofs.machine.take_hint.Statement.{statement}
 use Rattle.hints.proofs.machine.take_hint.Tie as tie
@@ -11,20 +11,17 @@ standing-of-requires c κs = search needs
 enum-told : tie.Need-enum-told
 enum-told c = search needs
 
-stop-requires : tie.Need-stop-requires
-stop-requires c κs = search needs
-
 same-length : tie.Need-same-length
 same-length c = search needs
 
 returns : tie.Need-returns
-unfolding walkedMarks
+unfolding walkedMarks walkedTrail
 returns c =
-    let e = sym (c .before .before .before .before .standing-of .ensures) ∙ ap stands (c .before .before .enum-told .given .1) in
-    (rw e (c .stop .ensures ∙ sym (walked-last _ _ (c .before .if1 .taken))), rw e)
+    let e = sym (c .before .before .before .standing-of .ensures) ∙ ap stands (c .before .enum-told .given .1) in
+    (rw e (sym (walked-last _ _ _ _ (c .if1 .taken))), (rw e, rw e))
 
-stop-requires-2 : tie.Need-stop-requires-2
-stop-requires-2 c κs = search needs
+stop-requires : tie.Need-stop-requires
+stop-requires c κs = search needs
 
 enum-known-s : tie.Need-enum-known-s
 enum-known-s c = search needs
@@ -41,41 +38,47 @@ cast-mark c = search needs
 put-mark-requires : tie.Need-put-mark-requires
 put-mark-requires c κs = search needs
 
+record-literal-requires : tie.Need-record-literal-requires
+record-literal-requires c κs = search needs
+
 step-on-requires : tie.Need-step-on-requires
 step-on-requires c κs = search needs
 
 enum-told-2 : tie.Need-enum-told-2
 enum-told-2 c = search needs
 
-stop-requires-3 : tie.Need-stop-requires-3
-stop-requires-3 c κs = search needs
+stop-requires-2 : tie.Need-stop-requires-2
+stop-requires-2 c κs = search needs
 
 same-length-2 : tie.Need-same-length-2
 same-length-2 c = search needs
 
 returns-2 : tie.Need-returns-2
-unfolding walkedMarks
+unfolding walkedMarks walkedTrail
 returns-2 c =
     let e = sym (c .before .before .before .before .standing-of .ensures) ∙ ap stands (c .before .before .enum-told .given .1) in
-    (rw e (c .stop2 .ensures ∙ sym (walked-early _ _ (c .before .if1 .left))), rw e)
+    (rw e (c .stop .ensures ∙ sym (walked-early _ _ _ _ (c .before .if1 .left))), (rw e, rw e))
 
 same-length-3 : tie.Need-same-length-3
 same-length-3 c = search needs
 
-returns-3 : tie.Need-returns-3
-unfolding walked walkedMarks
-returns-3 c =
-    let e = sym (c .before .before .before .before .before .before .before .before .before .standing-of .ensures) ∙ ap stands (c .before .before .before .before .before .before .before .s .given .1) in
-    (rw e (c .step-on .ensures), rw e (c .before .before .before .put-mark .ensures ∙ rw (c .before .before .before .before .before .wide .ensures)))
-
 same-length-4 : tie.Need-same-length-4
 same-length-4 c = search needs
 
+returns-3 : tie.Need-returns-3
+unfolding walked walkedMarks walkedTrail
+returns-3 c =
+    let e = sym (c .before .before .before .before .before .before .before .before .before .before .before .before .before .standing-of .ensures) ∙ ap stands (c .before .before .before .before .before .before .before .before .before .before .before .s .given .1) in
+    (rw e (c .step-on .ensures ∙ rw (c .before .before .before .record-literal .ensures .0)), (rw e (c .before .before .before .before .before .before .before .put-mark .ensures ∙ rw (c .before .before .before .before .before .before .before .before .before .wide .ensures)), rw e (c .before .before .before .record-literal .ensures .1)))
+
+same-length-5 : tie.Need-same-length-5
+same-length-5 c = search needs
+
 returns-4 : tie.Need-returns-4
-unfolding walked walkedMarks
+unfolding walked walkedMarks walkedTrail
 returns-4 c =
     let e = sym (c .before .before .before .standing-of .ensures) ∙ ap stands (c .before .enum-told2 .given .1) in
-    (rw e (c .stop3 .ensures), rw e)
+    (rw e (c .stop2 .ensures), (rw e, rw e))
 
 pub take-hint-spec : {M : Type 1} → statement M
 take-hint-spec =
@@ -83,21 +86,22 @@ take-hint-spec =
     (tie.spec
     standing-of-requires
     enum-told
-    stop-requires
     same-length
     returns
-    stop-requires-2
+    stop-requires
     enum-known-s
     wide-requires
     add-mark
     cast-mark
     put-mark-requires
+    record-literal-requires
     step-on-requires
     enum-told-2
-    stop-requires-3
+    stop-requires-2
     same-length-2
     returns-2
     same-length-3
-    returns-3
     same-length-4
+    returns-3
+    same-length-5
     returns-4)

@@ -1,6 +1,6 @@
 use borrow.Author.Needs.{needs}
-use Rattle.turns.proofs.check.answer.Statement.{statement}
-use Rattle.turns.proofs.check.answer.Tie as tie
+use Rattle.phases.proofs.next.answer.Statement.{statement}
+use Rattle.phases.proofs.next.answer.Tie as tie
 
 enum-told : tie.Need-enum-told
 enum-told c = search needs

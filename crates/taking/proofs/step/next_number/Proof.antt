@@ -1,8 +1,8 @@
 -- `bound::check::next_number` meets its contract.
 use native.Mathlib.Omega.{arith}
 use borrow.Author.Needs.{needs}
-use Rattle.turns.proofs.check.next_number.Statement.{statement}
-use Rattle.turns.proofs.check.next_number.Tie as tie
+use Rattle.taking.proofs.step.next_number.Statement.{statement}
+use Rattle.taking.proofs.step.next_number.Tie as tie
 
 returns : tie.Need-returns
 returns c = omega arith

@@ -1,6 +1,6 @@
 use borrow.Author.Needs.{needs}
-use Rattle.turns.proofs.check.enter.Statement.{statement}
-use Rattle.turns.proofs.check.enter.Tie as tie
+use Rattle.phases.proofs.next.enter.Statement.{statement}
+use Rattle.phases.proofs.next.enter.Tie as tie
 
 enum-told : tie.Need-enum-told
 enum-told c = search needs

@@ -1,7 +1,7 @@
 use Rattle.reader.proofs.NumberTold.{value-at, no-value-at}
 use borrow.Author.Needs.{needs}
-use Rattle.turns.proofs.check.first_id.Statement.{statement}
-use Rattle.turns.proofs.check.first_id.Tie as tie
+use Rattle.phases.proofs.next.first_id.Statement.{statement}
+use Rattle.phases.proofs.next.first_id.Tie as tie
 
 number-in-requires : tie.Need-number-in-requires
 number-in-requires c κs = search needs

@@ -1,9 +1,9 @@
 use mathlib.Core.Path.{sym, _∙_}
 use borrow.Author.Tests.{le-leb, lt-leb}
 use Rattle.turns.specs.Check.{stepTaken}
 use borrow.Author.Needs.{needs}
-use Rattle.turns.proofs.check.next_step.Statement.{statement}
-use Rattle.turns.proofs.check.next_step.Tie as tie
+use Rattle.taking.proofs.step.next_step.Statement.{statement}
+use Rattle.taking.proofs.step.next_step.Tie as tie
 
 in-phase-requires : tie.Need-in-phase-requires
 in-phase-requires c κs = search needs

@@ -1,0 +1,2 @@
+// The marks of a step are opened again. The definitions stand in turns/specs.
+pub mod marks;
