@@ -76,11 +76,27 @@ pub fn number_at(s: &[u8], at: usize) -> Number
     Number::Refused(bad)
 }
 
+// The same; a number of one byte is read at once, without a call.
+fn near(s: &[u8], at: usize) -> Number
+    ensures { λ r. ⌜ said r ≡ numberAt (now (s .entry)) at ⌝ }
+{
+    if s.len() <= at {
+        return number_at(s, at);
+    }
+    let first = wide(s[at]);
+    if first < 128 {
+        let small = first as u32;
+        let next = at + 1;
+        return Number::Value(small, next);
+    }
+    number_at(s, at)
+}
+
 // The number at an offset, from lo to hi.
 pub fn limited(s: &[u8], at: usize, lo: u32, hi: u32) -> Number
     ensures { λ r. ⌜ said r ≡ limitedAt lo hi (now (s .entry)) at ⌝ }
 {
-    let n = number_at(s, at);
+    let n = near(s, at);
     let Number::Value(v, next) = n else {
         return n;
     };
@@ -101,7 +117,7 @@ pub fn limited(s: &[u8], at: usize, lo: u32, hi: u32) -> Number
 pub fn reference(s: &[u8], at: usize, before: u32, n: u32) -> Number
     ensures { λ r. ⌜ said r ≡ referenceAt before n (now (s .entry)) at ⌝ }
 {
-    let r = number_at(s, at);
+    let r = near(s, at);
     let Number::Value(v, next) = r else {
         return r;
     };

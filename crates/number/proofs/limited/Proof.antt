@@ -5,8 +5,8 @@ use Rattle.number.specs.Ladder.{ladder}
 use Rattle.number.proofs.limited.Statement.{statement}
 use Rattle.number.proofs.limited.Tie as tie
 
-number-at-requires : tie.Need-number-at-requires
-number-at-requires c κs = search needs
+near-requires : tie.Need-near-requires
+near-requires c κs = search needs
 
 enum-known-n : tie.Need-enum-known-n
 enum-known-n c = search needs
@@ -31,4 +31,4 @@ unfolding limited
 returns-4 c = search ladder depth 12
 
 pub limited-spec : {M : Type 1} → statement M
-limited-spec = tie.close (tie.spec number-at-requires enum-known-n enum-told returns returns-2 returns-3 returns-4)
+limited-spec = tie.close (tie.spec near-requires enum-known-n enum-told returns returns-2 returns-3 returns-4)

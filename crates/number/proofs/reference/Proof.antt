@@ -5,8 +5,8 @@ use Rattle.number.specs.Ladder.{ladder}
 use Rattle.number.proofs.reference.Statement.{statement}
 use Rattle.number.proofs.reference.Tie as tie
 
-number-at-requires : tie.Need-number-at-requires
-number-at-requires c κs = search needs
+near-requires : tie.Need-near-requires
+near-requires c κs = search needs
 
 enum-known-r : tie.Need-enum-known-r
 enum-known-r c = search needs
@@ -31,4 +31,4 @@ unfolding reference
 returns-4 c = search ladder depth 12
 
 pub reference-spec : {M : Type 1} → statement M
-reference-spec = tie.close (tie.spec number-at-requires enum-known-r enum-told returns returns-2 returns-3 returns-4)
+reference-spec = tie.close (tie.spec near-requires enum-known-r enum-told returns returns-2 returns-3 returns-4)
