@@ -43,11 +43,6 @@ module _ {v : ℕ} (is js : List Item) where
   room-rest r = record { some = omega (arith, r .some); small = omega (arith, gates-both is js, r .small) }
 
 module _ {f : Line → World → World} where
-  -- nothing to write
-  pub wrote-none : {v : ℕ} {is : List Item} {w : World} → is ≡ [] → Wrote f v is w w v
-  unfolding lines
-  wrote-none {v} {is} e = rw e (record { ran = record { eq = refl }; next = omega arith })
-
   -- the items of an equal list
   pub wrote-same : {v : ℕ} {is js : List Item} {w w′ : World} {n : ℕ} → is ≡ js → Wrote f v is w w′ n → Wrote f v js w w′ n
   wrote-same e p = rw e at p

@@ -21,6 +21,9 @@ pub fn write_nodes(
     ensures { λ r. ⌜ Ran (step job (now (model .entry))) (map clauseLine (storeClauses count (now (store .entry))))
         (world s (now (text .entry)) (now (words .entry))) (world r (now (text .exit)) (now (words .exit))) ⌝ }
 {
+    if sink::skips(job) {
+        return s;
+    }
     let mut z = s;
     let mut at = 0;
     for i in 0..count {

@@ -1,10 +1,11 @@
-use mathlib.Core.Path.{_≡_, refl}
+use mathlib.Core.Path.{_≡_, refl, sym, _∙_}
 use Prim.Native.Nat.{_-_, _≤_}
 use native.Mathlib.Omega.{arith}
 use lib.ListN.{length}
 use Rattle.sink.specs.Run.{Todo, todo-start, todo-turn, todo-done}
+use Rattle.sink.specs.Skipped.{skipped}
 use Rattle.sink.specs.World.{world, step}
-use Rattle.rule.specs.Stored.{LeftNodes, leftLines, left-start, left-all, left-node, left-turn, nodes-end}
+use Rattle.rule.specs.Stored.{LeftNodes, leftLines, left-start, left-all, left-node, left-turn, nodes-end, storeClauses}
 use borrow.Author.Needs.{needs}
 use Rattle.rule.proofs.nodes.write_nodes.Statement.{statement}
 use Rattle.rule.proofs.nodes.write_nodes.Tie as tie
@@ -17,26 +18,34 @@ Inv-loop job model text₀ words₀ store count z₀ at₀ i₀ text words z at 
 abbrev μ-loop : tie.MeasureT-loop
 μ-loop job model text₀ words₀ store count z₀ at₀ i₀ text words z at i = count - i
 
+skips-requires : tie.Need-skips-requires Inv-loop μ-loop
+skips-requires c κs = search needs
+
+returns : tie.Need-returns Inv-loop μ-loop
+returns c =
+    let a = c .before .before .before .before .before .before .args in
+    skipped (a .job) (a .model .now) (storeClauses (a .count) (a .store .now)) (sym (c .before .skips .ensures) ∙ c .if1 .taken)
+
 loop-holds : tie.Need-loop-holds Inv-loop μ-loop
 loop-holds c =
-    (omega arith, refl, refl, left-start (c .before .before .before .before .args .count) (c .before .before .before .before .args .store .now) (c .before .before .before .before .pre), todo-start)
+    (omega arith, refl, refl, left-start (c .before .before .before .before .before .before .args .count) (c .before .before .before .before .before .before .args .store .now) (c .before .before .before .before .before .before .pre), todo-start)
 
 add-first : tie.Need-add-first Inv-loop μ-loop
 add-first c =
-    let a = c .before .before .before .before .before .before .args in
+    let a = c .before .before .before .before .before .before .before .before .args in
     let l = c .before .loop in
     omega (arith, left-node (a .count) (a .store .now) (l .i) (l .at) (c .loop-test .taken) (l .inv .3) .room)
 
 mul-end : tie.Need-mul-end Inv-loop μ-loop
 mul-end c =
-    let a = c .before .before .before .before .before .before .args in
+    let a = c .before .before .before .before .before .before .before .before .args in
     let l = c .before .loop in
     let r = left-node (a .count) (a .store .now) (l .i) (l .at) (c .loop-test .taken) (l .inv .3) .room in
     search needs
 
 shared-slice-read-end : tie.Need-shared-slice-read-end Inv-loop μ-loop
 shared-slice-read-end c =
-    let a = c .before .before .before .before .before .before .before .args in
+    let a = c .before .before .before .before .before .before .before .before .before .args in
     let l = c .before .before .loop in
     omega (arith, left-node (a .count) (a .store .now) (l .i) (l .at) (c .before .loop-test .taken) (l .inv .3) .room)
 
@@ -47,19 +56,19 @@ cast-end c =
 
 add-end : tie.Need-add-end Inv-loop μ-loop
 add-end c =
-    let a = c .before .before .before .before .before .before .before .args in
+    let a = c .before .before .before .before .before .before .before .before .before .args in
     let l = c .before .before .loop in
     omega (arith, left-node (a .count) (a .store .now) (l .i) (l .at) (c .before .loop-test .taken) (l .inv .3) .room)
 
 add-end-2 : tie.Need-add-end-2 Inv-loop μ-loop
 add-end-2 c =
-    let a = c .before .before .before .before .before .before .before .args in
+    let a = c .before .before .before .before .before .before .before .before .before .args in
     let l = c .before .before .loop in
     omega (arith, left-node (a .count) (a .store .now) (l .i) (l .at) (c .before .loop-test .taken) (l .inv .3) .room)
 
 mul-write-node : tie.Need-mul-write-node Inv-loop μ-loop
 mul-write-node c =
-    let a = c .before .before .before .before .before .before .before .before .before .args in
+    let a = c .before .before .before .before .before .before .before .before .before .before .before .args in
     let l = c .before .before .before .before .loop in
     let r = left-node (a .count) (a .store .now) (l .i) (l .at) (c .before .before .before .loop-test .taken) (l .inv .3) .room in
     search needs
@@ -72,13 +81,13 @@ part-write-node-start c = omega arith
 
 part-write-node-end : tie.Need-part-write-node-end Inv-loop μ-loop
 part-write-node-end c =
-    let a = c .before .before .before .before .before .before .before .before .before .args in
+    let a = c .before .before .before .before .before .before .before .before .before .before .before .args in
     let l = c .before .before .before .before .loop in
     omega (arith, left-node (a .count) (a .store .now) (l .i) (l .at) (c .before .before .before .loop-test .taken) (l .inv .3) .room)
 
 write-node-requires : tie.Need-write-node-requires Inv-loop μ-loop
 write-node-requires c κs =
-    let a = c .before .before .before .before .before .before .before .before .before .before .args in
+    let a = c .before .before .before .before .before .before .before .before .before .before .before .before .args in
     let l = c .before .before .before .before .before .loop in
     left-node (a .count) (a .store .now) (l .i) (l .at) (c .before .before .before .before .loop-test .taken) (l .inv .3) .long
 
@@ -90,7 +99,7 @@ loop-less c = search needs
 
 loop-again : tie.Need-loop-again Inv-loop μ-loop
 loop-again c =
-    let a = c .before .before .before .before .before .before .before .before .before .before .before .before .before .before .before .args in
+    let a = c .before .before .before .before .before .before .before .before .before .before .before .before .before .before .before .before .before .args in
     let l = c .before .before .before .before .before .before .before .before .before .before .loop in
     let t = c .before .before .before .before .before .before .before .before .before .loop-test .taken in (
       omega arith,
@@ -106,9 +115,9 @@ same-length c = search needs
 same-length-2 : tie.Need-same-length-2 Inv-loop μ-loop
 same-length-2 c = search needs
 
-returns : tie.Need-returns Inv-loop μ-loop
-returns c =
-    let a = c .before .before .before .before .before .before .args in
+returns-2 : tie.Need-returns-2 Inv-loop μ-loop
+returns-2 c =
+    let a = c .before .before .before .before .before .before .before .before .args in
     let l = c .before .loop in
     rw (← (left-all (a .count) (a .store .now))) (todo-done (nodes-end (a .count - l .i) _ (omega arith)) (l .inv .4))
 
@@ -118,6 +127,8 @@ write-nodes-spec =
     (tie.spec
     Inv-loop
     μ-loop
+    skips-requires
+    returns
     loop-holds
     add-first
     mul-end
@@ -135,4 +146,4 @@ write-nodes-spec =
     loop-again
     same-length
     same-length-2
-    returns)
+    returns-2)
