@@ -1,13 +1,13 @@
 -- What is known of a constraint that is sized, and its size after some of its counted lists.
-use Prim.Native.Nat.{ℕ, zero, suc, _+_, _-_, _*_, _≤_, _<_}
+use Prim.Native.Nat.{ℕ, _+_, _-_, _*_, _≤_, _<_}
 use mathlib.Core.Path.{_≡_, sym, _∙_}
-use mathlib.Core.List.{List, [], _∷_, map}
+use mathlib.Core.List.{List, map}
 use native.Mathlib.Omega.{arith}
 use native.Mathlib.Numerals.{add-one}
-use lib.ListN.{length, getD, drop, drop-of-length-le}
+use lib.ListN.{length, drop, drop-of-length-le}
 use lib.Seq.{drop-cons}
 use Rattle.scope.specs.Kinds.{Constraint, Listed, Counted, rule}
-use Rattle.number.specs.Each.{Each, each-none, each-more}
+use Rattle.number.specs.Each.{each-at}
 use Rattle.constraint.specs.declared.kinds.Head.{Head}
 use Rattle.constraint.specs.declared.bounds.Bounds.{Bounds}
 use Rattle.constraint.specs.Bounds.{lowOf, highOf, freeOf, bounds-right}
@@ -38,12 +38,6 @@ pub record CountedSized (w : ℕ) (c : Counted) (z : Size) : Type 0 where
   pub within : Within 268435456 z
   pub few : z .units ≤ 31875
 
--- what holds of each of some lists holds of one of them
-each-at : {P : Listed → Type 0} (ls : List Listed) (j : ℕ) → j < length ls → Each P ls → P (getD ls j noList)
-each-at [] j h each-none = let z : ⊥ = omega arith in absurd z
-each-at (l ∷ ls) zero h (each-more p ps) = p
-each-at (l ∷ ls) (suc j) h (each-more p ps) = each-at ls j (omega arith) ps
-
 module _ {users groups list : List ℕ} {h : Head} {c : Constraint} (s : Sizable users groups list h c) where
   -- what it counts
   abbrev countedBy : Counted
@@ -63,12 +57,12 @@ module _ {users groups list : List ℕ} {h : Head} {c : Constraint} (s : Sizable
   -- list number t, from 1, is short, and so its nodes have small numbers
   module _ {t : ℕ} (a : 1 ≤ t) (b : t ≤ length (countedBy .lists)) where
     pub sizable-short : Short countedBy (listIn (usersAt users) groups h (c .kind) t)
-    sizable-short = each-at (countedBy .lists) (t - 1) (omega arith) (s .fits .short)
+    sizable-short = each-at (t - 1) noList (s .fits .short) (omega arith)
 
     pub sizable-small : 1 + length (listIn (usersAt users) groups h (c .kind) t .nodes) ≤ 8000001
     sizable-small =
         let small : Small (listIn (usersAt users) groups h (c .kind) t) =
-        each-at (countedBy .lists) (t - 1) (omega arith) (lists-small (h .times) (usersAt users) (groupIn groups) (c .kind))
+        each-at (t - 1) noList (lists-small (h .times) (usersAt users) (groupIn groups) (c .kind)) (omega arith)
         in
         omega (arith, small .few, sizable-short .most)
 
