@@ -1,5 +1,4 @@
 // The constraints of an instance. They stay in the file, and are decoded one at a time into a kind with its fields.
-mod bounds;
 mod field;
 mod flat;
 mod kinds;
@@ -7,8 +6,7 @@ mod list;
 mod next;
 mod table;
 
-pub use bounds::Bounds;
-pub use bounds::bounds_of;
+pub use kinds::Bounds;
 pub use kinds::Busy;
 pub use kinds::Clash;
 pub use kinds::Constraint;
@@ -20,4 +18,5 @@ pub use kinds::Preferred;
 pub use kinds::Split;
 pub use kinds::Spread;
 pub use kinds::Unavailable;
+pub use kinds::bounds_of;
 pub use next::constraint_at;

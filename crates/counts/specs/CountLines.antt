@@ -16,7 +16,7 @@ use Rattle.sink.specs.World.{rowOver}
 use Rattle.counters.specs.Rows.{gates-map}
 use Rattle.gates.specs.Units.{unitLine}
 use Rattle.counts.specs.UnitLines.{unitsFrom, low-hard, low-soft, high-none, high-any}
-use Rattle.constraint.specs.declared.bounds.Bounds.{Bounds}
+use Rattle.constraint.specs.declared.kinds.Bounds.{Bounds}
 
 -- the rule of some bounds, without its list
 abbrev pub ruleOf : Bounds → Rule

@@ -11,7 +11,7 @@ use Rattle.scope.specs.Cnf.{Item, gate, hard, soft, gates, opp}
 use Rattle.scope.specs.Formula.{noRow, counter, lastRow, ones, columns, unit, lowUnits, highUnits, shortUnits, boundItems, countInto, countItems}
 use Rattle.counters.specs.Rows.{gates-map}
 use Rattle.counts.specs.CountLines.{ruleOf, counter-length}
-use Rattle.constraint.specs.declared.bounds.Bounds.{Bounds}
+use Rattle.constraint.specs.declared.kinds.Bounds.{Bounds}
 use Rattle.sink.specs.Run.{Ran}
 use Rattle.sink.specs.Lines.{Line, lines}
 use Rattle.sink.specs.World.{World}

@@ -10,7 +10,7 @@ use Rattle.sink.specs.Lines.{Line}
 use Rattle.sink.specs.World.{World}
 use Rattle.literals.specs.Numbered.{Numbered, plain, numberedItems, allNumbered}
 use Rattle.literals.specs.Words.{Holds}
-use Rattle.constraint.specs.declared.bounds.Bounds.{Bounds}
+use Rattle.constraint.specs.declared.kinds.Bounds.{Bounds}
 use Rattle.items.specs.Counted.{counted}
 use Rattle.items.specs.Written.{Room, Wrote, Left, left-turn, room-first}
 

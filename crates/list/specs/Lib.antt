@@ -5,5 +5,5 @@ pub mod Plain
 pub mod Cluster
 pub mod Idle
 pub mod Fillable
-pub mod BoundsFor
+pub mod ListsOf
 pub mod Literals

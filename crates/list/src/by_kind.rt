@@ -14,6 +14,7 @@ ghost use Rattle.constraint.specs.Answers.{kindOf};
 ghost use Rattle.literals.specs.Filled.{usersAt};
 ghost use Rattle.list.specs.Fillable.{Fillable};
 ghost use Rattle.list.specs.Stored.{listIn, numOf, Stored};
+ghost use Rattle.list.specs.ListsOf.{ListsOf};
 
 // List number t, from 1; its first node is the variable v.
 pub fn fill(
@@ -38,5 +39,21 @@ pub fn fill(
         Kind::Busy(f) => fill_busy(f, head, groups, out),
         Kind::Cluster(f) => fill_cluster(f, head, groups, list, v, out),
         Kind::Idle(f) => fill_idle(f, head, groups, list, v, out),
+    }
+}
+
+// How many lists a constraint has: one for each time for a clash, else one.
+pub fn lists(kind: Kind, times: u32) -> u32
+    ensures { λ r. ⌜ ListsOf kind times r ⌝ }
+{
+    match kind {
+        Kind::Clash(_) => times,
+        Kind::Unavailable(_) => 1,
+        Kind::Preferred(_) => 1,
+        Kind::Split(_) => 1,
+        Kind::Spread(_) => 1,
+        Kind::Busy(_) => 1,
+        Kind::Cluster(_) => 1,
+        Kind::Idle(_) => 1,
     }
 }

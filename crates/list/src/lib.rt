@@ -1,6 +1,5 @@
 // A constraint's counted lists, filled into a lent store of words: the nodes one after another, each a head word with the number
 // of its inputs and then its long clause, and after the nodes the members.
-mod bounds;
 mod busy;
 mod by_kind;
 mod clash;
@@ -13,8 +12,6 @@ mod split;
 mod spread;
 mod unavailable;
 
-pub use bounds::Bounds;
-pub use bounds::bounds_of;
-pub use bounds::lists;
 pub use by_kind::fill;
+pub use by_kind::lists;
 pub use filled::Filled;

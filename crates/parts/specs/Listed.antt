@@ -11,7 +11,7 @@ use Rattle.literals.specs.Words.{Holds}
 use Rattle.literals.specs.NodeWords.{nodeWords, nodesWords, or-words, and-words}
 use Rattle.list.specs.declared.filled.Filled.{Filled}
 use Rattle.list.specs.Stored.{Stored, Short}
-use Rattle.constraint.specs.declared.bounds.Bounds.{Bounds}
+use Rattle.constraint.specs.declared.kinds.Bounds.{Bounds}
 use Rattle.sizing.specs.declared.Size.{Size}
 use Rattle.sizing.specs.Sums.{sum, Within}
 use Rattle.sizing.specs.NodeSizes.{nodeSizes}

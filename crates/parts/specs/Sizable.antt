@@ -9,7 +9,7 @@ use lib.Seq.{drop-cons}
 use Rattle.scope.specs.Kinds.{Constraint, Listed, Counted, rule}
 use Rattle.number.specs.Each.{each-at}
 use Rattle.constraint.specs.declared.kinds.Head.{Head}
-use Rattle.constraint.specs.declared.bounds.Bounds.{Bounds}
+use Rattle.constraint.specs.declared.kinds.Bounds.{Bounds}
 use Rattle.constraint.specs.Bounds.{lowOf, highOf, freeOf, bounds-right}
 use Rattle.literals.specs.Filled.{usersAt}
 use Rattle.literals.specs.Numbered.{noList}

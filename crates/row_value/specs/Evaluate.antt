@@ -9,7 +9,8 @@ use lib.ListN.{length, length-append}
 use lib.Dec.{leb, ltb}
 use borrow.Author.Tests.{leb-true, leb-false, ltb-true, ltb-false}
 use Rattle.laws.specs.Booleans.{beq-iff, never-true}
-use Rattle.scope.specs.Cnf.{Assignment, bit, lit, value, gate, gateClauses, clauses, hardClauses}
+use Rattle.scope.specs.Cnf.{Assignment, bit, lit, gate, gateClauses, clauses, hardClauses}
+use Rattle.theory.specs.Outputs.{value}
 use Rattle.scope.specs.Formula.{row}
 use Rattle.theory.specs.Gates.{gate-holds, lit-pos, clauses-append}
 use Rattle.sink.specs.Run.{Ran}

@@ -16,7 +16,7 @@ use Rattle.gates.specs.LongClauses.{LongClause, nodeClauses, long-literals, lit
 use Rattle.literals.specs.Proper.{Proper}
 use Rattle.literals.specs.Words.{Holds}
 use Rattle.literals.specs.NodeWords.{inputs, longFront, longLast, nodeWords, nodesWords, IsNode}
-use Rattle.constraint.specs.declared.bounds.Bounds.{Bounds}
+use Rattle.constraint.specs.declared.kinds.Bounds.{Bounds}
 use Rattle.items.specs.Counted.{counted}
 use Rattle.items.specs.Written.{Room, Wrote, gates-both, room-rest}
 use Rattle.rule.specs.Stored.{storeClauses, StoreNodes, members, ListStored}

@@ -11,7 +11,7 @@ use Rattle.scope.specs.Kinds.{Kind, Listed, Counted}
 use Rattle.scope.specs.Formula.{refLiteral, nodeGate}
 use Rattle.number.specs.Each.{Each, each-at}
 use Rattle.constraint.specs.declared.kinds.Head.{Head}
-use Rattle.constraint.specs.declared.bounds.Bounds.{Bounds}
+use Rattle.constraint.specs.declared.kinds.Bounds.{Bounds}
 use Rattle.constraint.specs.Bounds.{lowOf, highOf, freeOf, bounds-right}
 use Rattle.sink.specs.Lines.{Line}
 use Rattle.sink.specs.World.{World}

@@ -25,7 +25,7 @@ neg v = 2 * v + 1
 abbrev pub opp : ℕ → ℕ
 opp l = l + 1 - 2 * (l % 2)
 
--- whether a literal, a clause, all clauses, a cube are true
+-- whether a literal, a clause, all clauses are true
 abbrev pub signed : ℕ → Bool → Bool
 signed zero b = b
 signed (suc k) b = not b
@@ -40,10 +40,6 @@ clause ν (l ∷ ls) = lit ν l || clause ν ls
 unfoldable pub clauses : Assignment → List (List ℕ) → Bool
 clauses ν [] = true
 clauses ν (c ∷ cs) = clause ν c && clauses ν cs
-
-unfoldable pub cube : Assignment → List ℕ → Bool
-cube ν [] = true
-cube ν (l ∷ ls) = lit ν l && cube ν ls
 
 -- "a clause with a true constant is dropped, a false constant is left out"
 unfoldable pub hasTrue : List ℕ → Bool
@@ -77,12 +73,6 @@ gateClauses (and ls) o = pairs ls (neg o) ++ (map opp ls ++ pos o ∷ []) ∷ []
 gateClauses (cell x a b) o =
     tidy (opp a ∷ pos o ∷ []) ++ tidy (opp x ∷ opp b ∷ pos o ∷ []) ++ tidy (x ∷ a ∷ neg o ∷ []) ++ tidy (b ∷ a ∷ neg o ∷ [])
 
--- the value that a gate gives its output
-unfoldable pub value : Assignment → Gate → Bool
-value ν (or ls) = clause ν ls
-value ν (and ls) = cube ν ls
-value ν (cell x a b) = lit ν a || lit ν x && lit ν b
-
 -- An item of a formula: a gate, whose output is the next variable; a hard clause; a soft unit with its weight
 pub data Item : Type 0 where
   gate : Gate → Item
@@ -102,17 +92,6 @@ gates [] = 0
 gates (gate g ∷ is) = suc (gates is)
 gates (hard c ∷ is) = gates is
 gates (soft w l ∷ is) = gates is
-
--- the bytes of the gates' outputs, after the bytes m of the variables before them
-abbrev pub byte : Bool → ℕ
-byte true = 1
-byte false = 0
-
-unfoldable pub outputs : List Item → List ℕ → List ℕ
-outputs [] m = []
-outputs (gate g ∷ is) m = let b = byte (value (bit m) g) in b ∷ outputs is (m ++ b ∷ [])
-outputs (hard c ∷ is) m = outputs is m
-outputs (soft w l ∷ is) m = outputs is m
 
 -- the soft units, each a weight and a literal
 unfoldable pub softUnits : List Item → List (ℕ × ℕ)

@@ -10,7 +10,7 @@ use Rattle.scope.specs.Parsed.{Parsed, got, refused, Answer, answered, r
 use Rattle.scope.specs.Number.{group, front, within, number, limited, reference, references, listed}
 use Rattle.scope.specs.Kinds.{Atom, Y, S, X, Rule, rule, Listed, atom, entriesNodes, entriesMembers, entries, spread, limit, upTo, usesAt, from, member, usersFrom, outside, groupAt, gapsAfter, gaps, countedOf, rulesOf, longest}
 use Rattle.scope.specs.Instance.{eventAt, fieldsRead, fieldsTable, ended, constraintAt, sizesAt, groupsAt, constraintsAt, parse}
-use Rattle.scope.specs.Cnf.{Item, gate, byte, bit, lit, clause, clauses, cube, hasTrue, withoutFalse, tidy, pairs, gateClauses, value, hardClauses, outputs, softUnits, falsified}
+use Rattle.scope.specs.Cnf.{Item, gate, bit, lit, clause, clauses, hasTrue, withoutFalse, tidy, pairs, gateClauses, hardClauses, softUnits, falsified}
 use Rattle.scope.specs.Score.{trues, any, all, deviation, charged, valuesAfter, count, deviations, truth, eventRight, firstWrong, infeasibilityOf, objectiveOf, firstAbove}
 use Rattle.scope.specs.Formula.{noRow, ones, row, counter, lastRow, lowUnits, highUnits, shortUnits, boundItems, countInto, ruleItems, rulesItems, starts, uses, durationRules, constraintRules, formula, variables, hardOf, softOf, tail, bounded, boundedVariables, boundedHard, words}
 use Rattle.scope.specs.Text.{digits, literalText, line, sumWeights, top, headerLine, text}
@@ -105,7 +105,7 @@ counter3 : List Item
 counter3 = map gate (counter noRow (ones (2 ∷ 4 ∷ 6 ∷ [])) 3 4)
 
 holds3 : List ℕ → List ℕ
-holds3 m = byte (clauses (bit m) (hardClauses 4 counter3)) ∷ []
+holds3 m = cond (clauses (bit m) (hardClauses 4 counter3)) 1 0 ∷ []
 
 -- a file with T times and nothing else but an event
 timesFile : ℕ → List ℕ
@@ -191,8 +191,7 @@ cases =
     ∷ shows (count (busyTimes 2 4) idleSix ∷ []) (1 ∷ [])
     -- two starts of a spread group at one time count twice
     ∷ shows (deviations startAt1 (rulesOf 1 (λ r. []) (groupAt ((1 ∷ []) ∷ [])) (spread (1 ∷ 2 ∷ []) 1 0 1)) ∷ []) (1 ∷ [])
-    -- literals 1, 0, 1 give last row 1, 1, 0; its clauses refuse a count that is too low or too high
-    ∷ shows (drop 6 (outputs counter3 (1 ∷ 0 ∷ 1 ∷ []))) (1 ∷ 1 ∷ 0 ∷ [])
+    -- literals 1, 0, 1 give last row 1, 1, 0: its clauses refuse a count that is too low or too high
     ∷ shows (holds3 (1 ∷ 0 ∷ 1 ∷ 1 ∷ 0 ∷ 0 ∷ 1 ∷ 0 ∷ 0 ∷ 1 ∷ 1 ∷ 0 ∷ [])) (1 ∷ [])
     ∷ shows (holds3 (1 ∷ 0 ∷ 1 ∷ 1 ∷ 0 ∷ 0 ∷ 1 ∷ 0 ∷ 0 ∷ 1 ∷ 0 ∷ 0 ∷ [])) (0 ∷ [])
     ∷ shows (holds3 (1 ∷ 0 ∷ 1 ∷ 1 ∷ 0 ∷ 0 ∷ 1 ∷ 0 ∷ 0 ∷ 1 ∷ 1 ∷ 1 ∷ [])) (0 ∷ [])
@@ -206,5 +205,5 @@ cases =
 
 -- the definitions compute what the paper says
 pub examples : map (λ c. c .computed) cases ≡ map (λ c. c .expected) cases
-unfolding repeat group front within number limited reference references listed from member usersFrom outside gapsAfter gaps entriesNodes entriesMembers countedOf longest eventAt fieldsRead fieldsTable ended constraintAt sizesAt groupsAt constraintsAt parse bit lit clause clauses cube hasTrue withoutFalse tidy pairs gateClauses value hardClauses outputs softUnits falsified trues any all deviation charged valuesAfter count deviations truth eventRight firstWrong infeasibilityOf objectiveOf firstAbove row counter lastRow lowUnits highUnits shortUnits boundItems countInto ruleItems rulesItems starts uses durationRules constraintRules formula variables hardOf softOf tail bounded boundedVariables boundedHard words digits literalText line sumWeights top headerLine text numbers stepAt literalsOk wellFormed hintsShow deleted perform run start plainRun readOf scoreOf sameBytes sameSheetOf sizesOf textSizeOf textOf programPrints lowestFalse decodeOf formulaFits checkOf checkHardOf bestOf fileA fileHardA fileFree proofA listingA numberSaid stepsSaid scoreSaid decodeSaid bestSaid sizeSaid ample checkA roomA bestA busyTimes startAt1 counter3 holds3 timesFile spelt listFile six idleSix cases flatMap
+unfolding repeat group front within number limited reference references listed from member usersFrom outside gapsAfter gaps entriesNodes entriesMembers countedOf longest eventAt fieldsRead fieldsTable ended constraintAt sizesAt groupsAt constraintsAt parse bit lit clause clauses hasTrue withoutFalse tidy pairs gateClauses hardClauses softUnits falsified trues any all deviation charged valuesAfter count deviations truth eventRight firstWrong infeasibilityOf objectiveOf firstAbove row counter lastRow lowUnits highUnits shortUnits boundItems countInto ruleItems rulesItems starts uses durationRules constraintRules formula variables hardOf softOf tail bounded boundedVariables boundedHard words digits literalText line sumWeights top headerLine text numbers stepAt literalsOk wellFormed hintsShow deleted perform run start plainRun readOf scoreOf sameBytes sameSheetOf sizesOf textSizeOf textOf programPrints lowestFalse decodeOf formulaFits checkOf checkHardOf bestOf fileA fileHardA fileFree proofA listingA numberSaid stepsSaid scoreSaid decodeSaid bestSaid sizeSaid ample checkA roomA bestA busyTimes startAt1 counter3 holds3 timesFile spelt listFile six idleSix cases flatMap
 examples = refl

@@ -7,7 +7,8 @@ use Prim.Native.Nat.{ℕ, _+_, _≤_, _<_}
 use native.Mathlib.Nat.{lt-of-not-le}
 use native.Mathlib.Omega.{arith}
 use Rattle.scope.specs.Instance.{Instance}
-use Rattle.scope.specs.Cnf.{bit, clauses, gates, outputs}
+use Rattle.scope.specs.Cnf.{bit, clauses, gates}
+use Rattle.theory.specs.Outputs.{outputs}
 use Rattle.scope.specs.Score.{truth, objectiveOf}
 use Rattle.scope.specs.Formula.{primary, formula, variables, softOf, negated, tail, bounded, boundedHard}
 use Rattle.scope.specs.Demands.{Accepted, KeepsHard}

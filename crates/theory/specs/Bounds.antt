@@ -8,7 +8,8 @@ use lib.Dec.{eqb, leb, ltb}
 use lib.ListN.{length, length-map}
 use borrow.Author.Tests.{leb-true, leb-false, ltb-true, ltb-false, eqb-true, eqb-false, not-true, not-false}
 use Rattle.scope.specs.Kinds.{Rule, from}
-use Rattle.scope.specs.Cnf.{Assignment, neg, opp, lit, cube, and, value, Item, hard}
+use Rattle.scope.specs.Cnf.{Assignment, neg, opp, lit, and, Item, hard}
+use Rattle.theory.specs.Outputs.{cube, value}
 use Rattle.scope.specs.Score.{trues, deviation, charged}
 use Rattle.scope.specs.Formula.{noRow, counter, lastRow, ones, columns, unit, lowUnits, highUnits, shortUnits, boundItems, countItems, countInto}
 use Rattle.theory.specs.Gates.{lit-neg, lit-opp}

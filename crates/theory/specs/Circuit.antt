@@ -7,7 +7,8 @@ use Prim.Native.Nat.{ℕ, zero, suc, _+_, _<_}
 use native.Mathlib.Nat.{add-zero, zero-add, suc-add, add-suc}
 use native.Mathlib.Omega.{arith}
 use lib.ListN.{length, getD}
-use Rattle.scope.specs.Cnf.{Assignment, clause, clauses, Gate, gateClauses, value, Item, gate, hard, soft, hardClauses, gates}
+use Rattle.scope.specs.Cnf.{Assignment, clause, clauses, Gate, gateClauses, Item, gate, hard, soft, hardClauses, gates}
+use Rattle.theory.specs.Outputs.{value}
 use Rattle.theory.specs.Gates.{clauses-append, gate-holds}
 
 -- each gate's output has the gate's value, where n is the variable of the first gate's output

@@ -13,7 +13,8 @@ use lib.Seq.{take-length}
 use borrow.Author.Tests.{leb-true, leb-false, le-leb}
 use Rattle.laws.specs.Booleans.{leb-same}
 use Rattle.laws.specs.Lists.{map-append}
-use Rattle.scope.specs.Cnf.{Assignment, lit, cell, value, gate}
+use Rattle.scope.specs.Cnf.{Assignment, lit, cell, gate}
+use Rattle.theory.specs.Outputs.{value}
 use Rattle.scope.specs.Formula.{noRow, rowAt, row, counter, lastRow}
 use Rattle.theory.specs.Gates.{lit-pos}
 use Rattle.theory.specs.Circuit.{Holds, Holds-gates}

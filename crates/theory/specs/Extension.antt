@@ -9,7 +9,8 @@ use lib.Dec.{eqb}
 use lib.ListN.{length, take, drop, length-append, length-drop, take-append-drop, List·getD-append}
 use lib.Seq.{append-snoc, getD-append-seam, length-take-le}
 use Rattle.laws.specs.Lists.{All, All-append, All-drop}
-use Rattle.scope.specs.Cnf.{Assignment, bit, byte, lit, clause, cube, Gate, or, and, cell, value, Item, gate, hard, soft, gates, outputs}
+use Rattle.scope.specs.Cnf.{Assignment, bit, lit, clause, Gate, or, and, cell, Item, gate, hard, soft, gates}
+use Rattle.theory.specs.Outputs.{byte, cube, value, outputs}
 use Rattle.theory.specs.Circuit.{Holds}
 use Rattle.theory.specs.Order.{Proper, Reads, Ordered}
 

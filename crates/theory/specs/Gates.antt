@@ -11,7 +11,8 @@ use Rattle.laws.specs.Taut.{taut}
 use Rattle.laws.specs.Booleans.{beq-iff}
 use Rattle.laws.specs.Lists.{All}
 use Rattle.scope.specs.Score.{any}
-use Rattle.scope.specs.Cnf.{Assignment, opp, signed, lit, clause, clauses, cube, hasTrue, withoutFalse, tidy, pairs, Gate, or, and, cell, gateClauses, value}
+use Rattle.scope.specs.Cnf.{Assignment, opp, signed, lit, clause, clauses, hasTrue, withoutFalse, tidy, pairs, Gate, or, and, cell, gateClauses}
+use Rattle.theory.specs.Outputs.{cube, value}
 
 module _ (ν : Assignment) where
   -- the values of literals: v, not v, the opposite of l

@@ -76,22 +76,6 @@ OneList P c l = c .lo ≤ c .hi → c .lo ≤ max (length (l .members)) 0 → Al
 one-valid : (P : Atom → Type 0) (c : Counted) (l : List Entry) → All (Atoms P) l → OneList P c (entries l)
 one-valid P c l h a b = (list-valid P c (entries l) a (omega arith) (entries-known P l h), tt)
 
--- no list of a kind is shorter than lo, where the longest is not: a clash has the lo 0, the others have one list
-module _ (T : ℕ) (us group : ℕ → List ℕ) where
-  abbrev Reached : Kind → Type 0
-  Reached k = All (λ l. countedOf T us group k .lo ≤ length (l .members)) (countedOf T us group k .lists)
-
-  pub lists-reached : (k : Kind) → countedOf T us group k .lo ≤ longest (countedOf T us group k .lists) → Reached k
-  unfolding countedOf longest
-  lists-reached (clash r) h = All-map _ _ (λ t. entries (map (λ e. atom (Y e t)) (us r))) (λ t w. omega arith) (upTo T) (from-all (λ t. Unit {0}) 1 T (λ t a b. tt))
-  lists-reached (unavailable r g) h = (omega arith, tt)
-  lists-reached (preferred e g) h = (omega arith, tt)
-  lists-reached (split e lo hi) h = (omega arith, tt)
-  lists-reached (spread vs g lo hi) h = (omega arith, tt)
-  lists-reached (busy r g lo hi) h = (omega arith, tt)
-  lists-reached (cluster r hs lo hi) h = (omega arith, tt)
-  lists-reached (idle r hs lo hi) h = (omega arith, tt)
-
 module _ (i : Instance) (v : ValidInstance i) where
   -- X at the members of a group, and of each of some groups
   group-range : (r g : ℕ) → Within 1 (i .resources) r → Within 1 (length (i .groups)) g

@@ -1,5 +1,6 @@
 pub mod Readings
 pub mod Accepted
+pub mod Outputs
 pub mod Gates
 pub mod Circuit
 pub mod Order

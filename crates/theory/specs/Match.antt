@@ -11,7 +11,8 @@ use borrow.Author.Tests.{le-leb, leb-true}
 use Rattle.laws.specs.Lists.{All, All-take, All-everywhere, All-places}
 use Rattle.scope.specs.Parsed.{Answer, answered}
 use Rattle.scope.specs.Instance.{Instance}
-use Rattle.scope.specs.Cnf.{bit, outputs, falsified}
+use Rattle.scope.specs.Cnf.{bit, falsified}
+use Rattle.theory.specs.Outputs.{outputs}
 use Rattle.scope.specs.Score.{truth, objectiveOf, objective, unlessFound, ofBytes}
 use Rattle.scope.specs.Formula.{primary, formula, variables, hardOf, softOf, mostVariables}
 use Rattle.scope.specs.Operations.{lowestFalse, decodeOf, part, falsifiedSoft}

@@ -12,7 +12,8 @@ use lib.Seq.{getD-append-seam}
 use borrow.Author.Tests.{ltb-true, ltb-false}
 use Rattle.laws.specs.Lists.{All, All-weaken}
 use Rattle.scope.specs.Kinds.{Atom, Thing, anAtom, aNode, Ref, Node, someOf, allOf, Listed}
-use Rattle.scope.specs.Cnf.{opp, Assignment, lit, clause, cube, value, gate}
+use Rattle.scope.specs.Cnf.{opp, Assignment, lit, clause, gate}
+use Rattle.theory.specs.Outputs.{cube, value}
 use Rattle.scope.specs.Score.{any, all, thingTrue, refTrue, nodeTrue, valuesAfter}
 use Rattle.scope.specs.Formula.{thingLiteral, refLiteral, nodeGate}
 use Rattle.theory.specs.Gates.{lit-pos, lit-opp, clause-any}

@@ -8,7 +8,8 @@ use lib.ListN.{length, getD, length-map, List·getD-map}
 use Rattle.laws.specs.Lists.{length-rows, getD-rows}
 use Rattle.scope.specs.Kinds.{Y, X, upTo, users}
 use Rattle.scope.specs.Instance.{Instance}
-use Rattle.scope.specs.Cnf.{Assignment, clause, Gate, or, value, gate, gates}
+use Rattle.scope.specs.Cnf.{Assignment, clause, Gate, or, gate, gates}
+use Rattle.theory.specs.Outputs.{value}
 use Rattle.scope.specs.Score.{layout, var, eventCount}
 use Rattle.scope.specs.Formula.{num, startItems, starts, uses, rulesItems, allRules, primary, formula}
 use Rattle.theory.specs.Accepted.{Within}

@@ -1,10 +1,10 @@
--- `list::bounds::lists` meets its contract: a case for each kind.
-use Rattle.list.specs.BoundsFor.{clash-lists}
+-- `list::by_kind::lists` meets its contract: a case for each kind.
+use Rattle.list.specs.ListsOf.{clash-lists}
 use Rattle.scope.specs.Kinds.{countedOf}
 use mathlib.Core.Path.{refl}
 use borrow.Author.Needs.{needs}
-use Rattle.list.proofs.bounds.lists.Statement.{statement}
-use Rattle.list.proofs.bounds.lists.Tie as tie
+use Rattle.list.proofs.by_kind.lists.Statement.{statement}
+use Rattle.list.proofs.by_kind.lists.Tie as tie
 
 enum-told : tie.Need-enum-told
 enum-told c = search needs

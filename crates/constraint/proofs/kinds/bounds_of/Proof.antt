@@ -1,7 +1,7 @@
--- `constraint::bounds::bounds_of` meets its contract: a case for each kind.
+-- `constraint::kinds::bounds_of` meets its contract: a case for each kind.
 use borrow.Author.Needs.{needs}
-use Rattle.constraint.proofs.bounds.bounds_of.Statement.{statement}
-use Rattle.constraint.proofs.bounds.bounds_of.Tie as tie
+use Rattle.constraint.proofs.kinds.bounds_of.Statement.{statement}
+use Rattle.constraint.proofs.kinds.bounds_of.Tie as tie
 
 enum-told : tie.Need-enum-told
 enum-told c = search needs

@@ -1,4 +1,4 @@
--- How many lists a kind has, and their bounds as written: they go by its fields alone.
+-- How many lists a kind has: it goes by its fields alone.
 use Prim.Native.Nat.{ℕ}
 use mathlib.Core.Path.{_≡_, sym, _∙_}
 use mathlib.Core.List.{List, map}
@@ -6,13 +6,7 @@ use lib.ListN.{length, length-map}
 use Rattle.scope.specs.Kinds.{clash, Y, atom, entries, upTo, countedOf}
 use Rattle.constraint.specs.declared.kinds.Kind.{Kind}
 use Rattle.constraint.specs.Answers.{kindOf}
-use Rattle.list.specs.declared.bounds.Bounds.{Bounds}
 use Rattle.list.specs.Fillable.{length-from}
-
-pub record BoundsFor (k : Kind) (b : Bounds) : Type 0 where
-  pub lo : (T : ℕ) (us group : ℕ → List ℕ) (l : List ℕ) → b .lo ≡ countedOf T us group (kindOf l k) .lo
-  pub hi : (T : ℕ) (us group : ℕ → List ℕ) (l : List ℕ) → b .hi ≡ countedOf T us group (kindOf l k) .hi
-  pub free : (T : ℕ) (us group : ℕ → List ℕ) (l : List ℕ) → b .free ≡ countedOf T us group (kindOf l k) .zeroFree
 
 pub record ListsOf (k : Kind) (T n : ℕ) : Type 0 where
   pub eq : (us group : ℕ → List ℕ) (l : List ℕ) → n ≡ length (countedOf T us group (kindOf l k) .lists)
