@@ -11,7 +11,7 @@ use Rattle.scope.specs.Kinds.{Atom, Rule, from, upTo}
 use Rattle.scope.specs.Instance.{Instance}
 use Rattle.scope.specs.Cnf.{pos, neg, opp, hasTrue, withoutFalse, tidy, pairs, Gate, or, and, cell, gateClauses, Item, gate, hard, soft, hardClauses, gates}
 use Rattle.scope.specs.Score.{eventCount}
-use Rattle.scope.specs.Formula.{noRow, counter, lastRow, ones, columns, unit, lowUnits, highUnits, shortUnits, boundItems, countInto, countItems, allAdded, listGates, listLiterals, ruleItems, rulesItems, num, yBefore, startItems, starts, uses, allRules, primary, formula, variables, hardOf, softOf, negated, tail, bounded, boundedHard}
+use Rattle.scope.specs.Formula.{noRow, counter, lastRow, ones, columns, unit, lowUnits, highUnits, shortUnits, boundItems, countInto, countItems, refLiteral, nodeGate, ruleItems, rulesItems, num, yBefore, startItems, starts, uses, allRules, primary, formula, variables, hardOf, softOf, negated, tail, bounded, boundedHard}
 use Rattle.theory.specs.Variables.{atomsEnd, formula-parts}
 
 abbrev pub NonEmpty : List ℕ → Type 0
@@ -138,9 +138,9 @@ count-filled J w r xs v =
 rule-filled : (num : Atom → ℕ) (w : ℕ) (r : Rule) (v : ℕ) → All Filled (ruleItems num w r v)
 unfolding ruleItems
 rule-filled num w r v =
-    let xs = listLiterals num (r .list) v in
-    let n = v + allAdded (r .list) in
-    gates-then (listGates num (r .list) v) (countItems w r xs n) (count-filled (columns w (r .hi) (length xs)) w r xs n)
+    let xs = map (refLiteral num v) (r .list .members) in
+    let n = v + length (r .list .nodes) in
+    gates-then (map (nodeGate num v) (r .list .nodes)) (countItems w r xs n) (count-filled (columns w (r .hi) (length xs)) w r xs n)
 
 rules-filled : (num : Atom → ℕ) (rs : List (ℕ × Rule)) (v : ℕ) → All Filled (rulesItems num rs v)
 unfolding rulesItems
