@@ -23,7 +23,7 @@ use Rattle.hints.specs.Machine as machine
 use Rattle.hints.specs.Machine.{turnOf, turn-phase, stopped, onward, walked, Advances, gone, broken, walks, wipes, idle}
 use Rattle.trail.specs.Recorded.{recordedAt}
 use Rattle.turns.specs.Check.{keptAs, verdict, firstId, enteredAt, entered, proceeded, unwound, stepped, TakesStep, over, takes}
-use Rattle.run.specs.Run.{World, Turn, looks, keeps, judges, reads}
+use Rattle.run.specs.Run.{World, Turn, looks, keeps, judges, reads, Ran, none, more}
 
 -- what is left: of a proof of P bytes and a step whose hints stand at h, by stages and by the offset in each
 unfoldable budget : ℕ → ℕ → ℕ → ℕ → ℕ
@@ -239,3 +239,21 @@ turn-falls s last cap w v (reads t x e r ws) l =
     lower-falls (length s) w v _
     (rw (turn-phase (w .machine .phase) t (omega arith) (omega arith), e) (takes-lower s (w .check) (w .machine .at) last x l))
     refl
+
+-- two runs, one after the other
+pub ran-on : (s : List ℕ) (last cap : ℕ) {w v u : World} → Ran s last cap w v → Ran s last cap v u → Ran s last cap w u
+ran-on s last cap r none = r
+ran-on s last cap r (more x y q t k l) = more x y (ran-on s last cap r q) t k l
+
+-- some turns: what is left falls, if there was one
+pub data Runs (P : ℕ) (w v : World) : Type 0 where
+  still : v ≡ w → Runs P w v
+  fell : Falls P w v → Runs P w v
+
+pub ran-falls : (s : List ℕ) (last cap : ℕ) {w v : World} → Ran s last cap w v → Past (w .check) (w .machine) → Runs (length s) w v
+ran-falls s last cap none l = still refl
+ran-falls s last cap {w} {v} (more x y q t k k′) l = go (ran-falls s last cap q l)
+  where
+    go : Runs (length s) w x → Runs (length s) w v
+    go (still e) = fell (rw e at (turn-falls s last cap x v t (rw e l)))
+    go (fell f) = let g = turn-falls s last cap x v t (f .0) in fell (g .0, omega (arith, f .1, g .1))

@@ -1,8 +1,10 @@
-// The loop that drives a check. It alone lends the directory: to look up the ids that the machine wants, to mark those dead
-// that are deleted, and to append the clauses that are kept.
+// The loop that drives a check. It lends the directory: to look up the ids that the machine wants, to delete ids, and to append the
+// clauses that are kept.
+use crate::deleting::delete_ids;
 use hints::machine::DELETE;
 use hints::machine::JUDGE;
 use hints::machine::KEEP;
+use hints::machine::LOOK;
 use hints::machine::Machine;
 use hints::machine::Phase;
 use hints::machine::READ;
@@ -16,7 +18,6 @@ use scope::CheckAnswer;
 use store::directory::Row;
 use store::directory::append;
 use store::directory::find;
-use store::directory::mark_dead;
 use taking::step::next_step;
 use turns::check::begin;
 use turns::check::judge;
@@ -54,12 +55,11 @@ fn drive_with(
     let mut m = ready();
     loop {
         let turn = turn_of(m);
-        if turn <= DELETE {
+        if turn == LOOK {
             let p = find(rows, c.tally.rows, m.want);
             m = advance(m, p.hit, proof, words, marks, trail);
-            if turn == DELETE {
-                mark_dead(rows, p.at);
-            }
+        } else if turn == DELETE {
+            m = delete_ids(m, proof, rows, c.tally.rows);
         } else if turn == KEEP {
             append(rows, c.tally.rows, row_of(c));
             c = keep(c, proof, words);
