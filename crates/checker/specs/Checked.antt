@@ -13,7 +13,7 @@ use Rattle.store.specs.Marks.{marks-cleared}
 use Rattle.store.specs.Directory.{rowsOf}
 use Rattle.store.specs.Marked.{Built}
 use Rattle.run.specs.Run.{Driven}
-use Rattle.bound.specs.Meaning.{check-means}
+use Rattle.run_meaning.specs.Meaning.{check-means}
 use Rattle.claims.specs.declared.claim.Claim.{Claim}
 use Rattle.claims.specs.declared.prepare.Ready.{Ready}
 use Rattle.claims.specs.Prepared.{lent, asked, FormulaIn, preparedAs, Prepared}

@@ -25,7 +25,7 @@ use Rattle.sink.specs.Run.{Ran, out, put}
 use Rattle.store.specs.Holding.{Good}
 use Rattle.store.specs.Built.{Each}
 use Rattle.store.specs.Marked.{mark, Plain}
-use Rattle.bound.specs.Meaning.{limits}
+use Rattle.run_meaning.specs.Meaning.{limits}
 use Rattle.claims.specs.declared.claim.Claim.{Claim}
 use Rattle.claims.specs.declared.prepare.Ready.{Ready}
 use Rattle.claims.specs.Storable.{Storable, hard-storable, bounded-storable}

@@ -23,7 +23,7 @@ use Rattle.literals.specs.Tables.{groupIn}
 use Rattle.list.specs.Ground.{layoutOf}
 use Rattle.fitting.specs.Fitting.{known-fits}
 use Rattle.items.specs.Written.{Room, Wrote, Left, room-first, room-same, left-start, left-turn, left-end, left-room}
-use Rattle.rules.specs.Fits.{Fits, constraintPart}
+use Rattle.constraint_clauses.specs.Fits.{Fits, constraintPart}
 
 -- the items of some constraints, from the variable v on
 abbrev pub itemsOf : (users groups : List ℕ) → Head → List Constraint → ℕ → List Item

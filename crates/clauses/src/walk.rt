@@ -2,7 +2,7 @@
 use constraint::Head;
 use constraint::Next;
 use constraint::constraint_at;
-use rules::write_constraint;
+use constraint_clauses::write_constraint;
 use sink::Job;
 use sink::Sink;
 ghost use Prim.Native.Nat.{_≤_};

@@ -2,7 +2,7 @@ pub mod Answers
 pub mod Bounds
 pub mod Decoded
 pub mod Flat
-pub mod Ladder
+pub mod Sequence
 pub mod Left
 pub mod Table
 pub mod Valid

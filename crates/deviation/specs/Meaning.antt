@@ -11,7 +11,7 @@ use native.Mathlib.Nat.{add-assoc, mul-le-mul}
 use Rattle.scope.specs.Cnf.{bit}
 use Rattle.scope.specs.Kinds.{Kind, clash, unavailable, preferred, split, spread, busy, cluster, idle, Y, S, X, atom, anyOf, from, upTo, users, outside, groupAt, usesAt, takesAt, startsAt, gaps, countedOf, rulesOf}
 use Rattle.scope.specs.Instance.{Instance, Counts}
-use Rattle.scope.specs.Score.{trues, any, deviation, deviations, truth, cells}
+use Rattle.scope.specs.Score.{trues, any, deviation, deviations, truth, slots}
 use Rattle.theory.specs.Entries.{entryTrue}
 use Rattle.number.specs.Laws.{Ascending, none, more}
 use Rattle.tables.specs.Rows.{rowAt, rows, eventsOf}
@@ -95,11 +95,11 @@ module _ (i : Instance) (b u x gs : List ℕ) (G : ℕ) (seen : Seen i b u x) (t
   unfolding entryTrue truth
   takes-valued e ts = map-map (entryTrue (truth i b)) (λ t. atom (Y e t)) ts
 
-  starts-valued : (e : ℕ) (ts : List ℕ) → map (entryTrue (truth i b)) (startsAt e ts) ≡ marks b (cells i + (e - 1) * i .times) ts
+  starts-valued : (e : ℕ) (ts : List ℕ) → map (entryTrue (truth i b)) (startsAt e ts) ≡ marks b (slots i + (e - 1) * i .times) ts
   unfolding entryTrue truth
   starts-valued e ts =
       map-map (entryTrue (truth i b)) (λ t. atom (S e t)) ts
-      ∙ ap (λ f. map f ts) (fun-ext (λ t. ap (bit b) (sym (add-assoc (cells i) ((e - 1) * i .times) t))))
+      ∙ ap (λ f. map f ts) (fun-ext (λ t. ap (bit b) (sym (add-assoc (slots i) ((e - 1) * i .times) t))))
 
   takers-valued : (t : ℕ) (es : List ℕ) → map (entryTrue (truth i b)) (map (λ e. atom (Y e t)) es) ≡ map (λ e. bit b ((e - 1) * i .times + t)) es
   unfolding entryTrue truth
@@ -115,7 +115,7 @@ module _ (i : Instance) (b u x gs : List ℕ) (G : ℕ) (seen : Seen i b u x) (t
 
   -- each kind
   abbrev Right : Kind → Type 0
-  Right k = chargeOf (cells i) (i .times) b u x gs k ≡ deviations (truth i b) (rulesOf (i .times) (λ r. users r (i .events)) (groupAt (i .groups)) k)
+  Right k = chargeOf (slots i) (i .times) b u x gs k ≡ deviations (truth i b) (rulesOf (i .times) (λ r. users r (i .events)) (groupAt (i .groups)) k)
 
   clash-right : (r : ℕ) → 1 ≤ r → r ≤ 99 → Right (clash r)
   unfolding clashCharge countedOf

@@ -10,7 +10,7 @@ use Rattle.scope.specs.Parsed.{Parsed, got, refused, Answer, answered, refusal,
 use Rattle.scope.specs.Number.{Front, broken, whole, within, front, numberFrom, number, limited, reference, references, listed}
 use Rattle.scope.specs.Kinds.{Event, Kind, longest, users, groupAt, Counted, countedOf}
 use Rattle.scope.specs.Instance.{countsOf, Instance, eventAt, Fields, aReference, aList, aNumber, theKind, fieldsRead, fieldsOf, ended, constraintAt, sizesAt, groupsAt, constraintsAt, parse}
-use Rattle.scope.specs.Score.{cells, truth, firstWrong, firstAbove, unlessFound, ofTimetable}
+use Rattle.scope.specs.Score.{slots, truth, firstWrong, firstAbove, unlessFound, ofTimetable}
 
 -- one of some numbers
 abbrev pub oneOf : List ℕ → ℕ → Bool
@@ -170,5 +170,5 @@ pub on-timetable : {ns : List ℕ} {A : Type 0} {a : Answer A} (t : Timetables n
     → Within ns a
     → Within ns (ofTimetable i b a)
 on-timetable t i b h =
-    given-if (eqb (length b) (2 * cells i)) 10 (2 * cells i) (t .e10)
+    given-if (eqb (length b) (2 * slots i)) 10 (2 * slots i) (t .e10)
     (given-for 11 (firstAbove 0 b) (t .e11) (given-for 12 (firstWrong i (truth i b) 1 (i .events)) (t .e12) h))

@@ -11,7 +11,7 @@ use Rattle.scope.specs.Instance.{countsOf, parse}
 use Rattle.scope.specs.declared.Refusal.{Refusal}
 use Rattle.number.specs.declared.Number.{Number}
 use Rattle.number.specs.Answers.{said, refusalOf, refusedBy}
-use Rattle.number.specs.Ladder.{step-number, stop}
+use Rattle.number.specs.Sequence.{step-number, stop}
 use Rattle.tables.specs.Rows.{rows, eventsOf}
 use Rattle.tables.specs.Laws.{length-rows, length-events}
 use Rattle.tables.specs.Reading.{event-row, events-in, groups-in}
@@ -26,7 +26,7 @@ use Rattle.constraint_end.specs.Ends.{ends, endOf, wholeAt, ends-got, ends-of-r
 use Rattle.instance.specs.File.{withConstraints, constraintIn, tablesAt, restAt, parse-parts}
 use Rattle.constraint_end.specs.Length.{list-length}
 use Rattle.constraint_end.specs.Ready.{Lent, lengthBy, checkedBy, checkedAll, checkedWhole, byCounts, byRows, checkedBy-same}
-use Rattle.instance.specs.Ladder.{step-tables}
+use Rattle.instance.specs.Sequence.{step-tables}
 use Rattle.instance.specs.Start.{StartIn, tables-start}
 
 -- the walk by counts gives the whole by rows, where the counts are those of the rows; x is what the walk answered

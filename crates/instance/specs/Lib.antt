@@ -5,6 +5,6 @@ pub mod Answers
 pub mod Stores
 pub mod File
 pub mod Start
-pub mod Ladder
+pub mod Sequence
 pub mod Checked
 pub mod Laws

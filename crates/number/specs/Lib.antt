@@ -2,5 +2,5 @@ pub mod Answers
 pub mod Parsing
 pub mod Each
 pub mod Laws
-pub mod Ladder
+pub mod Sequence
 pub mod Lists

@@ -8,7 +8,7 @@ use lib.Dec.{leb, eqb}
 use Rattle.scope.specs.Parsed.{Answer, answered, refusal, with, then, provided}
 use Rattle.scope.specs.Instance.{Instance, parse}
 use Rattle.scope.specs.Cnf.{Assignment, bit, clause, falsified}
-use Rattle.scope.specs.Score.{cells, ofBytes, ofTimetable, unlessFound, infeasibility, objective}
+use Rattle.scope.specs.Score.{slots, ofBytes, ofTimetable, unlessFound, infeasibility, objective}
 use Rattle.scope.specs.Formula.{primary, variables, hardOf, softOf, boundedVariables, boundedHard, words, mostBound, mostVariables}
 use Rattle.scope.specs.Text.{text, decimal, space, newline}
 use Rattle.scope.specs.PlainRun.{Limits, plainRun}
@@ -45,7 +45,7 @@ sameBytes (a ∷ xs) (b ∷ bs) = eqb a b && sameBytes xs bs
 unfoldable pub sameSheetOf : List ℕ → List ℕ → List ℕ → Answer Bool
 sameSheetOf file a b =
     with (parse file)
-    (λ i. ofTimetable i a (ofTimetable i b (answered (sameBytes (take (cells i) a) (take (cells i) b)))))
+    (λ i. ofTimetable i a (ofTimetable i b (answered (sameBytes (take (slots i) a) (take (slots i) b)))))
 
 -- the sizing place: 8; for proof checks 7, then 8 with the tail
 abbrev pub ofSize : {A : Type 0} → Instance → Answer A → Answer A

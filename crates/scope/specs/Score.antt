@@ -75,9 +75,9 @@ module _ (i : Instance) where
   abbrev pub eventCount : ℕ
   eventCount = length (i .events)
 
-  -- E×T
-  abbrev pub cells : ℕ
-  cells = eventCount * i .times
+  -- a slot is an event at a time: E×T
+  abbrev pub slots : ℕ
+  slots = eventCount * i .times
 
   abbrev pub layout : Layout
   layout = layoutAt (i .times) eventCount (i .resources)
@@ -142,7 +142,7 @@ ofBytes n b a = provided (eqb (length b) n) 10 n (unlessFound 11 (firstAbove 0 b
 
 -- a timetable of the instance: 10, 11, then 12 with the first event that breaks it
 abbrev pub ofTimetable : {A : Type 0} → Instance → List ℕ → Answer A → Answer A
-ofTimetable i b a = ofBytes (2 * cells i) b (unlessFound 12 (firstWrong i (truth i b) 1 (i .events)) a)
+ofTimetable i b a = ofBytes (2 * slots i) b (unlessFound 12 (firstWrong i (truth i b) 1 (i .events)) a)
 
 abbrev pub infeasibility : Instance → List ℕ → Infeasibility
 infeasibility i b = record { 0 = infeasibilityOf i (truth i b) (i .constraints) }

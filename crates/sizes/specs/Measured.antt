@@ -19,7 +19,7 @@ use Rattle.instance.specs.Laws.{Accepted}
 use Rattle.sizing.specs.declared.Size.{Size}
 use Rattle.sizing.specs.Sums.{sum}
 use Rattle.sizing.specs.Whole.{stored}
-use Rattle.parts.specs.declared.walk.Total.{Total}
+use Rattle.part_sizes.specs.declared.walk.Total.{Total}
 use Rattle.sizes.specs.declared.sized.Measured.{Measured}
 use Rattle.sizes.specs.declared.sized.Bounded.{Bounded}
 use Rattle.sizes.specs.Whole.{WholeOf, Numbers, whole-numbers, total-size}

@@ -21,9 +21,9 @@ use Rattle.fitting.specs.Known.{known-rows}
 use Rattle.sizing.specs.declared.Size.{Size}
 use Rattle.sizing.specs.Sums.{Within, within-more}
 use Rattle.measuring.specs.Whole.{beforeSize, wholeSize, tailOf}
-use Rattle.parts.specs.declared.walk.Total.{Total}
-use Rattle.parts.specs.Before.{Users, Begun, blocksSize}
-use Rattle.parts.specs.Walked.{Tabled, Walkable, TotalOf}
+use Rattle.part_sizes.specs.declared.walk.Total.{Total}
+use Rattle.part_sizes.specs.Before.{Users, Begun, blocksSize}
+use Rattle.part_sizes.specs.Walked.{Tabled, Walkable, TotalOf}
 use Rattle.sizes.specs.Whole.{WholeOf}
 
 -- an accepted file with its tables, a store for a list, and a bound within its limit

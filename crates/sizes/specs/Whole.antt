@@ -13,7 +13,7 @@ use Rattle.sizing.specs.declared.Size.{Size}
 use Rattle.sizing.specs.Sums.{sum, Within, Fits64, within-more, within-sum}
 use Rattle.sizing.specs.Whole.{stored}
 use Rattle.measuring.specs.Whole.{formulaOf, wholeSize, tailOf, whole-size, bounded-size}
-use Rattle.parts.specs.declared.walk.Total.{Total}
+use Rattle.part_sizes.specs.declared.walk.Total.{Total}
 
 -- the formula, and the tail for the bound B, with numbers far below 2 ^ 64
 pub record WholeOf (i : Instance) (B : ℕ) (t : Total) : Type 0 where

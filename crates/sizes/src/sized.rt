@@ -3,7 +3,7 @@ use crate::whole::whole_size;
 use constraint::Head;
 use instance::File;
 use instance::read;
-use parts::Total;
+use part_sizes::Total;
 use scope::FormulaSize;
 use scope::Refusal;
 use scope::refusals::BOUND_TOO_HIGH;

@@ -1,9 +1,9 @@
 // The sizes of the formula and of its tail, for a file that was accepted.
 use constraint::Head;
 use literals::fill_users;
-use parts::Total;
-use parts::before_size;
-use parts::constraints_total;
+use part_sizes::Total;
+use part_sizes::before_size;
+use part_sizes::constraints_total;
 ghost use Rattle.instance.specs.Answers.{instanceOf};
 ghost use Rattle.sizes.specs.Opened.{Opened};
 ghost use Rattle.sizes.specs.Whole.{WholeOf};

@@ -8,7 +8,7 @@ use lib.ListN.{length}
 use Rattle.laws.specs.Lists.{All}
 use Rattle.scope.specs.Parsed.{Answer, answered}
 use Rattle.scope.specs.Instance.{Instance}
-use Rattle.scope.specs.Score.{cells, truth, firstWrong, infeasibilityOf, unlessFound, infeasibility, objective}
+use Rattle.scope.specs.Score.{slots, truth, firstWrong, infeasibilityOf, unlessFound, infeasibility, objective}
 use Rattle.scope.specs.Formula.{primary}
 use Rattle.scope.specs.Operations.{scoreOf}
 use Rattle.scope.specs.Demands.{Accepted, KeepsHard}
@@ -29,7 +29,7 @@ unfolding scoreOf
 keeps-hard file i a t cost =
     let wrong = firstWrong i (truth i t) 1 (i .events) in
     let said : Answer (Infeasibility × Objective) = answered (infeasibility i t, objective i t) in
-    let b = ofBytes-answers (2 * cells i) t (unlessFound 12 wrong said) in
+    let b = ofBytes-answers (2 * slots i) t (unlessFound 12 wrong said) in
     let u = unlessFound-answers 12 wrong said in
     rw (a .parsed) (
       λ e.

@@ -9,7 +9,7 @@ use lib.Dec.{eqb}
 use borrow.Author.Tests.{eq-eqb, ne-eqb}
 use Rattle.scope.specs.Parsed.{Answer, answered, refusal, provided, then}
 use Rattle.scope.specs.Instance.{Instance}
-use Rattle.scope.specs.Score.{cells, truth, firstAbove, firstWrong, unlessFound, ofTimetable}
+use Rattle.scope.specs.Score.{slots, truth, firstAbove, firstWrong, unlessFound, ofTimetable}
 use Rattle.timetable.specs.declared.bytes.Found.{Found}
 use Rattle.timetable.specs.Answers.{foundAt, placeOf}
 use Rattle.timetable.specs.Right.{Lasts, wrongFrom, wrong-event}
@@ -23,7 +23,7 @@ module _ {A : Type 0} (k : ℕ) (a : Answer A) (f : Found) (o : Option ℕ) (e :
   found-none r t p = rw (← e, t) p
 
 module _ {A : Type 0} (i : Instance) (b d : List ℕ) (T n : ℕ) (a : Answer A) (l : Lasts i T n d) where
-  wanted : 2 * cells i ≡ 2 * (n * T)
+  wanted : 2 * slots i ≡ 2 * (n * T)
   wanted = rw (l .times, l .count)
 
   -- the length first
@@ -68,5 +68,5 @@ pub then-timetable : {A : Type 0} (i : Instance) (b : List ℕ) (a : Answer A)
     → then (ofTimetable i b (answered (tt {0}))) (λ _. a) ≡ ofTimetable i b a
 then-timetable i b a =
     let events = firstWrong i (truth i b) 1 (i .events) in
-    then-provided (eqb (length b) (2 * cells i)) 10 (2 * cells i) _ a _
+    then-provided (eqb (length b) (2 * slots i)) 10 (2 * slots i) _ a _
     (then-found 11 (firstAbove 0 b) _ a _ (then-found 12 events (answered tt) a a refl))

@@ -1,5 +1,5 @@
 -- Which events of a timetable are right, told from its bytes: an event's "taken" bytes begin at an offset y, its "starts" bytes
--- as far after the cells, c. Score.antt's eventRight and firstWrong come to the same.
+-- as far after the slots, c. Score.antt's eventRight and firstWrong come to the same.
 use Prim.Native.Nat.{ℕ, zero, suc, _+_, _-_, _*_, _<_, _≤_}
 use mathlib.Core.Path.{_≡_, refl, sym, fun-ext, _∙_}
 use mathlib.Core.Bool.{Bool, true, false, not, _&&_, _||_, cond}
@@ -13,7 +13,7 @@ use borrow.Author.Tests.{not-true, not-false, eq-eqb, ne-eqb}
 use Rattle.scope.specs.Cnf.{bit}
 use Rattle.scope.specs.Kinds.{Event, from, upTo}
 use Rattle.scope.specs.Instance.{Instance}
-use Rattle.scope.specs.Score.{trues, all, truth, cells, startRight, eventRight, firstWrong}
+use Rattle.scope.specs.Score.{trues, all, truth, slots, startRight, eventRight, firstWrong}
 use Rattle.resource_uses.specs.Bits.{marks, bit-next, from-more, from-done}
 
 -- time t − 1 is taken
@@ -112,23 +112,23 @@ pub ruleset passing = (wrong-start, wrong-more, wrong-found, wrong-end, not-true
 
 -- the same as the definitions, for an instance with these durations
 start-same : (i : Instance) (b : List ℕ) (e t : ℕ)
-    → startRight i (truth i b) (suc e) t ≡ startAt b (cells i) (e * i .times) t
+    → startRight i (truth i b) (suc e) t ≡ startAt b (slots i) (e * i .times) t
 unfolding truth startAt
 start-same i b e zero = let k : suc e - 1 ≡ e = omega arith in rw k
 start-same i b e (suc zero) = let k : suc e - 1 ≡ e = omega arith in rw k
 start-same i b e (suc (suc t)) = let k : suc e - 1 ≡ e = omega arith in rw k
 
 right-same : (i : Instance) (b : List ℕ) (e : ℕ) (v : Event)
-    → eventRight i (truth i b) (suc e) v ≡ eventAt b (cells i) (e * i .times) (i .times) (v .duration)
+    → eventRight i (truth i b) (suc e) v ≡ eventAt b (slots i) (e * i .times) (i .times) (v .duration)
 unfolding eventRight truth eventAt
 right-same i b e v =
     let k : suc e - 1 ≡ e = omega arith in
-    let f : startRight i (truth i b) (suc e) ≡ startAt b (cells i) (e * i .times) = fun-ext (start-same i b e) in
+    let f : startRight i (truth i b) (suc e) ≡ startAt b (slots i) (e * i .times) = fun-ext (start-same i b e) in
     simp (k, f)
 
 wrong-same : (i : Instance) (b d : List ℕ) (e : ℕ) (vs : List Event)
     → ((k : ℕ) → k < length vs → getD vs k noEvent .duration ≡ getD d (e + k) 0)
-    → firstWrong i (truth i b) (suc e) vs ≡ wrongFrom b d (cells i) (i .times) e (length vs)
+    → firstWrong i (truth i b) (suc e) vs ≡ wrongFrom b d (slots i) (i .times) e (length vs)
 unfolding firstWrong wrongFrom
 wrong-same i b d e [] h = refl
 wrong-same i b d e (v ∷ vs) h =

@@ -10,7 +10,7 @@ use native.Mathlib.Omega.{arith}
 use borrow.Author.Tests.{eqb-true}
 use Rattle.scope.specs.Parsed.{Answer, answered, provided, then}
 use Rattle.scope.specs.Instance.{Instance}
-use Rattle.scope.specs.Score.{cells, ofTimetable, infeasibility, objective}
+use Rattle.scope.specs.Score.{slots, ofTimetable, infeasibility, objective}
 use Rattle.scope.specs.Operations.{scoreOf, sameBytes, sameSheetOf}
 use Rattle.scope.specs.Answers.{given}
 use Rattle.scope.specs.declared.Refusal.{Refusal}
@@ -45,7 +45,7 @@ pub timetable-long : {b d : List ℕ} {h : Head} {v : Verdict} → VerdictOf b d
 timetable-long {b} {d} {h} {v} o t =
     let i : Instance = record { times = h .times; resources = 0; events = eventsOf d [] (h .events); groups = []; constraints = [] } in
     let e = rw t at (o .says i (tables-last d [] i (h .times) (h .events) refl refl)) in
-    rw (length-events d [] (h .events)) at (eqb-true (length b) (2 * cells i) (provided-answered (eqb (length b) (2 * cells i)) 10 (2 * cells i) _ e))
+    rw (length-events d [] (h .events)) at (eqb-true (length b) (2 * slots i) (provided-answered (eqb (length b) (2 * slots i)) 10 (2 * slots i) _ e))
 
 -- the Y bytes of two timetables of one instance are as many
 pub record Halves (b c : List ℕ) : Type 0 where
@@ -96,7 +96,7 @@ module _ {s d te tg : List ℕ} {h : Head} (a : Accepted s d te tg h) where
 
     module _ (t : v ≡ Verdict.Timetable) {w : Verdict} (p : VerdictOf c d h w) where
       first-passed : {r : Answer Bool}
-          → r ≡ ofTimetable (instanceOf s d te tg h) c (answered (sameBytes (take (cells (instanceOf s d te tg h)) b) (take (cells (instanceOf s d te tg h)) c)))
+          → r ≡ ofTimetable (instanceOf s d te tg h) c (answered (sameBytes (take (slots (instanceOf s d te tg h)) b) (take (slots (instanceOf s d te tg h)) c)))
           → r ≡ sameSheetOf s b c
       unfolding sameSheetOf
       first-passed e = rw (a .parsed) (e ∙ timetable-bytes o _ t)
@@ -107,5 +107,5 @@ module _ {s d te tg : List ℕ} {h : Head} (a : Accepted s d te tg h) where
       pub sheet-answered : {r x : Bool} → w ≡ Verdict.Timetable → r ≡ sameBytes (take (length b / 2) b) (take (length b / 2) c) → r ≡ x
           → answered x ≡ sameSheetOf s b c
       sheet-answered {r} {x} u e f =
-          let half : length b / 2 ≡ cells (instanceOf s d te tg h) = omega (arith, timetable-long o t, ap (λ n. n * h .times) (length-events d te (h .events))) in
+          let half : length b / 2 ≡ slots (instanceOf s d te tg h) = omega (arith, timetable-long o t, ap (λ n. n * h .times) (length-events d te (h .events))) in
           first-passed (ap answered (sym f ∙ rw half at e) ∙ timetable-bytes p _ u)

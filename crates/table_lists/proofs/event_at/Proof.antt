@@ -1,7 +1,7 @@
--- `table_lists::event_at` meets its contract: a duration, then a row, a step of the ladder each.
+-- `table_lists::event_at` meets its contract: a duration, then a row, a step of the sequence each.
 use borrow.Author.Needs.{needs}
 use Rattle.scope.specs.Instance.{eventAt}
-use Rattle.table_lists.specs.Ladder.{ladder}
+use Rattle.table_lists.specs.Sequence.{sequence}
 use Rattle.table_lists.proofs.event_at.Statement.{statement}
 use Rattle.table_lists.proofs.event_at.Tie as tie
 
@@ -16,7 +16,7 @@ enum-told c = search needs
 
 returns : tie.Need-returns
 unfolding eventAt
-returns c = search ladder depth 12
+returns c = search sequence depth 12
 
 row-at-requires : tie.Need-row-at-requires
 row-at-requires c κs = search needs
@@ -32,14 +32,14 @@ same-length c = search needs
 
 returns-2 : tie.Need-returns-2
 unfolding eventAt
-returns-2 c = search ladder depth 12
+returns-2 c = search sequence depth 12
 
 same-length-2 : tie.Need-same-length-2
 same-length-2 c = search needs
 
 returns-3 : tie.Need-returns-3
 unfolding eventAt
-returns-3 c = search ladder depth 12
+returns-3 c = search sequence depth 12
 
 pub event-at-spec : {M : Type 1} → statement M
 event-at-spec =

@@ -8,9 +8,9 @@ use lib.ListN.{length, length-take, length-drop}
 use Rattle.scope.specs.Parsed.{repeat}
 use Rattle.scope.specs.Number.{listed}
 use Rattle.scope.specs.Instance.{groupsAt}
-use Rattle.number.specs.Ladder.{limited-value}
+use Rattle.number.specs.Sequence.{limited-value}
 use Rattle.number.specs.Parsing.{before, before-nil, repeat-more, repeat-refused, repeat-end}
-use Rattle.table_lists.specs.Ladder.{row-value, row-refused}
+use Rattle.table_lists.specs.Sequence.{row-value, row-refused}
 use Rattle.tables.specs.Rows.{rows}
 use Rattle.table_lists.proofs.Writing.{rows-more}
 use Rattle.table_lists.proofs.groups_at.Statement.{statement}

@@ -8,7 +8,7 @@ use lib.ListN.{length, getD, set, length-set}
 use lib.Seq.{getD-set-same, getD-set-other}
 use Rattle.scope.specs.Number.{listed}
 use Rattle.number.specs.Answers.{said}
-use Rattle.number.specs.Ladder.{limited-value, reference-value}
+use Rattle.number.specs.Sequence.{limited-value, reference-value}
 use Rattle.number.specs.Lists.{leftAfter, list-start, list-refused, list-more, list-end}
 use Rattle.table_lists.proofs.Writing.{rowOf-count}
 use Rattle.table_lists.proofs.row_at.Statement.{statement}

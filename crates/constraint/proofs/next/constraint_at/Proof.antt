@@ -5,7 +5,7 @@ use Prim.Native.Nat.{_-_, _≤_}
 use mathlib.Core.Path.{_≡_}
 use native.Mathlib.Omega.{arith}
 use lib.ListN.{length}
-use Rattle.number.specs.Ladder.{ladder}
+use Rattle.number.specs.Sequence.{sequence}
 use Rattle.constraint.specs.Answers.{countsIn}
 use Rattle.constraint.specs.Decoded.{decodedAt}
 use Rattle.constraint.specs.Left.{leftAt, left-start, left-more, left-refused, left-end}
@@ -34,7 +34,7 @@ refusal-of-requires c κs = search needs
 
 returns : tie.Need-returns Inv-loop μ-loop
 unfolding decodedAt
-returns c = search ladder depth 12
+returns c = search sequence depth 12
 
 limited-requires-2 : tie.Need-limited-requires-2 Inv-loop μ-loop
 limited-requires-2 c κs = search needs
@@ -50,7 +50,7 @@ refusal-of-requires-2 c κs = search needs
 
 returns-2 : tie.Need-returns-2 Inv-loop μ-loop
 unfolding decodedAt
-returns-2 c = search ladder depth 12
+returns-2 c = search sequence depth 12
 
 count-of-requires : tie.Need-count-of-requires Inv-loop μ-loop
 count-of-requires c κs = search needs

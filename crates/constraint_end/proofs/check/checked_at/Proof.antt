@@ -1,6 +1,6 @@
 -- `check::checked_at` meets its contract: a constraint is decoded, its list measured, then the checks at its end.
 use borrow.Author.Needs.{needs}
-use Rattle.constraint.specs.Ladder.{next-value}
+use Rattle.constraint.specs.Sequence.{next-value}
 use Rattle.constraint.specs.Decoded.{checkedAt}
 use Rattle.constraint.specs.Valid.{decoded-got}
 use Rattle.constraint_end.specs.Ready.{ready-kept}

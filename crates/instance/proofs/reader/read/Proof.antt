@@ -1,10 +1,10 @@
 -- `instance::reader::read` meets its contract: the tables, the count of constraints and the walk over them, a step of the
--- ladder each.
+-- sequence each.
 use borrow.Author.Needs.{needs}
 use mathlib.Core.Path.{_∙_}
 use Rattle.instance.specs.Checked.{start-lent, read-stopped, read-accepted}
 use Rattle.instance.specs.File.{restAt, parse-parts}
-use Rattle.instance.specs.Ladder.{ladder}
+use Rattle.instance.specs.Sequence.{sequence}
 use Rattle.instance.specs.Start.{tables-start}
 use Rattle.instance.proofs.reader.read.Statement.{statement}
 use Rattle.instance.proofs.reader.read.Tie as tie
@@ -31,7 +31,7 @@ same-length-3 : tie.Need-same-length-3
 same-length-3 c = search needs
 
 returns : tie.Need-returns
-returns c = rw parse-parts (search ladder depth 14)
+returns c = rw parse-parts (search sequence depth 14)
 
 limited-requires : tie.Need-limited-requires
 limited-requires c κs = search needs
@@ -56,7 +56,7 @@ same-length-6 c = search needs
 
 returns-2 : tie.Need-returns-2
 unfolding restAt
-returns-2 c = rw parse-parts (search ladder depth 14)
+returns-2 c = rw parse-parts (search sequence depth 14)
 
 constraints-whole-requires : tie.Need-constraints-whole-requires
 constraints-whole-requires c κs =

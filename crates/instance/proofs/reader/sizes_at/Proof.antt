@@ -1,7 +1,7 @@
--- `instance::reader::sizes_at` meets its contract: three numbers within limits, a step of the ladder each.
+-- `instance::reader::sizes_at` meets its contract: three numbers within limits, a step of the sequence each.
 use borrow.Author.Needs.{needs}
 use Rattle.scope.specs.Instance.{sizesAt}
-use Rattle.instance.specs.Ladder.{ladder}
+use Rattle.instance.specs.Sequence.{sequence}
 use Rattle.instance.proofs.reader.sizes_at.Statement.{statement}
 use Rattle.instance.proofs.reader.sizes_at.Tie as tie
 
@@ -19,7 +19,7 @@ refusal-of-requires c κs = search needs
 
 returns : tie.Need-returns
 unfolding sizesAt
-returns c = search ladder depth 12
+returns c = search sequence depth 12
 
 limited-requires-2 : tie.Need-limited-requires-2
 limited-requires-2 c κs = search needs
@@ -35,7 +35,7 @@ refusal-of-requires-2 c κs = search needs
 
 returns-2 : tie.Need-returns-2
 unfolding sizesAt
-returns-2 c = search ladder depth 12
+returns-2 c = search sequence depth 12
 
 limited-requires-3 : tie.Need-limited-requires-3
 limited-requires-3 c κs = search needs
@@ -51,11 +51,11 @@ refusal-of-requires-3 c κs = search needs
 
 returns-3 : tie.Need-returns-3
 unfolding sizesAt
-returns-3 c = search ladder depth 12
+returns-3 c = search sequence depth 12
 
 returns-4 : tie.Need-returns-4
 unfolding sizesAt
-returns-4 c = search ladder depth 12
+returns-4 c = search sequence depth 12
 
 pub sizes-at-spec : {M : Type 1} → statement M
 sizes-at-spec =

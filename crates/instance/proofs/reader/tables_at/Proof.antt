@@ -1,8 +1,8 @@
--- `instance::reader::tables_at` meets its contract: sizes, events and groups, a step of the ladder each.
+-- `instance::reader::tables_at` meets its contract: sizes, events and groups, a step of the sequence each.
 use borrow.Author.Needs.{needs}
 use native.Mathlib.Omega.{arith}
 use Rattle.instance.specs.File.{tablesAt}
-use Rattle.instance.specs.Ladder.{ladder}
+use Rattle.instance.specs.Sequence.{sequence}
 use Rattle.instance.specs.Start.{sizes-value}
 use Rattle.instance.proofs.reader.tables_at.Statement.{statement}
 use Rattle.instance.proofs.reader.tables_at.Tie as tie
@@ -18,7 +18,7 @@ enum-told c = search needs
 
 returns : tie.Need-returns
 unfolding tablesAt
-returns c = search ladder depth 14
+returns c = search sequence depth 14
 
 events-at-requires : tie.Need-events-at-requires
 events-at-requires c κs =
@@ -43,7 +43,7 @@ same-length-2 c = search needs
 
 returns-2 : tie.Need-returns-2
 unfolding tablesAt
-returns-2 c = search ladder depth 14
+returns-2 c = search sequence depth 14
 
 groups-at-requires : tie.Need-groups-at-requires
 groups-at-requires c κs =
@@ -71,7 +71,7 @@ same-length-5 c = search needs
 
 returns-3 : tie.Need-returns-3
 unfolding tablesAt
-returns-3 c = search ladder depth 14
+returns-3 c = search sequence depth 14
 
 same-length-6 : tie.Need-same-length-6
 same-length-6 c = search needs
@@ -84,7 +84,7 @@ same-length-8 c = search needs
 
 returns-4 : tie.Need-returns-4
 unfolding tablesAt
-returns-4 c = search ladder depth 14
+returns-4 c = search sequence depth 14
 
 pub tables-at-spec : {M : Type 1} → statement M
 tables-at-spec =

@@ -5,7 +5,7 @@ use mathlib.Core.Path.{_≡_, refl, sym, _∙_}
 use native.Mathlib.Omega.{arith}
 use lib.ListN.{getD}
 use Rattle.scope.specs.Parsed.{repeat}
-use Rattle.constraint.specs.Ladder.{next-value, next-refused}
+use Rattle.constraint.specs.Sequence.{next-value, next-refused}
 use Rattle.constraint_end.specs.Ends.{ends, ends-more, ends-refused, ends-end}
 use Rattle.constraint_end.specs.Ready.{Ready, checkedBy, ready-kept}
 use Rattle.instance.proofs.walk.constraints_end.Statement.{statement}

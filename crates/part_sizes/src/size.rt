@@ -1,0 +1,78 @@
+// The size of a constraint: its counted lists are filled one after another, and each is sized by what the store then holds.
+use constraint::Bounds;
+use constraint::Constraint;
+use constraint::Head;
+use constraint::bounds_of;
+use list::Filled;
+use list::fill;
+use list::lists;
+use sizing::Size;
+use sizing::counts::list_size;
+use sizing::nodes::nodes_size;
+use sizing::sums::nothing;
+use sizing::sums::plus;
+ghost use mathlib.Core.Path.{_≡_};
+ghost use Prim.Native.Nat.{_≤_};
+ghost use lib.ListN.{length};
+ghost use Rattle.constraint.specs.Answers.{constraintOf};
+ghost use Rattle.literals.specs.Filled.{usersAt};
+ghost use Rattle.list.specs.Stored.{countedIn, listIn};
+ghost use Rattle.part_sizes.specs.Listed.{filledSize, Measurable, ListSized};
+ghost use Rattle.part_sizes.specs.Sizable.{Sizable, CountedSized};
+
+// A filled list. Each node has a head word and a last word beside its inputs.
+fn filled_size(f: Filled, weight: u32, b: Bounds) -> Size
+    requires { ⌜ Measurable weight b f ⌝ }
+    ensures { λ r. ⌜ r ≡ filledSize weight b f ⌝ }
+{
+    let inputs = (f.at - 2 * f.nodes) as u64;
+    let nodes = nodes_size(f.nodes as u64, inputs);
+    let n = (f.end - f.at) as u64;
+    let counted = list_size(weight as u64, b.lo as u64, b.hi as u64, b.free, n);
+    plus(nodes, counted)
+}
+
+// List number t of a constraint, from 1; its size does not depend on its first variable.
+fn one_size(
+    c: Constraint,
+    t: u32,
+    head: Head,
+    users: &[u16],
+    groups: &[u8],
+    list: &[u16],
+    store: &mut [u32],
+) -> Size
+    requires { ⌜ Sizable (now users) (now groups) (now list) head (constraintOf (now list) c) × ((1 ≤ t)
+        × ((t ≤ length (countedIn (usersAt (now users)) (now groups) head (constraintOf (now list) c .kind) .lists)) × (length (now store) ≡ 65536))) ⌝ }
+    ensures { λ r. ⌜ ListSized (c .weight) (countedIn (usersAt (now (users .entry))) (now (groups .entry)) head (constraintOf (now (list .entry)) c .kind))
+        (listIn (usersAt (now (users .entry))) (now (groups .entry)) head (constraintOf (now (list .entry)) c .kind) t) r ⌝ }
+{
+    let kind = c.kind;
+    let f = fill(kind, t, head, users, groups, list, 1, store);
+    let b = bounds_of(kind);
+    filled_size(f, c.weight, b)
+}
+
+// A constraint, where users is the table of the users of each resource; store is overwritten.
+pub fn constraint_size(
+    c: Constraint,
+    head: Head,
+    users: &[u16],
+    groups: &[u8],
+    list: &[u16],
+    store: &mut [u32],
+) -> Size
+    requires { ⌜ Sizable (now users) (now groups) (now list) head (constraintOf (now list) c) × (length (now store) ≡ 65536) ⌝ }
+    ensures { λ r. ⌜ CountedSized (c .weight) (countedIn (usersAt (now (users .entry))) (now (groups .entry)) head (constraintOf (now (list .entry)) c .kind)) r ⌝ }
+{
+    let kind = c.kind;
+    let most = lists(kind, head.times);
+    let mut sum = nothing();
+    let mut t: u32 = 0;
+    while t < most {
+        t = t + 1;
+        let one = one_size(c, t, head, users, groups, list, store);
+        sum = plus(sum, one);
+    }
+    sum
+}
