@@ -108,7 +108,7 @@ turn-phase p e l h = rw (← e) (go p (omega arith) (omega arith))
 abbrev pub turnedOn : ℕ → Phase → Machine → Standing → ℕ → ℕ → Machine
 turnedOn k Walk m x id next = walked k x id next (m .set)
 turnedOn k Wipe m x id next = onward Wipe Next id next 0
-turnedOn k Delete m x id next = onward Delete Next id next 0
+turnedOn k Delete m x id next = m
 turnedOn k Next m x id next = m
 turnedOn k Followed m x id next = m
 turnedOn k Keep m x id next = m
@@ -178,16 +178,16 @@ pub data Advances (s : List ℕ) (m : Machine) (row : Row) (ws ms tr : List ℕ)
       → ms′ ≡ ms → Advances s m row ws ms tr r ms′ tr′
   idle : 2 ≤ turnOf (m .phase) → Advances s m row ws ms tr r ms′ tr′
 
-pub advances : (s : List ℕ) (m : Machine) (row : Row) (ws ms tr : List ℕ)
+pub advances : (s : List ℕ) (m : Machine) (row : Row) (ws ms tr : List ℕ) → (turnOf (m .phase) ≡ 1 → ⊥)
     → Advances s m row ws ms tr (advanced s (length tr) m row ws ms) (advancedMarks s m row ws ms) (advancedTrail s m row ws ms tr)
 unfolding advanced advancedMarks advancedTrail
-advances s m row ws ms tr = go (eqb (row .live) 0) refl
+advances s m row ws ms tr looks = go (eqb (row .live) 0) refl
   where
     by-phase : (row .live ≡ 0 → ⊥) → (id next : ℕ) → number s (m .at) ≡ got id next → (p : Phase) → m .phase ≡ p
         → Advances s m row ws ms tr (turnedOn (length tr) p m (standsBy ms (rowClause row ws)) id next) (turnedMarks p (standsBy ms (rowClause row ws)) (rowClause row ws) ms) (turnedTrail p (standsBy ms (rowClause row ws)) (m .set) tr)
     by-phase l id next e Walk p = walks id next l e p refl refl refl
     by-phase l id next e Wipe p = wipes id next l e p refl (wiped-opens (rowClause row ws) ms)
-    by-phase l id next e Delete p = deletes id next l e p refl refl
+    by-phase l id next e Delete p = absurd (looks (rw p))
     by-phase l id next e Next p = idle (rw p (omega arith))
     by-phase l id next e Followed p = idle (rw p (omega arith))
     by-phase l id next e Keep p = idle (rw p (omega arith))

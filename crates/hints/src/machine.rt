@@ -143,7 +143,7 @@ fn take_hint(
     }
 }
 
-// One turn with the row of the id that was wanted.
+// One turn with the row of the id that was wanted, to judge a hint or to open its variables again.
 pub fn advance(
     m: Machine,
     row: Row,
@@ -171,7 +171,7 @@ pub fn advance(
             wipe_clause(marks, words, row.first, row.len);
             step_on(Phase::Wipe, Phase::Next, id, next, 0)
         }
-        Phase::Delete => step_on(Phase::Delete, Phase::Next, id, next, 0),
+        Phase::Delete => m,
         Phase::Next => m,
         Phase::Followed => m,
         Phase::Keep => m,

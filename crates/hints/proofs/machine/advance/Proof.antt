@@ -58,9 +58,6 @@ step-on-requires c κs = search needs
 enum-told-4 : tie.Need-enum-told-4
 enum-told-4 c = search needs
 
-step-on-requires-2 : tie.Need-step-on-requires-2
-step-on-requires-2 c κs = search needs
-
 enum-told-5 : tie.Need-enum-told-5
 enum-told-5 c = search needs
 
@@ -104,10 +101,10 @@ returns-4 c =
 returns-5 : tie.Need-returns-5
 unfolding advanced advancedMarks advancedTrail
 returns-5 c =
-    let z = ne-eqb _ _ (c .before .before .before .before .before .before .before .if1 .left) in
-    let e = read (c .before .before .before) in
-    let p = c .before .enum-told4 .given .1 in
-    (c .step-on2 .ensures ∙ rw (z, e, p), (rw (z, e, p), rw (z, e, p)))
+    let z = ne-eqb _ _ (c .before .before .before .before .before .before .if1 .left) in
+    let e = read (c .before .before) in
+    let p = c .enum-told4 .given .1 in
+    (rw (z, e, p), (rw (z, e, p), rw (z, e, p)))
 
 returns-6 : tie.Need-returns-6
 unfolding advanced advancedMarks advancedTrail
@@ -166,7 +163,6 @@ advance-spec =
     wipe-clause-requires
     step-on-requires
     enum-told-4
-    step-on-requires-2
     enum-told-5
     enum-told-6
     enum-told-7

@@ -282,13 +282,13 @@ module _ {ps : List ℕ} {last : ℕ} {us₀ : List ℕ} {ys₀ : List Row} {ms�
     abbrev Advanced : Row → Machine → List ℕ → List ℕ → Type 0
     Advanced row m ms tr = (m ≡ advanced ps (length (t .tr)) (t .m) row (t .us) (t .ms)) × ((ms ≡ advancedMarks ps (t .m) row (t .us) (t .ms)) × (tr ≡ advancedTrail ps (t .m) row (t .us) (t .ms) (t .tr)))
 
-    on-row : (row : Row) (m : Machine) (ms tr : List ℕ) → Advanced row m ms tr → Advances ps (t .m) row (t .us) (t .ms) (t .tr) m ms tr
-    on-row row m ms tr e = rw (e .0, e .1 .0, e .1 .1) (advances ps (t .m) row (t .us) (t .ms) (t .tr))
+    on-row : turnOf (t .m .phase) ≡ 0 → (row : Row) (m : Machine) (ms tr : List ℕ) → Advanced row m ms tr → Advances ps (t .m) row (t .us) (t .ms) (t .tr) m ms tr
+    on-row h row m ms tr e = rw (e .0, e .1 .0, e .1 .1) (advances ps (t .m) row (t .us) (t .ms) (t .tr) (λ z. omega arith))
 
     -- the turns
     looked : (p : Probe) {m : Machine} {ms tr : List ℕ} → turnOf (t .m .phase) ≡ 0 → p ≡ lookUp (t .zs) (t .c .tally .rows) (t .m .want) → Advanced (p .hit) m ms tr
         → From t (t .c) m (t .zs) (t .us) ms tr
-    looked p {m} {ms} {tr} h found moved = looks p (omega arith) (rw (t .long-zs) at (finds (t .zs) (t .c .tally .rows) (t .m .want) p found)) (λ z. refl) (λ z. absurd (omega arith)) (on-row (p .hit) m ms tr moved) refl refl
+    looked p {m} {ms} {tr} h found moved = looks p (omega arith) (rw (t .long-zs) at (finds (t .zs) (t .c .tally .rows) (t .m .want) p found)) (λ z. refl) (λ z. absurd (omega arith)) (on-row h (p .hit) m ms tr moved) refl refl
 
     -- the turns that delete ids
     module _ (h : turnOf (t .m .phase) ≡ 1) (m : Machine) (zs : List Row) (is-m : IsMachine m (N′.lowered m)) (kept-zs : length zs ≡ length (t .zs))
