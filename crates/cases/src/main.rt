@@ -61,7 +61,7 @@ fn line(text: &mut [u8], at: usize) -> usize
     answer(letter, text, start)
 }
 
-// Every line.
+// The answer to each line, in turn.
 fn lines(text: &mut [u8]) {
     let mut at: usize = 0;
     while at < text.len() {

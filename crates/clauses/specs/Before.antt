@@ -63,7 +63,7 @@ module _ (T : ℕ) (users : ℕ → List ℕ) (E R : ℕ) (ds : List ℕ) where
   abbrev pub durationItems : List Item
   durationItems = allNumbered 0 (durationLists T 1 ds) (L .others + 1)
 
-  -- all of them
+  -- what stands before the constraints
   unfoldable pub blockItems : List Item
   blockItems = startItems ++ useItems ++ durationItems
 

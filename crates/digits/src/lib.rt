@@ -145,7 +145,7 @@ fn fast_literal(text: &mut [u8], at: usize, l: u32) -> usize
     b + 1
 }
 
-// A number.
+// A number's digits, written from a place on.
 pub fn write_number(text: &mut [u8], at: usize, n: u64) -> usize
     ensures { λ r. ⌜ Ran put (decimal n) (out at (now (text .entry))) (out r (now (text .exit))) ⌝ }
 {

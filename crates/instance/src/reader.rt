@@ -27,7 +27,7 @@ pub enum SizesRead {
     Refused(Refusal),
 }
 
-// A whole file.
+// A whole file, read into the tables: 1 to 6, or what its head says.
 pub enum File {
     Accepted(Head),
     Refused(Refusal),

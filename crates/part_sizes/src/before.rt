@@ -53,7 +53,7 @@ fn durations_size(times: u32, events: u32, durations: &[u8]) -> Size
     sum
 }
 
-// All of them.
+// What stands before the constraints: starts, uses and durations.
 pub fn before_size(head: Head, users: &[u16], durations: &[u8]) -> Size
     requires { ⌜ Begun (now users) (now durations) head ⌝ }
     ensures { λ r. ⌜ Within 2147483648 r × ((t : List ℕ) → Users (now (users .entry)) (eventsOf (now (durations .entry)) t (head .events))

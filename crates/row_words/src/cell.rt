@@ -18,7 +18,7 @@ fn pair(words: &mut [u32], at: usize, a: u32, b: u32) -> usize
     at + 2
 }
 
-// Three.
+// A clause of three literals.
 fn triple(words: &mut [u32], at: usize, a: u32, b: u32, c: u32) -> usize
     requires { ⌜ at + 3 ≤ length (now words) ⌝ }
     ensures { λ r. ⌜ WordsAt at r (now (words .entry)) (now (words .exit)) (a ∷ b ∷ c ∷ []) ⌝ }

@@ -16,14 +16,14 @@ pub fn resource_rows() -> [u8; 129024]
     [0; 129024]
 }
 
-// Rows for 2,048 groups.
+// Rows for 1,024 groups, and for as many windows of a calendar, which are to be numbered after them (document 02).
 pub fn group_rows() -> [u8; 258048]
     ensures { λ r. ⌜ 258048 ≡ length r ⌝ }
 {
     [0; 258048]
 }
 
-// A constraint's list of up to 2,048 events or groups.
+// A constraint's list of up to 1,024 events, or of groups, for which the same holds.
 pub fn list() -> [u16; 2048]
     ensures { λ r. ⌜ 2048 ≡ length r ⌝ }
 {

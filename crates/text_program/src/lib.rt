@@ -52,7 +52,7 @@ fn store() -> [u8; 65537]
     [0; 65537]
 }
 
-// The program.
+// The program: what stands on standard input, as text or as a refusal.
 pub fn run() {
     let mut file = store();
     let n = io::read_full(STDIN_FILENO, &mut file);
