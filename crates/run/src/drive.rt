@@ -49,7 +49,9 @@ fn drive_with(
     n: usize,
     used: usize,
 ) -> CheckAnswer
-    ensures { λ r. ⌜ Driven (now (proof .entry)) last (length (now (rows .entry))) n used (rowsOf (now (rows .entry))) (now (words .entry)) (now (marks .entry)) r (rowsOf (now (rows .exit))) (now (words .exit)) (now (marks .exit)) ⌝ }
+    ensures { λ r. ⌜ Driven (now (proof .entry)) last (length (now (rows .entry))) n
+        used (rowsOf (now (rows .entry))) (now (words .entry)) (now (marks .entry)) r (rowsOf (now (rows .exit)))
+        (now (words .exit)) (now (marks .exit)) ⌝ }
 {
     let mut c = begin(n, used);
     let mut m = ready();

@@ -1,6 +1,7 @@
 pub mod Readings
 pub mod Accepted
 pub mod Outputs
+pub mod LastRow
 pub mod Gates
 pub mod Circuit
 pub mod Order
