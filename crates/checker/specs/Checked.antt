@@ -8,10 +8,10 @@ use Rattle.scope.specs.Formula.{words}
 use Rattle.scope.specs.Answers.{checkMeans}
 use Rattle.scope.specs.declared.Refusal.{Refusal}
 use Rattle.scope.specs.declared.CheckAnswer.{CheckAnswer}
-use Rattle.store.specs.declared.directory.Row.{Row}
-use Rattle.store.specs.Marks.{marks-cleared}
-use Rattle.store.specs.Directory.{rowsOf}
-use Rattle.store.specs.Marked.{Built}
+use Rattle.directory.specs.declared.Row.{Row}
+use Rattle.marks.specs.Marks.{marks-cleared}
+use Rattle.directory.specs.Directory.{rowsOf}
+use Rattle.directory.specs.Marked.{Built}
 use Rattle.run.specs.Run.{Driven}
 use Rattle.run_meaning.specs.Meaning.{check-means}
 use Rattle.claims.specs.declared.claim.Claim.{Claim}

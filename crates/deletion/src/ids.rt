@@ -1,4 +1,6 @@
 // The ids of a step that deletes.
+use directory::Row;
+use directory::is_dead;
 use hints::machine::Machine;
 use hints::machine::Phase;
 use hints::machine::step_on;
@@ -7,7 +9,6 @@ use number::Number;
 use reader::number_in;
 use scope::refusals::BAD_STEP;
 use scope::refusals::NOT_LIVE;
-use store::directory::Row;
 ghost use mathlib.Core.Path.{_≡_};
 ghost use Rattle.deletion.specs.Passed.{passedId};
 
@@ -16,7 +17,7 @@ pub fn pass_id(m: Machine, row: Row, proof: &[u8]) -> Machine
     ensures { λ r. ⌜ r ≡ passedId (now (proof .entry)) m row ⌝ }
 {
     let at = m.at;
-    if row.live == 0 {
+    if is_dead(row) {
         return stop(Phase::Refused(NOT_LIVE), at);
     }
     let t = number_in(proof, at);

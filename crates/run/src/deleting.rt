@@ -1,14 +1,14 @@
 // The loop that deletes the ids of a step: each is looked up, and its row is marked dead.
 use deletion::ids::pass_id;
+use directory::Row;
+use directory::mark_dead;
 use hints::machine::DELETE;
 use hints::machine::Machine;
 use hints::machine::turn_of;
-use store::directory::Row;
-use store::directory::find;
-use store::directory::mark_dead;
+use lookup::find;
 ghost use mathlib.Core.Path.{_≡_};
 ghost use lib.ListN.{length};
-ghost use Rattle.store.specs.Directory.{rowsOf};
+ghost use Rattle.directory.specs.Directory.{rowsOf};
 ghost use Rattle.run.specs.Run.{DeletesIds};
 
 // The machine's turns go on until it has no id to delete.

@@ -1,17 +1,19 @@
-use mathlib.Core.Path.{_∙_}
+use mathlib.Core.Path.{sym, _∙_}
 use borrow.Author.Needs.{needs}
-use borrow.Author.Tests.{eq-eqb, ne-eqb}
 use Rattle.reader.proofs.NumberTold.{value-at, no-value-at}
 use Rattle.deletion.specs.Passed.{passedId}
 use Rattle.deletion.proofs.ids.pass_id.Statement.{statement}
 use Rattle.deletion.proofs.ids.pass_id.Tie as tie
+
+is-dead-requires : tie.Need-is-dead-requires
+is-dead-requires c κs = search needs
 
 stop-requires : tie.Need-stop-requires
 stop-requires c κs = search needs
 
 returns : tie.Need-returns
 unfolding passedId
-returns c = c .stop .ensures ∙ rw (eq-eqb _ _ (c .before .if1 .taken))
+returns c = c .stop .ensures ∙ rw (sym (c .before .before .is-dead .ensures) ∙ c .before .if1 .taken)
 
 number-in-requires : tie.Need-number-in-requires
 number-in-requires c κs = search needs
@@ -29,7 +31,7 @@ returns-2 : tie.Need-returns-2
 unfolding passedId
 returns-2 c =
     let a = c .before .before .before .before .before .before .before .args in
-    let z = ne-eqb _ _ (c .before .before .before .before .if1 .left) in
+    let z = sym (c .before .before .before .before .before .is-dead .ensures) ∙ c .before .before .before .before .if1 .left in
     let e = no-value-at (a .proof .now) (a .m .at) (c .before .before .before .number-in .result) (c .before .before .before .number-in .ensures) (c .before .enum-told .given .1) in
     c .stop2 .ensures ∙ rw (z, e)
 
@@ -40,7 +42,7 @@ returns-3 : tie.Need-returns-3
 unfolding passedId
 returns-3 c =
     let a = c .before .before .before .before .before .before .before .before .args in
-    let z = ne-eqb _ _ (c .before .before .before .before .before .if1 .left) in
+    let z = sym (c .before .before .before .before .before .before .is-dead .ensures) ∙ c .before .before .before .before .before .if1 .left in
     let e = value-at (a .proof .now) (a .m .at) (c .before .before .before .before .number-in .result) (c .before .before .before .before .number-in .ensures) (c .before .before .t .given .1) in
     c .step-on .ensures ∙ rw (z, e)
 
@@ -48,6 +50,7 @@ pub pass-id-spec : {M : Type 1} → statement M
 pass-id-spec =
     tie.close
     (tie.spec
+    is-dead-requires
     stop-requires
     returns
     number-in-requires

@@ -1,5 +1,4 @@
-use mathlib.Core.Path.{_≡_, _∙_}
-use borrow.Author.Tests.{eq-eqb, ne-eqb}
+use mathlib.Core.Path.{_≡_, sym, _∙_}
 use Rattle.scope.specs.Parsed.{got}
 use Rattle.scope.specs.Number.{number}
 use Rattle.hints.specs.Machine.{advanced, advancedMarks, advancedTrail}
@@ -12,13 +11,16 @@ use Rattle.hints.proofs.machine.advance.Tie as tie
 read : (c : tie.After-known-told) → number (c .before .before .before .before .before .before .before .before .before .before .args .proof .now) (c .before .before .before .before .before .before .before .before .before .before .args .m .at) ≡ got (c .before .t .given .0 .0) (c .before .t .given .0 .1 .0)
 read c = value-at (c .before .before .before .before .before .before .before .before .before .before .args .proof .now) (c .before .before .before .before .before .before .before .before .before .before .args .m .at) (c .before .before .before .number-in .result) (c .before .before .before .number-in .ensures) (c .before .t .given .1)
 
+is-dead-requires : tie.Need-is-dead-requires
+is-dead-requires c κs = search needs
+
 stop-requires : tie.Need-stop-requires
 stop-requires c κs = search needs
 
 returns : tie.Need-returns
 unfolding advanced advancedMarks advancedTrail
 returns c =
-    let z = eq-eqb _ _ (c .before .if1 .taken) in (c .stop .ensures ∙ rw z, (rw z, rw z))
+    let z = sym (c .before .before .is-dead .ensures) ∙ c .before .if1 .taken in (c .stop .ensures ∙ rw z, (rw z, rw z))
 
 number-in-requires : tie.Need-number-in-requires
 number-in-requires c κs = search needs
@@ -36,7 +38,7 @@ returns-2 : tie.Need-returns-2
 unfolding advanced advancedMarks advancedTrail
 returns-2 c =
     let a = c .before .before .before .before .before .before .before .before .before .before .args in
-    let z = ne-eqb _ _ (c .before .before .before .before .if1 .left) in
+    let z = sym (c .before .before .before .before .before .is-dead .ensures) ∙ c .before .before .before .before .if1 .left in
     let e = no-value-at (a .proof .now) (a .m .at) (c .before .before .before .number-in .result) (c .before .before .before .number-in .ensures) (c .before .enum-told .given .1) in
     (c .stop2 .ensures ∙ rw (z, e), (rw (z, e), rw (z, e)))
 
@@ -48,6 +50,12 @@ take-hint-requires c κs = search needs
 
 enum-told-3 : tie.Need-enum-told-3
 enum-told-3 c = search needs
+
+first-word-requires : tie.Need-first-word-requires
+first-word-requires c κs = search needs
+
+word-count-requires : tie.Need-word-count-requires
+word-count-requires c κs = search needs
 
 wipe-clause-requires : tie.Need-wipe-clause-requires
 wipe-clause-requires c κs = search needs
@@ -82,7 +90,7 @@ same-length-2 c = search needs
 returns-3 : tie.Need-returns-3
 unfolding advanced advancedMarks advancedTrail
 returns-3 c =
-    let z = ne-eqb _ _ (c .before .before .before .before .before .before .before .before .before .before .before .before .before .if1 .left) in
+    let z = sym (c .before .before .before .before .before .before .before .before .before .before .before .before .before .before .is-dead .ensures) ∙ c .before .before .before .before .before .before .before .before .before .before .before .before .before .if1 .left in
     let e = read (c .before .before .before .before .before .before .before .before .before) in
     let p = c .before .before .before .before .before .before .before .enum-told2 .given .1 in
     (c .before .before .before .before .take-hint .ensures .0 ∙ rw (z, e, p), (c .before .before .before .before .take-hint .ensures .1 .0 ∙ rw (z, e, p), c .before .before .before .before .take-hint .ensures .1 .1 ∙ rw (z, e, p)))
@@ -93,15 +101,15 @@ same-length-3 c = search needs
 returns-4 : tie.Need-returns-4
 unfolding advanced advancedMarks advancedTrail
 returns-4 c =
-    let z = ne-eqb _ _ (c .before .before .before .before .before .before .before .before .before .before .before .if1 .left) in
-    let e = read (c .before .before .before .before .before .before .before) in
-    let p = c .before .before .before .before .before .enum-told3 .given .1 in
-    (c .step-on .ensures ∙ rw (z, e, p), (c .before .before .before .wipe-clause .ensures ∙ rw (z, e, p), rw (z, e, p)))
+    let z = sym (c .before .before .before .before .before .before .before .before .before .before .before .before .before .before .is-dead .ensures) ∙ c .before .before .before .before .before .before .before .before .before .before .before .before .before .if1 .left in
+    let e = read (c .before .before .before .before .before .before .before .before .before) in
+    let p = c .before .before .before .before .before .before .before .enum-told3 .given .1 in
+    (c .step-on .ensures ∙ rw (z, e, p), (c .before .before .before .wipe-clause .ensures ∙ rw (z, e, p, c .before .before .before .before .before .first-word .ensures, c .before .before .before .before .word-count .ensures), rw (z, e, p)))
 
 returns-5 : tie.Need-returns-5
 unfolding advanced advancedMarks advancedTrail
 returns-5 c =
-    let z = ne-eqb _ _ (c .before .before .before .before .before .before .if1 .left) in
+    let z = sym (c .before .before .before .before .before .before .before .is-dead .ensures) ∙ c .before .before .before .before .before .before .if1 .left in
     let e = read (c .before .before) in
     let p = c .enum-told4 .given .1 in
     (rw (z, e, p), (rw (z, e, p), rw (z, e, p)))
@@ -109,7 +117,7 @@ returns-5 c =
 returns-6 : tie.Need-returns-6
 unfolding advanced advancedMarks advancedTrail
 returns-6 c =
-    let z = ne-eqb _ _ (c .before .before .before .before .before .before .if1 .left) in
+    let z = sym (c .before .before .before .before .before .before .before .is-dead .ensures) ∙ c .before .before .before .before .before .before .if1 .left in
     let e = read (c .before .before) in
     let p = c .enum-told5 .given .1 in
     (rw (z, e, p), (rw (z, e, p), rw (z, e, p)))
@@ -117,7 +125,7 @@ returns-6 c =
 returns-7 : tie.Need-returns-7
 unfolding advanced advancedMarks advancedTrail
 returns-7 c =
-    let z = ne-eqb _ _ (c .before .before .before .before .before .before .if1 .left) in
+    let z = sym (c .before .before .before .before .before .before .before .is-dead .ensures) ∙ c .before .before .before .before .before .before .if1 .left in
     let e = read (c .before .before) in
     let p = c .enum-told6 .given .1 in
     (rw (z, e, p), (rw (z, e, p), rw (z, e, p)))
@@ -125,7 +133,7 @@ returns-7 c =
 returns-8 : tie.Need-returns-8
 unfolding advanced advancedMarks advancedTrail
 returns-8 c =
-    let z = ne-eqb _ _ (c .before .before .before .before .before .before .if1 .left) in
+    let z = sym (c .before .before .before .before .before .before .before .is-dead .ensures) ∙ c .before .before .before .before .before .before .if1 .left in
     let e = read (c .before .before) in
     let p = c .enum-told7 .given .1 in
     (rw (z, e, p), (rw (z, e, p), rw (z, e, p)))
@@ -133,7 +141,7 @@ returns-8 c =
 returns-9 : tie.Need-returns-9
 unfolding advanced advancedMarks advancedTrail
 returns-9 c =
-    let z = ne-eqb _ _ (c .before .before .before .before .before .before .if1 .left) in
+    let z = sym (c .before .before .before .before .before .before .before .is-dead .ensures) ∙ c .before .before .before .before .before .before .if1 .left in
     let e = read (c .before .before) in
     let p = c .enum-told8 .given .1 in
     (rw (z, e, p), (rw (z, e, p), rw (z, e, p)))
@@ -141,7 +149,7 @@ returns-9 c =
 returns-10 : tie.Need-returns-10
 unfolding advanced advancedMarks advancedTrail
 returns-10 c =
-    let z = ne-eqb _ _ (c .before .before .before .before .before .before .if1 .left) in
+    let z = sym (c .before .before .before .before .before .before .before .is-dead .ensures) ∙ c .before .before .before .before .before .before .if1 .left in
     let e = read (c .before .before) in
     let p = c .enum-told9 .given .1 in
     (rw (z, e, p), (rw (z, e, p), rw (z, e, p)))
@@ -150,6 +158,7 @@ pub advance-spec : {M : Type 1} → statement M
 advance-spec =
     tie.close
     (tie.spec
+    is-dead-requires
     stop-requires
     returns
     number-in-requires
@@ -160,6 +169,8 @@ advance-spec =
     enum-told-2
     take-hint-requires
     enum-told-3
+    first-word-requires
+    word-count-requires
     wipe-clause-requires
     step-on-requires
     enum-told-4
