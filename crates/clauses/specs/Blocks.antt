@@ -10,7 +10,7 @@ use Rattle.constraint.specs.declared.kinds.Head.{Head}
 use Rattle.literals.specs.Variables.{Sizes, layout-sizes}
 use Rattle.literals.specs.Filled.{usersAt, UserRows}
 use Rattle.literals.specs.Numbered.{allNumbered, durationLists}
-use Rattle.list.specs.Ground.{layoutOf}
+use Rattle.list_nodes.specs.Ground.{layoutOf}
 use Rattle.items.specs.Written.{Room}
 use Rattle.blocks.specs.Durations.{Durations}
 use Rattle.clauses.specs.Before.{blockItems, blocks-room}

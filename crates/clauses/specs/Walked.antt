@@ -20,7 +20,7 @@ use Rattle.literals.specs.Users.{usersIn}
 use Rattle.literals.specs.Filled.{Filled, usersAt}
 use Rattle.literals.specs.Numbered.{constraintItems}
 use Rattle.literals.specs.Tables.{groupIn}
-use Rattle.list.specs.Ground.{layoutOf}
+use Rattle.list_nodes.specs.Ground.{layoutOf}
 use Rattle.fitting.specs.Fitting.{known-fits}
 use Rattle.items.specs.Written.{Room, Wrote, Left, room-first, room-same, left-start, left-turn, left-end, left-room}
 use Rattle.constraint_clauses.specs.Fits.{Fits, constraintPart}

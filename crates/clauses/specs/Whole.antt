@@ -16,7 +16,7 @@ use Rattle.sink.specs.World.{World}
 use Rattle.literals.specs.Users.{usersIn}
 use Rattle.literals.specs.Filled.{Filled, usersAt, filled-users, filled-rows}
 use Rattle.literals.specs.Tables.{groupIn}
-use Rattle.list.specs.Ground.{layoutOf}
+use Rattle.list_nodes.specs.Ground.{layoutOf}
 use Rattle.items.specs.Written.{Room, Wrote, room-first, room-rest}
 use Rattle.clauses.specs.Writable.{Writable, formulaLines}
 use Rattle.clauses.specs.Before.{formula-parts}

@@ -5,7 +5,7 @@ use sink::Job;
 use sink::Sink;
 ghost use Prim.Native.Nat.{_+_};
 ghost use Rattle.sink.specs.World.{world, step};
-ghost use Rattle.list.specs.Ground.{layoutOf};
+ghost use Rattle.list_nodes.specs.Ground.{layoutOf};
 ghost use Rattle.items.specs.Written.{Wrote};
 ghost use Rattle.clauses.specs.Blocks.{Begun, beforeItems};
 

@@ -21,8 +21,8 @@ use Rattle.literals.specs.Tables.{groupIn}
 use Rattle.literals.specs.Proper.{Proper}
 use Rattle.literals.specs.NodeWords.{IsNode}
 use Rattle.literals.specs.Numbered.{Numbered, noList, numberOf, numbered, numberedItems, allNumbered}
-use Rattle.list.specs.declared.filled.Filled.{Filled}
-use Rattle.list.specs.Stored.{countedIn, listIn, numOf, Stored, Short, Fits}
+use Rattle.list_nodes.specs.declared.filled.Filled.{Filled}
+use Rattle.list_nodes.specs.Stored.{countedIn, listIn, numOf, Stored, Short, Fits}
 use Rattle.list.specs.Fillable.{Fillable}
 use Rattle.list.specs.Literals.{OverLiterals, list-literals}
 use Rattle.items.specs.Counted.{counted}

@@ -7,8 +7,8 @@ use Rattle.constraint.specs.declared.kinds.Head.{Head}
 use Rattle.literals.specs.Filled.{usersAt}
 use Rattle.literals.specs.Tables.{groupIn}
 use Rattle.literals.specs.Numbered.{Numbered, numbered, allNumbered}
-use Rattle.list.specs.Ground.{layoutOf}
-pub use Rattle.list.specs.Stored.{Fits}
+use Rattle.list_nodes.specs.Ground.{layoutOf}
+pub use Rattle.list_nodes.specs.Stored.{Fits}
 
 -- the counted lists of a kind, from the table of users and the rows of the groups
 abbrev pub listsIn : (users groups : List ℕ) → Head → Kind → List Numbered

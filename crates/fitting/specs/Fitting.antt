@@ -17,7 +17,7 @@ use Rattle.instance.specs.Laws.{Accepted, ConstraintOf}
 use Rattle.literals.specs.Users.{usersIn, users-in}
 use Rattle.literals.specs.Filled.{Filled, usersAt, filled-users, filled-rows}
 use Rattle.literals.specs.Tables.{groupIn, counted-same}
-use Rattle.list.specs.Stored.{Fits, countedIn}
+use Rattle.list_nodes.specs.Stored.{Fits, countedIn}
 use Rattle.fitting.specs.Known.{groups-within, known-groups}
 use Rattle.fitting.specs.Lists.{lists-reached, lists-few, short-lists}
 

@@ -15,7 +15,7 @@ use Rattle.literals.specs.Variables.{Within}
 use Rattle.literals.specs.Proper.{ascending-within}
 use Rattle.literals.specs.Filled.{EventRows}
 use Rattle.literals.specs.Tables.{groupsOf}
-use Rattle.list.specs.Ground.{Ground}
+use Rattle.list_nodes.specs.Ground.{Ground}
 
 -- the groups that a kind refers to are there
 one-within : {n x : ℕ} → OneOf n x → Each (Within n) (x ∷ [])

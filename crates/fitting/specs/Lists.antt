@@ -7,7 +7,7 @@ use lib.ListN.{length, length-append, length-map}
 use Rattle.scope.specs.Kinds.{Kind, clash, unavailable, preferred, split, spread, busy, cluster, idle, Y, Entry, atom, anyOf, gap, entryNodes, added, entriesNodes, entriesMembers, Listed, entries, Counted, from, upTo, countedOf, longest}
 use Rattle.number.specs.Each.{Each, each-none, each-more}
 use Rattle.constraint.specs.Bounds.{lowOf}
-use Rattle.list.specs.Stored.{Short}
+use Rattle.list_nodes.specs.Stored.{Short}
 
 -- a counted list has at least lo members
 pub record Reached (lo : ℕ) (l : Listed) : Type 0 where

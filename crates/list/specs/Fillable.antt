@@ -16,11 +16,11 @@ use Rattle.literals.specs.Variables.{sAt, xAt, Within}
 use Rattle.literals.specs.Filled.{usersAt}
 use Rattle.literals.specs.Tables.{groupIn}
 use Rattle.literals.specs.Entries.{Adds}
-use Rattle.list.specs.Ground.{layoutOf}
-use Rattle.list.specs.Stored.{countedIn, listIn, Fits}
-use Rattle.list.specs.Atoms.{spread-add}
-use Rattle.list.specs.Cluster.{xsOf, cluster-adds}
-use Rattle.list.specs.Idle.{innerCount, length-idle, idle-adds}
+use Rattle.list_nodes.specs.Ground.{layoutOf}
+use Rattle.list_nodes.specs.Stored.{countedIn, listIn, Fits}
+use Rattle.plain_lists.specs.Atoms.{spread-add}
+use Rattle.node_lists.specs.Cluster.{xsOf, cluster-adds}
+use Rattle.node_lists.specs.Idle.{innerCount, length-idle, idle-adds}
 
 -- list number t of a constraint that fits, its nodes the variables from v on, and the store
 pub record Fillable (users groups list : List ℕ) (h : Head) (k : Kind) (t v : ℕ) (words : List ℕ) : Type 0 where

@@ -1,9 +1,3 @@
-pub mod Ground
-pub mod Stored
-pub mod Atoms
-pub mod Plain
-pub mod Cluster
-pub mod Idle
 pub mod Fillable
 pub mod ListsOf
 pub mod Literals

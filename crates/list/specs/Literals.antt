@@ -19,12 +19,12 @@ use Rattle.literals.specs.Numbered.{noList}
 use Rattle.literals.specs.NodeWords.{IsNode}
 use Rattle.literals.specs.Entries.{Adds}
 use Rattle.literals.specs.Laws.{takes-add}
-use Rattle.list.specs.Ground.{Ground, layoutOf, ground-sizes, ground-event, ground-resource, ground-ascends, ground-groups, ground-events}
-use Rattle.list.specs.Stored.{countedIn, listIn, numOf, Short}
-use Rattle.list.specs.Plain.{list-of-time}
-use Rattle.list.specs.Atoms.{events-add, starts-add, uses-add, spread-add}
-use Rattle.list.specs.Cluster.{xsOf, cluster-adds}
-use Rattle.list.specs.Idle.{gapGates, idleGates, innerCount, length-idle, idle-adds}
+use Rattle.list_nodes.specs.Ground.{Ground, layoutOf, ground-sizes, ground-event, ground-resource, ground-ascends, ground-groups, ground-events}
+use Rattle.list_nodes.specs.Stored.{countedIn, listIn, numOf, Short}
+use Rattle.plain_lists.specs.Plain.{list-of-time}
+use Rattle.plain_lists.specs.Atoms.{events-add, starts-add, uses-add, spread-add}
+use Rattle.node_lists.specs.Cluster.{xsOf, cluster-adds}
+use Rattle.node_lists.specs.Idle.{gapGates, idleGates, innerCount, length-idle, idle-adds}
 use Rattle.list.specs.Fillable.{Fillable, clash-time, only-one, nodes-length}
 
 -- its first node is the variable v

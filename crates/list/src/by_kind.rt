@@ -1,19 +1,19 @@
 // A constraint's list, by its kind.
-use crate::busy::fill_busy;
-use crate::clash::fill_clash;
-use crate::cluster::fill_cluster;
-use crate::filled::Filled;
-use crate::idle::fill_idle;
-use crate::preferred::fill_preferred;
-use crate::split::fill_split;
-use crate::spread::fill_spread;
-use crate::unavailable::fill_unavailable;
 use constraint::Head;
 use constraint::Kind;
+use list_nodes::Filled;
+use node_lists::fill_cluster;
+use node_lists::fill_idle;
+use plain_lists::fill_busy;
+use plain_lists::fill_clash;
+use plain_lists::fill_preferred;
+use plain_lists::fill_split;
+use plain_lists::fill_spread;
+use plain_lists::fill_unavailable;
 ghost use Rattle.constraint.specs.Answers.{kindOf};
 ghost use Rattle.literals.specs.Filled.{usersAt};
 ghost use Rattle.list.specs.Fillable.{Fillable};
-ghost use Rattle.list.specs.Stored.{listIn, numOf, Stored};
+ghost use Rattle.list_nodes.specs.Stored.{listIn, numOf, Stored};
 ghost use Rattle.list.specs.ListsOf.{ListsOf};
 
 // List number t, from 1; its first node is the variable v.

@@ -9,8 +9,8 @@ use Rattle.scope.specs.Kinds.{Atom, Node, someOf, allOf, Listed, Counted, rule}
 use Rattle.scope.specs.Formula.{refLiteral, nodeGate}
 use Rattle.literals.specs.Words.{Holds}
 use Rattle.literals.specs.NodeWords.{nodeWords, nodesWords, or-words, and-words}
-use Rattle.list.specs.declared.filled.Filled.{Filled}
-use Rattle.list.specs.Stored.{Stored, Short}
+use Rattle.list_nodes.specs.declared.filled.Filled.{Filled}
+use Rattle.list_nodes.specs.Stored.{Stored, Short}
 use Rattle.constraint.specs.declared.kinds.Bounds.{Bounds}
 use Rattle.sizing.specs.declared.Size.{Size}
 use Rattle.sizing.specs.Sums.{sum, Within}

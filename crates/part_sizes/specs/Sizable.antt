@@ -14,7 +14,7 @@ use Rattle.constraint.specs.Bounds.{lowOf, highOf, freeOf, bounds-right}
 use Rattle.literals.specs.Filled.{usersAt}
 use Rattle.literals.specs.Numbered.{noList}
 use Rattle.literals.specs.Tables.{groupIn}
-use Rattle.list.specs.Stored.{Fits, Short, listAt, countedIn, listIn}
+use Rattle.list_nodes.specs.Stored.{Fits, Short, listAt, countedIn, listIn}
 use Rattle.fitting.specs.Lists.{Small, lists-small}
 use Rattle.sizing.specs.declared.Size.{Size}
 use Rattle.sizing.specs.Sums.{none, sum, Within, Fits64, within-more, within-none, within-sum, none-sum, sum-none, sum-assoc}

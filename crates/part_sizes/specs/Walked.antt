@@ -15,7 +15,7 @@ use Rattle.instance.specs.Answers.{instanceOf}
 use Rattle.instance.specs.Laws.{Accepted, NextOf, accepted-next}
 use Rattle.literals.specs.Users.{usersIn}
 use Rattle.literals.specs.Filled.{Filled, usersAt}
-use Rattle.list.specs.Stored.{countedIn}
+use Rattle.list_nodes.specs.Stored.{countedIn}
 use Rattle.fitting.specs.Fitting.{known-counted, known-fits, known-few}
 use Rattle.sizing.specs.declared.Size.{Size}
 use Rattle.sizing.specs.Sums.{none, sum, Within, Fits64, within-more, within-none, within-sum, sum-none, sum-assoc}

@@ -7,7 +7,7 @@ use Rattle.sink.specs.World.{world, step}
 use Rattle.literals.specs.Filled.{usersAt}
 use Rattle.literals.specs.Tables.{groupIn}
 use Rattle.literals.specs.Numbered.{allNumbered}
-use Rattle.list.specs.Stored.{countedIn}
+use Rattle.list_nodes.specs.Stored.{countedIn}
 use Rattle.items.specs.Lists.{lists-end}
 use Rattle.items.specs.Written.{Left, left-start, left-room, left-end}
 use Rattle.constraint_clauses.proofs.ListTurn.{listsLeft, none-left, list-fillable, list-stored, list-turn, list-some}

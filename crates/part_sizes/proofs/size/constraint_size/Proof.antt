@@ -8,7 +8,7 @@ use lib.ListN.{length}
 use Rattle.constraint.specs.Answers.{kindOf}
 use Rattle.literals.specs.Filled.{usersAt}
 use Rattle.literals.specs.Tables.{groupIn}
-use Rattle.list.specs.Stored.{countedIn}
+use Rattle.list_nodes.specs.Stored.{countedIn}
 use Rattle.part_sizes.specs.Sizable.{Summed, summed-none, summed-fits, summed-more, summed-all}
 use Rattle.part_sizes.proofs.size.constraint_size.Statement.{statement}
 use Rattle.part_sizes.proofs.size.constraint_size.Tie as tie

@@ -1,0 +1,9 @@
+// What a filled list has, and its nodes: each a head word with the number of its inputs, then its long clause.
+mod filled;
+mod node;
+
+pub use filled::Filled;
+pub use filled::plain;
+pub use node::store_group;
+pub use node::store_idling;
+pub use node::store_or;

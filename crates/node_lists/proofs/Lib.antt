@@ -1,0 +1,2 @@
+mod ClusterNodes
+mod IdleNodes

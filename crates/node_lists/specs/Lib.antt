@@ -1,0 +1,2 @@
+pub mod Cluster
+pub mod Idle
