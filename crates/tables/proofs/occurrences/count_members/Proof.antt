@@ -1,13 +1,13 @@
--- `tables::users::count_members` meets its contract. The loop's invariant: the counts are those of the rows passed.
+-- `tables::occurrences::count_members` meets its contract. The loop's invariant: the counts are those of the rows passed.
 use borrow.Author.Needs.{needs}
 use Prim.Native.Nat.{_-_, _≤_}
 use mathlib.Core.Path.{_≡_, _∙_}
 use native.Mathlib.Omega.{arith}
 use lib.ListN.{length}
 use Rattle.tables.specs.Rows.{rows}
-use Rattle.tables.specs.Users.{Counted, occurrencesIn}
-use Rattle.tables.proofs.users.count_members.Statement.{statement}
-use Rattle.tables.proofs.users.count_members.Tie as tie
+use Rattle.tables.specs.Occurrences.{Counted, occurrencesIn}
+use Rattle.tables.proofs.occurrences.count_members.Statement.{statement}
+use Rattle.tables.proofs.occurrences.count_members.Tie as tie
 
 abbrev Inv-loop : tie.InvT-loop
 Inv-loop table n counts₀ most row₀ counts row = (row ≤ n) × (length counts ≡ 256) × Counted table row counts

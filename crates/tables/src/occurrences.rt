@@ -5,7 +5,7 @@ ghost use mathlib.Core.Path.{_≡_};
 ghost use Prim.Native.Nat.{ℕ, _+_, _≤_, _<_};
 ghost use lib.ListN.{length, getD};
 ghost use Rattle.tables.specs.Rows.{RowsIn};
-ghost use Rattle.tables.specs.Users.{Counted};
+ghost use Rattle.tables.specs.Occurrences.{Counted};
 
 // One more for each member of a row.
 fn count_row(table: &[u8], row: usize, counts: &mut [u32])

@@ -1,4 +1,4 @@
--- `length::inner_length` meets its contract. The loop's invariant: the sum, and what the groups still to be looked
+-- `idle::length_of_idle` meets its contract. The loop's invariant: the sum, and what the groups still to be looked
 -- at come to, are the whole; a group has at most 125 members.
 use borrow.Author.Needs.{needs}
 use Prim.Native.Nat.{_+_, _*_, _-_, _≤_}
@@ -7,8 +7,8 @@ use native.Mathlib.Omega.{arith}
 use lib.ListN.{length, drop}
 use Rattle.number.specs.Lists.{leading}
 use Rattle.constraint_end.specs.Inner.{innerRows, listed-in, inner-more, inner-past}
-use Rattle.constraint_end.proofs.length.inner_length.Statement.{statement}
-use Rattle.constraint_end.proofs.length.inner_length.Tie as tie
+use Rattle.constraint_end.proofs.idle.length_of_idle.Statement.{statement}
+use Rattle.constraint_end.proofs.idle.length_of_idle.Tie as tie
 
 abbrev Inv-loop : tie.InvT-loop
 Inv-loop groups list count most sum₀ i₀ sum i =
@@ -60,8 +60,8 @@ returns c =
     let a = c .before .before .before .before .args in
     omega (arith, inner-past (a .groups .now) (a .list .now) _ _ (c .loop-test .left))
 
-pub inner-length-spec : {M : Type 1} → statement M
-inner-length-spec =
+pub length-of-idle-spec : {M : Type 1} → statement M
+length-of-idle-spec =
     tie.close
     (tie.spec
     Inv-loop

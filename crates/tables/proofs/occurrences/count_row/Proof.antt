@@ -1,4 +1,4 @@
--- `tables::users::count_row` meets its contract. The loop's invariant: the counts are those of the rows before and of the
+-- `tables::occurrences::count_row` meets its contract. The loop's invariant: the counts are those of the rows before and of the
 -- members passed, so they stay small.
 use borrow.Author.Needs.{needs}
 use Prim.Native.Nat.{_-_, _≤_}
@@ -7,8 +7,8 @@ use native.Mathlib.Omega.{arith}
 use lib.ListN.{length, length-set}
 use Rattle.tables.specs.Rows.{rowAt}
 use Rattle.tables.proofs.Counting.{CountedTo, counted-start, counted-more, counted-end, counted-small}
-use Rattle.tables.proofs.users.count_row.Statement.{statement}
-use Rattle.tables.proofs.users.count_row.Tie as tie
+use Rattle.tables.proofs.occurrences.count_row.Statement.{statement}
+use Rattle.tables.proofs.occurrences.count_row.Tie as tie
 
 abbrev Inv-loop : tie.InvT-loop
 Inv-loop table row counts₀ n k₀ counts k =

@@ -1,4 +1,4 @@
--- How many events use a resource, counted by the members of rows.
+-- How often a member stands in rows; for the rows of events, how many events use a resource.
 use Prim.Native.Nat.{ℕ, zero, suc, _+_, _≤_, _<_}
 use mathlib.Core.Path.{_≡_, refl, ap, _∙_}
 use mathlib.Core.List.{List, [], _∷_, _++_}
