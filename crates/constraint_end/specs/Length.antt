@@ -13,7 +13,7 @@ use Rattle.theory.specs.Nodes.{length-members}
 use Rattle.constraint.specs.Decoded.{longestOf}
 use Rattle.number.specs.Each.{Each, each-none, each-more}
 use Rattle.number.specs.Laws.{Ascending, none, more}
-use Rattle.tables.specs.Users.{below-once}
+use Rattle.tables.specs.Occurrences.{below-once}
 
 -- the members but first and last of each of some groups
 unfoldable pub innerLength : List (List ℕ) → List ℕ → ℕ

@@ -6,15 +6,15 @@ use lib.ListN.{length, getD, replicate}
 use Rattle.scope.specs.Parsed.{Parsed, repeat}
 use Rattle.scope.specs.Kinds.{Kind, Constraint}
 use Rattle.tables.specs.Rows.{rows, RowsIn}
-use Rattle.tables.specs.Users.{occurrencesIn}
+use Rattle.tables.specs.Occurrences.{occurrencesIn}
 use Rattle.constraint.specs.declared.kinds.Head.{Head}
 use Rattle.constraint.specs.Answers.{countsIn}
 use Rattle.constraint.specs.Decoded.{checkedAt, checked-same}
 use Rattle.constraint_end.specs.Ends.{wholeAt}
 use Rattle.constraint_end.specs.Length.{listLength, length-same}
 
-pub record Ready (users groups list : List ℕ) (h : Head) : Type 0 where
-  pub counts : length users ≡ 256
+pub record Ready (loads groups list : List ℕ) (h : Head) : Type 0 where
+  pub counts : length loads ≡ 256
   pub room : length list ≡ 2048
   pub resources : h .resources ≤ 255
   pub numbers : h .groups ≤ 2048
@@ -22,7 +22,7 @@ pub record Ready (users groups list : List ℕ) (h : Head) : Type 0 where
   pub rows : RowsIn groups (h .groups)
 
 -- a list of the same length in the store changes nothing
-pub ready-kept : {users groups list after : List ℕ} {h : Head} → Ready users groups list h → length after ≡ length list → Ready users groups after h
+pub ready-kept : {loads groups list after : List ℕ} {h : Head} → Ready loads groups list h → length after ≡ length list → Ready loads groups after h
 ready-kept r e =
     record {
       counts = r .counts;
@@ -57,7 +57,7 @@ checkedWhole used groups h s = wholeAt s (h .constraints) (checkedBy used groups
 
 -- how many events use a resource: by counts, and by the rows of the first n events
 abbrev pub byCounts : List ℕ → ℕ → ℕ
-byCounts users r = getD users r 0
+byCounts loads r = getD loads r 0
 
 abbrev pub byRows : List ℕ → ℕ → ℕ → ℕ
 byRows resources n r = occurrencesIn r (rows resources n)

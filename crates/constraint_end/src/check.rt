@@ -1,5 +1,5 @@
 // The checks at a constraint's end.
-use crate::length::list_length;
+use crate::by_kind::list_length;
 use constraint::Constraint;
 use constraint::Head;
 use constraint::Next;
@@ -48,18 +48,18 @@ pub fn checked_at(
     s: &[u8],
     at: usize,
     head: Head,
-    users: &[u32],
+    loads: &[u32],
     groups: &[u8],
     list: &mut [u16],
 ) -> Next
-    requires { ⌜ Ready (now users) (now groups) (now list) head ⌝ }
-    ensures { λ r. ⌜ saidNext (now (list .exit)) r ≡ checkedBy (byCounts (now (users .entry))) (now (groups .entry)) head (now (s .entry)) at ⌝ }
+    requires { ⌜ Ready (now loads) (now groups) (now list) head ⌝ }
+    ensures { λ r. ⌜ saidNext (now (list .exit)) r ≡ checkedBy (byCounts (now (loads .entry))) (now (groups .entry)) head (now (s .entry)) at ⌝ }
 {
     let x = constraint_at(s, at, head, list);
     let Next::Read(c, end) = x else {
         return x;
     };
     let kind = c.kind;
-    let n = list_length(kind, head, users, groups, list);
+    let n = list_length(kind, head, loads, groups, list);
     ended(at, n, c, end)
 }

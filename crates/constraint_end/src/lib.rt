@@ -1,7 +1,14 @@
 // A constraint as it stands in the file, checked at its end: the length of its counted list (4), its bounds (5).
+mod busy;
+mod by_kind;
 mod check;
-mod length;
+mod clash;
+mod cluster;
+mod group;
+mod idle;
+mod preferred;
+mod split;
+mod spread;
+mod unavailable;
 
 pub use check::checked_at;
-pub use length::group_size;
-pub use length::list_length;

@@ -16,7 +16,8 @@ use Rattle.tables.specs.Rows.{rowAt, RowIn}
 use Rattle.constraint.specs.Valid.{OneOf}
 use Rattle.timetable.specs.Bits.{marks}
 use Rattle.timetable.specs.Uses.{member-in}
-use Rattle.deviation.specs.Group.{idles, Inside, ascending-inside}
+use Rattle.deviation.specs.Group.{Inside, ascending-inside}
+use Rattle.deviation.specs.Idle.{idles}
 use Rattle.deviation.specs.Sums.{total, EventsListed, GroupsListed}
 
 -- the charge of each kind, where T is the number of times and c the number of cells

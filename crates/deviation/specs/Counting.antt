@@ -12,7 +12,7 @@ use Rattle.scope.specs.Kinds.{Atom, Entry, entries, entriesMembers, rule, betwe
 use Rattle.scope.specs.Score.{trues, any, deviation, charged, count, deviations}
 use Rattle.theory.specs.Nodes.{length-members}
 use Rattle.theory.specs.Entries.{entryTrue, entries-count}
-use Rattle.deviation.specs.Group.{idles, idlesAfter}
+use Rattle.deviation.specs.Idle.{idles, idlesAfter}
 use Rattle.deviation.specs.Sums.{total}
 
 pub map-map : {A B C : Type 0} (f : B → C) (g : A → B) (xs : List A) → map f (map g xs) ≡ map (λ x. f (g x)) xs

@@ -3,11 +3,11 @@ use tables::row_len;
 use tables::row_member;
 use timetable::bytes::bit_of;
 ghost use mathlib.Core.Path.{_≡_};
-ghost use Prim.Native.Nat.{_+_, _≤_};
+ghost use Prim.Native.Nat.{_≤_};
 ghost use Rattle.scope.specs.Score.{trues};
 ghost use Rattle.tables.specs.Rows.{rowAt, RowIn};
 ghost use Rattle.timetable.specs.Bits.{marks};
-ghost use Rattle.deviation.specs.Group.{Inside, idles, passed};
+ghost use Rattle.deviation.specs.Group.{Inside};
 
 // How many of a group's times have a byte 1. The bytes of time 1 and on begin at base.
 pub fn ones_in(bytes: &[u8], base: usize, groups: &[u8], g: usize) -> u32
@@ -24,57 +24,4 @@ pub fn ones_in(bytes: &[u8], base: usize, groups: &[u8], g: usize) -> u32
         k = k + 1;
     }
     count
-}
-
-// A walk over a group's times: how many were idle, how many unused since the last use, whether there was a use.
-pub struct Walk {
-    pub idle: u32,
-    pub unused: u32,
-    pub seen: bool,
-}
-
-// One time more, used or not.
-fn pass(w: Walk, used: bool) -> Walk
-    requires { ⌜ w .idle + w .unused ≤ 1000 ⌝ }
-    ensures { λ r. ⌜ (r ≡ passed w used) × (r .idle + r .unused ≤ w .idle + w .unused + 1) ⌝ }
-{
-    if used {
-        let idle = w.idle + w.unused;
-        return Walk {
-            idle,
-            unused: 0,
-            seen: true,
-        };
-    }
-    if w.seen {
-        let unused = w.unused + 1;
-        return Walk {
-            idle: w.idle,
-            unused,
-            seen: true,
-        };
-    }
-    w
-}
-
-// How many of a group's times are idle: unused, with a use earlier and a use later.
-pub fn idle_in(bytes: &[u8], base: usize, groups: &[u8], g: usize) -> u32
-    requires { ⌜ RowIn (now groups) g × Inside (now bytes) base (rowAt (now groups) g) ⌝ }
-    ensures { λ r. ⌜ (r ≡ idles (marks (now (bytes .entry)) base (rowAt (now (groups .entry)) g))) × (r ≤ 125) ⌝ }
-{
-    let n = row_len(groups, g);
-    let mut w = Walk {
-        idle: 0,
-        unused: 0,
-        seen: false,
-    };
-    let mut k: usize = 0;
-    while k < n {
-        let t = row_member(groups, g, k) as usize;
-        let at = base + (t - 1);
-        let used = bytes[at] == 1;
-        w = pass(w, used);
-        k = k + 1;
-    }
-    w.idle
 }

@@ -1,8 +1,16 @@
 // The deviation of a constraint of each kind, by counts over the bytes of a timetable (Y and S) and over two tables of its own:
 // how often each resource is used at each time, and whether it is (X).
+mod busy;
+mod by_kind;
 mod charge;
+mod clash;
+mod cluster;
 mod group;
-mod kind;
-mod list;
+mod idle;
+mod preferred;
+mod rows;
+mod split;
+mod spread;
+mod unavailable;
 
-pub use kind::deviation_of;
+pub use by_kind::deviation_of;

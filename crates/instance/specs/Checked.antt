@@ -15,7 +15,7 @@ use Rattle.number.specs.Sequence.{step-number, stop}
 use Rattle.tables.specs.Rows.{rows, eventsOf}
 use Rattle.tables.specs.Laws.{length-rows, length-events}
 use Rattle.tables.specs.Reading.{event-row, events-in, groups-in}
-use Rattle.tables.specs.Users.{Counted, users-counted}
+use Rattle.tables.specs.Occurrences.{Counted, users-counted}
 use Rattle.constraint.specs.declared.kinds.Head.{Head}
 use Rattle.constraint.specs.Answers.{countsIn}
 use Rattle.constraint.specs.Decoded.{longestOf, checked-same, constraint-checked}
@@ -30,25 +30,25 @@ use Rattle.instance.specs.Sequence.{step-tables}
 use Rattle.instance.specs.Start.{StartIn, tables-start}
 
 -- the walk by counts gives the whole by rows, where the counts are those of the rows; x is what the walk answered
-module _ (users te groups : List ℕ) (h : Head) (s : List ℕ) (x : Number) where
+module _ (loads te groups : List ℕ) (h : Head) (s : List ℕ) (x : Number) where
   pub counted-refused : (r : Refusal)
-      → Counted te (h .events) users
-      → said x ≡ ends (checkedAll (byCounts users) groups h s)
+      → Counted te (h .events) loads
+      → said x ≡ ends (checkedAll (byCounts loads) groups h s)
       → x ≡ Number.Refused r
       → said x ≡ ends (checkedWhole (byRows te (h .events)) groups h s)
   counted-refused r c e t = whole-refused s (h .constraints) _ _ (h .start) x e (checkedBy-same _ _ groups h s (c .each)) t
 
   pub counted-left : (v end : ℕ)
-      → Counted te (h .events) users
-      → said x ≡ ends (checkedAll (byCounts users) groups h s)
+      → Counted te (h .events) loads
+      → said x ≡ ends (checkedAll (byCounts loads) groups h s)
       → x ≡ Number.Value v end
       → end < length s
       → refused 6 end ≡ ends (checkedWhole (byRows te (h .events)) groups h s)
   counted-left v end c e t l = whole-left s (h .constraints) _ _ (h .start) x e (checkedBy-same _ _ groups h s (c .each)) t l
 
   pub counted-end : (v end : ℕ)
-      → Counted te (h .events) users
-      → said x ≡ ends (checkedAll (byCounts users) groups h s)
+      → Counted te (h .events) loads
+      → said x ≡ ends (checkedAll (byCounts loads) groups h s)
       → x ≡ Number.Value v end
       → length s ≤ end
       → got 0 end ≡ ends (checkedWhole (byRows te (h .events)) groups h s)

@@ -1,5 +1,3 @@
-pub mod Length
-pub mod Inner
 pub mod Ready
 pub mod Answers
 pub mod Stores

@@ -1,2 +1,2 @@
--- What the walk over the constraints is lent.
-pub use Rattle.constraint_end.specs.Ready.{Ready, ready-kept, zeros}
+-- Counts that are 0.
+pub use Rattle.constraint_end.specs.Ready.{zeros}

@@ -4,7 +4,5 @@ mod reader;
 mod walk;
 
 pub use answer::read_instance;
-pub use constraint_end::group_size;
-pub use constraint_end::list_length;
 pub use reader::File;
 pub use reader::read;

@@ -25,15 +25,15 @@ fn refusal_of_next(x: Next) -> Refusal
 }
 
 // Where the constraints end.
-fn constraints_end(s: &[u8], head: Head, users: &[u32], groups: &[u8], list: &mut [u16]) -> Number
-    requires { ⌜ Ready (now users) (now groups) (now list) head ⌝ }
-    ensures { λ r. ⌜ said r ≡ ends (checkedAll (byCounts (now (users .entry))) (now (groups .entry)) head (now (s .entry))) ⌝ }
+fn constraints_end(s: &[u8], head: Head, loads: &[u32], groups: &[u8], list: &mut [u16]) -> Number
+    requires { ⌜ Ready (now loads) (now groups) (now list) head ⌝ }
+    ensures { λ r. ⌜ said r ≡ ends (checkedAll (byCounts (now (loads .entry))) (now (groups .entry)) head (now (s .entry))) ⌝ }
 {
     let most = head.constraints as usize;
     let mut next = head.start;
     let mut i: usize = 0;
     while i < most {
-        let x = checked_at(s, next, head, users, groups, list);
+        let x = checked_at(s, next, head, loads, groups, list);
         let Next::Read(_, after) = x else {
             return Number::Refused(refusal_of_next(x));
         };
@@ -54,9 +54,9 @@ pub fn constraints_whole(
     requires { ⌜ Lent (now resources) (now groups) (now list) head ⌝ }
     ensures { λ r. ⌜ said r ≡ ends (checkedWhole (byRows (now (resources .entry)) (head .events)) (now (groups .entry)) head (now (s .entry))) ⌝ }
 {
-    let mut users = [0u32; 256];
-    count_members(resources, head.events, &mut users);
-    let f = constraints_end(s, head, &users, groups, list);
+    let mut loads = [0u32; 256];
+    count_members(resources, head.events, &mut loads);
+    let f = constraints_end(s, head, &loads, groups, list);
     let Number::Value(_, end) = f else {
         return f;
     };

@@ -13,7 +13,7 @@ use native.Mathlib.Numerals.{add-one}
 use borrow.Author.Tests.{ltb-true, ltb-false, eq-eqb, ne-eqb}
 use Rattle.number.specs.Laws.{Ascending, none, more}
 use Rattle.tables.specs.Rows.{rowAt, RowIn}
-use Rattle.tables.specs.Users.{occurrences, occurrences-once}
+use Rattle.tables.specs.Occurrences.{occurrences, occurrences-once}
 use Rattle.resource_uses.specs.Bits.{bit-next}
 use Rattle.resource_uses.specs.Takers.{takers, takers-most}
 

@@ -1,4 +1,4 @@
 pub mod Rows
 pub mod Laws
 pub mod Reading
-pub mod Users
+pub mod Occurrences

@@ -12,14 +12,14 @@ use Rattle.instance.proofs.walk.constraints_end.Statement.{statement}
 use Rattle.instance.proofs.walk.constraints_end.Tie as tie
 
 abbrev Inv-loop : tie.InvT-loop
-Inv-loop s head users groups list₀ most next₀ i₀ list next i =
+Inv-loop s head loads groups list₀ most next₀ i₀ list next i =
     (i ≤ head .constraints)
-    × Ready users groups list head
-    × (ends (repeat (head .constraints) (checkedBy (λ r. getD users r 0) groups head s) (head .start))
-    ≡ ends (repeat (head .constraints - i) (checkedBy (λ r. getD users r 0) groups head s) next))
+    × Ready loads groups list head
+    × (ends (repeat (head .constraints) (checkedBy (λ r. getD loads r 0) groups head s) (head .start))
+    ≡ ends (repeat (head .constraints - i) (checkedBy (λ r. getD loads r 0) groups head s) next))
 
 abbrev μ-loop : tie.MeasureT-loop
-μ-loop s head users groups list₀ most next₀ i₀ list next i = head .constraints - i
+μ-loop s head loads groups list₀ most next₀ i₀ list next i = head .constraints - i
 
 cast-most : tie.Need-cast-most Inv-loop μ-loop
 cast-most c = search needs

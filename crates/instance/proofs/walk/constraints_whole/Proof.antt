@@ -1,4 +1,4 @@
--- `instance::walk::constraints_whole` meets its contract: users counted, constraints walked, then the test for the end.
+-- `instance::walk::constraints_whole` meets its contract: loads counted, constraints walked, then the test for the end.
 use borrow.Author.Needs.{needs}
 use mathlib.Core.Path.{refl}
 use Rattle.instance.specs.Checked.{counted}

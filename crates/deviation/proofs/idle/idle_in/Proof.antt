@@ -1,0 +1,77 @@
+-- `deviation::idle::idle_in` meets its contract. What the walk has counted, with what it comes to over the members left, is the whole.
+use Prim.Native.Nat.{_+_, _≤_, _-_}
+use mathlib.Core.Path.{_≡_}
+use native.Mathlib.Omega.{arith}
+use borrow.Author.Needs.{needs}
+use lib.ListN.{length, drop}
+use Rattle.tables.specs.Rows.{rowAt}
+use Rattle.timetable.specs.Bits.{marks}
+use Rattle.deviation.specs.Group.{time-low, time-there}
+use Rattle.deviation.specs.Idle.{idles, walked, walk-start, walk-more, walk-end}
+use Rattle.deviation.proofs.idle.idle_in.Statement.{statement}
+use Rattle.deviation.proofs.idle.idle_in.Tie as tie
+
+abbrev Inv-loop : tie.InvT-loop
+Inv-loop bytes base groups g n w₀ k₀ w k = (k ≤ n) × (n ≡ length (rowAt groups g)) × (w .idle + w .unused ≤ k) × (walked w (marks bytes base (drop k (rowAt groups g))) ≡ idles (marks bytes base (rowAt groups g)))
+
+abbrev μ-loop : tie.MeasureT-loop
+μ-loop bytes base groups g n w₀ k₀ w k = n - k
+
+row-len-requires : tie.Need-row-len-requires Inv-loop μ-loop
+row-len-requires c κs = c .before .before .pre .0 .room
+
+loop-holds : tie.Need-loop-holds Inv-loop μ-loop
+loop-holds c = (omega arith, c .row-len .ensures, omega arith, walk-start _)
+
+row-member-requires : tie.Need-row-member-requires Inv-loop μ-loop
+row-member-requires c κs = (c .before .before .before .before .before .pre .0, omega (arith, c .before .loop .inv .1))
+
+cast-t : tie.Need-cast-t Inv-loop μ-loop
+cast-t c = search needs
+
+sub-at : tie.Need-sub-at Inv-loop μ-loop
+sub-at c = time-low (c .before .before .loop .inv .1) (c .before .before .before .before .before .before .pre .1) (c .before .loop-test .taken) (c .row-member .ensures)
+
+add-at : tie.Need-add-at Inv-loop μ-loop
+add-at c = omega (arith, time-there (c .before .before .loop .inv .1) (c .before .before .before .before .before .before .pre .1) (c .before .loop-test .taken) (c .row-member .ensures))
+
+shared-slice-read-used : tie.Need-shared-slice-read-used Inv-loop μ-loop
+shared-slice-read-used c = time-there (c .before .before .before .loop .inv .1) (c .before .before .before .before .before .before .before .pre .1) (c .before .before .loop-test .taken) (c .before .row-member .ensures)
+
+pass-requires : tie.Need-pass-requires Inv-loop μ-loop
+pass-requires c κs = omega (arith, c .before .before .before .loop .inv, c .before .before .before .before .before .before .before .pre .0 .count)
+
+add-k : tie.Need-add-k Inv-loop μ-loop
+add-k c = search needs
+
+loop-less : tie.Need-loop-less Inv-loop μ-loop
+loop-less c = search needs
+
+loop-again : tie.Need-loop-again Inv-loop μ-loop
+loop-again c =
+    let l = c .before .before .before .before .loop in
+    (omega arith, l .inv .1, omega (arith, c .pass .ensures .1), walk-more (l .inv .1) (c .before .before .before .before .before .before .before .before .pre .1) (c .before .before .before .loop-test .taken) (c .before .before .row-member .ensures) (l .w) (c .pass .result) _ (l .inv .3) (c .pass .ensures .0))
+
+returns : tie.Need-returns Inv-loop μ-loop
+returns c =
+    let l = c .before .loop in
+    (walk-end _ _ _ (l .k) _ (l .inv .1) (c .loop-test .left) (l .w) _ (l .inv .3), omega (arith, l .inv, c .before .before .before .before .before .pre .0 .count))
+
+pub idle-in-spec : {M : Type 1} → statement M
+idle-in-spec =
+    tie.close
+    (tie.spec
+    Inv-loop
+    μ-loop
+    row-len-requires
+    loop-holds
+    row-member-requires
+    cast-t
+    sub-at
+    add-at
+    shared-slice-read-used
+    pass-requires
+    add-k
+    loop-less
+    loop-again
+    returns)
