@@ -14,7 +14,7 @@ use Rattle.sink.specs.World.{World}
 use Rattle.sink.specs.Block.{split, Small, Whole, Marks}
 use Rattle.counters.specs.Literals.{LiteralsTo, Literals, literal-opposite, small-all, literals-take}
 use Rattle.gates.specs.Blocks.{opposite-twice}
-use Rattle.nodes.specs.Long.{long-block}
+use Rattle.node_clauses.specs.Long.{long-block}
 
 -- the words before the last, and the literal of the last
 abbrev pub others : List ℕ → List ℕ
