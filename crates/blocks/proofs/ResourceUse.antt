@@ -12,7 +12,7 @@ use Rattle.sink.specs.Lines.{Line, clauseLine, lines, map-append}
 use Rattle.sink.specs.World.{World}
 use Rattle.counters.specs.Literals.{LiteralsTo}
 use Rattle.counters.specs.Rows.{gates-map}
-use Rattle.gates.specs.LongClauses.{LongClause, nodeClauses, or-long, or-ran}
+use Rattle.node_clauses.specs.LongClauses.{LongClause, nodeClauses, or-long, or-ran}
 use Rattle.literals.specs.Variables.{yAt, Within}
 use Rattle.literals.specs.Words.{Holds}
 use Rattle.literals.specs.Proper.{events-proper}

@@ -36,7 +36,7 @@ fn write_resource_uses(
         let m = literals::y_of_events(users, n, times, t + 1, &mut buf);
         buf[m] = 2 * (v + t) + 1 + 2147483648;
         let end = m + 1;
-        z = gates::nodes::write_node(job, model, text, words, z, &buf[..end]);
+        z = node_clauses::write_node(job, model, text, words, z, &buf[..end]);
     }
     z
 }

@@ -1,7 +1,5 @@
-// The writers of one gate or unit each.
+// The writers of a start, of kind 6's variable and of a unit.
 pub mod clauses;
-mod evaluate;
-pub mod nodes;
 pub mod units;
 
 // What marks the last word of a clause.

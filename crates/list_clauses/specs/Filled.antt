@@ -12,7 +12,7 @@ use Rattle.sink.specs.Lines.{Line, clauseLine, lines, lines-append, map-append}
 use Rattle.sink.specs.World.{World}
 use Rattle.counters.specs.Literals.{Literals}
 use Rattle.counters.specs.Rows.{gates-map}
-use Rattle.gates.specs.LongClauses.{LongClause, nodeClauses, long-literals, literals-opposites, or-clauses, and-clauses}
+use Rattle.node_clauses.specs.LongClauses.{LongClause, nodeClauses, long-literals, literals-opposites, or-clauses, and-clauses}
 use Rattle.literals.specs.Proper.{Proper}
 use Rattle.literals.specs.Words.{Holds}
 use Rattle.literals.specs.NodeWords.{inputs, longFront, longLast, nodeWords, nodesWords, IsNode}

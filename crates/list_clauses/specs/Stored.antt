@@ -14,7 +14,7 @@ use Rattle.scope.specs.Cnf.{and}
 use Rattle.sink.specs.Run.{then, same}
 use Rattle.sink.specs.Lines.{Line, clauseLine, lines, map-append}
 use Rattle.counters.specs.Literals.{Literals}
-use Rattle.gates.specs.LongClauses.{LongClause, nodeClauses}
+use Rattle.node_clauses.specs.LongClauses.{LongClause, nodeClauses}
 use Rattle.constraint.specs.declared.kinds.Bounds.{Bounds}
 use Rattle.items.specs.Counted.{counted}
 use Rattle.items.specs.Written.{Room}

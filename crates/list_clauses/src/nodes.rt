@@ -29,7 +29,7 @@ pub fn write_nodes(
     for i in 0..count {
         let first = at + 1;
         let end = first + store[at] as usize + 1;
-        z = gates::nodes::write_node(job, model, text, words, z, &store[first..end]);
+        z = node_clauses::write_node(job, model, text, words, z, &store[first..end]);
         at = end;
     }
     z

@@ -13,7 +13,8 @@ use Rattle.sink.specs.Lines.{Line, clauseLine, lines, map-append}
 use Rattle.sink.specs.World.{World}
 use Rattle.sink.specs.Block.{split, Small, Whole, Marks}
 use Rattle.counters.specs.Literals.{LiteralsTo, Literals, literal-opposite, small-all, literals-take}
-use Rattle.gates.specs.Blocks.{long-block, opposite-twice}
+use Rattle.gates.specs.Blocks.{opposite-twice}
+use Rattle.node_clauses.specs.Long.{long-block}
 
 -- the words before the last, and the literal of the last
 abbrev pub others : List ℕ → List ℕ

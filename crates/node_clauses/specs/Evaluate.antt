@@ -16,7 +16,7 @@ use Rattle.sink.specs.World.{world, sinkAt, step}
 use Rattle.sink.specs.AllTrue.{evaluating, counted, true-ran}
 use Rattle.sink.specs.declared.Sink.{Sink}
 use Rattle.sink.specs.declared.Job.{Job}
-use Rattle.gates.specs.LongClauses.{LongClause, others, lastOf, nodeClauses, long-split, long-clauses}
+use Rattle.node_clauses.specs.LongClauses.{LongClause, others, lastOf, nodeClauses, long-split, long-clauses}
 
 module _ (ν : Assignment) where
   pairs-true : (ls : List ℕ) (p : ℕ) → clauses ν (pairs (map opp ls) p) ≡ not (clause ν ls) || lit ν p

@@ -3,10 +3,10 @@ use Prim.Native.Nat.{_-_, _≤_}
 use native.Mathlib.Omega.{arith}
 use lib.ListN.{length, drop}
 use Rattle.scope.specs.Cnf.{bit, clause}
-use Rattle.gates.specs.Evaluate.{clause-found, clause-next, clause-none}
+use Rattle.node_clauses.specs.Evaluate.{clause-found, clause-next, clause-none}
 use borrow.Author.Needs.{needs}
-use Rattle.gates.proofs.evaluate.some_true.Statement.{statement}
-use Rattle.gates.proofs.evaluate.some_true.Tie as tie
+use Rattle.node_clauses.proofs.evaluate.some_true.Statement.{statement}
+use Rattle.node_clauses.proofs.evaluate.some_true.Tie as tie
 
 abbrev Inv-loop : tie.InvT-loop
 Inv-loop model lits i₀ i-end i = (i ≤ i-end) × (i-end ≡ length lits) × (clause (bit model) (drop i lits) ≡ clause (bit model) lits)

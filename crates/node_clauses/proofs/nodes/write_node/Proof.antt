@@ -4,12 +4,12 @@ use native.Mathlib.Omega.{arith}
 use lib.ListN.{length, getD}
 use lib.Seq.{length-take-le}
 use Rattle.sink.specs.Skipped.{skipped}
-use Rattle.gates.specs.LongClauses.{nodeClauses, long-others, long-whole, long-ran}
-use Rattle.gates.specs.Evaluate.{node-passed}
+use Rattle.node_clauses.specs.LongClauses.{nodeClauses, long-others, long-whole, long-ran}
+use Rattle.node_clauses.specs.Evaluate.{node-passed}
 use borrow.Author.Needs.{needs}
 use borrow.Author.Needs.{needs}
-use Rattle.gates.proofs.nodes.write_node.Statement.{statement}
-use Rattle.gates.proofs.nodes.write_node.Tie as tie
+use Rattle.node_clauses.proofs.nodes.write_node.Statement.{statement}
+use Rattle.node_clauses.proofs.nodes.write_node.Tie as tie
 
 skips-requires : tie.Need-skips-requires
 skips-requires c κs = search needs

@@ -1,10 +1,10 @@
 use mathlib.Core.Path.{sym, _∙_}
 use Rattle.scope.specs.Cnf.{bit}
-use Rattle.gates.specs.Evaluate.{true-some, true-none}
+use Rattle.node_clauses.specs.Evaluate.{true-some, true-none}
 use borrow.Author.Needs.{needs}
 use borrow.Author.Needs.{needs}
-use Rattle.gates.proofs.evaluate.node_right.Statement.{statement}
-use Rattle.gates.proofs.evaluate.node_right.Tie as tie
+use Rattle.node_clauses.proofs.evaluate.node_right.Statement.{statement}
+use Rattle.node_clauses.proofs.evaluate.node_right.Tie as tie
 
 literal-true-requires : tie.Need-literal-true-requires
 literal-true-requires c κs = search needs

@@ -2,10 +2,10 @@ use mathlib.Core.Path.{_≡_, refl}
 use Prim.Native.Nat.{_-_, _*_, _≤_}
 use native.Mathlib.Omega.{arith}
 use lib.ListN.{length, take, length-set}
-use Rattle.gates.specs.Pairs.{pairWords, pairs-stored, pairs-all}
+use Rattle.node_clauses.specs.Pairs.{pairWords, pairs-stored, pairs-all}
 use borrow.Author.Needs.{needs}
-use Rattle.gates.proofs.nodes.pair_words.Statement.{statement}
-use Rattle.gates.proofs.nodes.pair_words.Tie as tie
+use Rattle.node_clauses.proofs.nodes.pair_words.Statement.{statement}
+use Rattle.node_clauses.proofs.nodes.pair_words.Tie as tie
 
 abbrev Inv-loop : tie.InvT-loop
 Inv-loop block₀ lits last i₀ i-end block i =

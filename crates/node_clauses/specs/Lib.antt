@@ -1,0 +1,4 @@
+pub mod Evaluate
+pub mod LongClauses
+pub mod Long
+pub mod Pairs
