@@ -1,11 +1,12 @@
 /*
- * plain JOB MILLISECONDS INSTANCE [TABLE | MODEL | BOUND PROOF]
+ * plain JOB SPAN TURN INSTANCE [TABLE | MODEL | BOUND PROOF]
  *
- * Does a job once untimed, then again and again for so long, and prints the
- * refusal's number, two numbers of the answer (for a text its length and a
- * checksum), the microseconds of the fastest time, the bytes of output and
- * stores, and the most bytes that the process held. Each time the instance
- * file is read anew. All times are the process's own time on a processor.
+ * Does a job once untimed, then again and again in spans of at least SPAN
+ * milliseconds until TURN milliseconds are over. Prints the refusal's number,
+ * two numbers of the answer (for a text its length and a checksum), the bytes
+ * of output and stores, the most bytes that the process held, and for each
+ * span the microseconds of a call. Each time the instance file is read anew.
+ * All times are the process's own time on a processor.
  */
 #define _POSIX_C_SOURCE 199309L
 #include "plain.h"
@@ -162,34 +163,48 @@ static void lend(struct task *t)
     }
 }
 
+/* The microseconds of so many calls. */
+static double repeated(struct task *t, uint64_t calls)
+{
+    double begin = now();
+    for (uint64_t i = 0; i < calls; i++)
+        once(t);
+    return now() - begin;
+}
+
+/* Prints the microseconds of a call in spans of so many microseconds. */
+static void print_spans(struct task *t, double span, double turn)
+{
+    /* A look at the clock takes time too: as many calls as take a twentieth of a span stand between two. */
+    uint64_t batch = 1;
+    while (repeated(t, batch) < span / 20)
+        batch *= 2;
+    double begin = now();
+    do {
+        double took = 0, calls = 0;
+        while (took < span) {
+            took += repeated(t, batch);
+            calls += (double)batch;
+        }
+        printf(" %.4f", took / calls);
+    } while (now() - begin < turn);
+}
+
 int main(int count, char **words)
 {
-    if (count < 4)
+    if (count < 5)
         return 2;
-    struct task t = {.job = words[1], .file = load(words[3])};
+    struct task t = {.job = words[1], .file = load(words[4])};
+    if (count > 6)
+        t.bound = (uint32_t)strtoul(words[5], 0, 10);
     if (count > 5)
-        t.bound = (uint32_t)strtoul(words[4], 0, 10);
-    if (count > 4)
         t.other = load(words[count - 1]);
     in.store = malloc(sizeof(uint16_t) * (2 * t.file.length + 1));
     lend(&t);
-    double begin = now();
     int bad = once(&t);
-    /* Short calls are timed several at once: a look at the clock takes time too. */
-    double first = now() - begin, fastest = 1e18, turn = atof(words[2]) * 1e3;
-    int batch = first < 100 ? 1 + (int)(100 / (first + 1)) : 1;
-    begin = now();
-    do {
-        double start = now();
-        for (int i = 0; i < batch; i++)
-            bad = once(&t);
-        double took = (now() - start) / batch;
-        if (took < fastest)
-            fastest = took;
-    } while (now() - begin < turn);
-    if (t.out)
-        t.answer[1] = checksum(t.out, t.answer[0]);
-    printf("%d %llu %llu %.3f %llu %llu\n", bad, (unsigned long long)t.answer[0], (unsigned long long)t.answer[1], fastest,
-        (unsigned long long)t.lent, (unsigned long long)peak());
+    unsigned long long second = t.out ? checksum(t.out, t.answer[0]) : t.answer[1];
+    printf("%d %llu %llu %llu %llu", bad, (unsigned long long)t.answer[0], second, (unsigned long long)t.lent, (unsigned long long)peak());
+    print_spans(&t, atof(words[2]) * 1e3, atof(words[3]) * 1e3);
+    printf("\n");
     return 0;
 }

@@ -15,11 +15,13 @@ mod job;
 mod proofs;
 mod schools;
 mod side;
+mod spans;
 mod table;
 mod worst;
 
-use side::{Side, Sides};
+use side::{Side, Sides, Turns};
 use std::process::ExitCode;
+use std::time::Duration;
 use table::Row;
 
 /// How large the inputs of a run are.
@@ -54,6 +56,18 @@ const SHORT: Scale = Scale {
     part: 64,
 };
 
+const MANY: Turns = Turns {
+    least: 3,
+    most: 5,
+    enough: Duration::from_secs(8),
+};
+
+const FEW: Turns = Turns {
+    least: 1,
+    most: 3,
+    enough: Duration::from_secs(1),
+};
+
 /// The sides, and the size of what they are given.
 pub struct Bench {
     sides: Sides,
@@ -77,8 +91,16 @@ impl Bench {
 fn main() -> ExitCode {
     let words: Vec<String> = std::env::args().skip(1).collect();
     let (turns, scale) = match words.first().map(String::as_str) {
-        None => (7, WHOLE),
-        Some("--short") => (3, SHORT),
+        None => (MANY, WHOLE),
+        Some("--short") => (FEW, SHORT),
+        Some("--quick") => {
+            let bench = Bench {
+                sides: Sides::new(MANY),
+                scale: Scale { lessons: &[100, 400], most_checked: 400, ..WHOLE },
+            };
+            schools::tables(&bench);
+            return ExitCode::SUCCESS;
+        }
         Some("engine") => return done(Side::Engine, &words[1..]),
         Some("reference") => return done(Side::Reference, &words[1..]),
         Some(_) => {
@@ -86,13 +108,12 @@ fn main() -> ExitCode {
             return ExitCode::from(2);
         }
     };
-    let mut bench = Bench {
-        sides: Sides::new(turns, 40),
+    let bench = Bench {
+        sides: Sides::new(turns),
         scale,
     };
     schools::tables(&bench);
     gaps::table(&bench);
-    bench.sides.turns = turns.min(2);
     worst::table(&bench);
     ExitCode::SUCCESS
 }

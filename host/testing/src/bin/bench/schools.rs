@@ -257,7 +257,7 @@ fn growth(all: &[Measured]) {
             let same =
                 |one: &&Measured| one.generated && one.lessons == count && one.row.job == job;
             all.iter().find(same).map_or("–".into(), |one| {
-                let nanoseconds = 1e3 * one.row.engine().microseconds;
+                let nanoseconds = 1e3 * one.row.engine().time();
                 format!("{:.2}", nanoseconds / one.amount as f64)
             })
         };

@@ -23,7 +23,7 @@ impl Row {
     /// The engine's time as so many of another's.
     fn ratio(&self, other: Option<&Run>) -> String {
         other.map_or("–".into(), |other| {
-            format!("{:.2}", self.engine().microseconds / other.microseconds)
+            format!("{:.2}", self.engine().time() / other.time())
         })
     }
 
@@ -62,7 +62,7 @@ impl Row {
 
     /// A line of the table of gaps, against the same proof without gaps.
     pub fn against(&self, without: &Row) -> String {
-        let times = |one: &Run, other: &Run| one.microseconds / other.microseconds;
+        let times = |one: &Run, other: &Run| one.time() / other.time();
         format!(
             "| {} | {} | {} | {:.2} | {:.2} | {} |",
             self.input,
@@ -106,7 +106,7 @@ pub const MEMORY: [&str; 9] = [
 ];
 
 pub fn time(run: &Run) -> String {
-    match run.microseconds {
+    match run.time() {
         few if few < 1e3 => format!("{few:.1} µs"),
         more if more < 1e6 => format!("{:.2} ms", more / 1e3),
         many => format!("{:.2} s", many / 1e6),
