@@ -1,8 +1,8 @@
 /*
  * plain JOB SPAN TURN INSTANCE [TABLE | MODEL | BOUND PROOF]
  *
- * Does a job once untimed, then again and again in spans of at least SPAN
- * milliseconds until TURN milliseconds are over. Prints the refusal's number,
+ * Does a job at least once untimed, then again and again in spans of at least
+ * SPAN milliseconds until TURN milliseconds are over. Prints the refusal's number,
  * two numbers of the answer (for a text its length and a checksum), the bytes
  * of output and stores, the most bytes that the process held, and for each
  * span the microseconds of a call. Each time the instance file is read anew.
@@ -65,6 +65,7 @@ struct task {
     size_t room;
     struct stores stores;
     uint64_t lent;
+    int refusal;
     uint64_t answer[2];
 };
 
@@ -168,17 +169,22 @@ static double repeated(struct task *t, uint64_t calls)
 {
     double begin = now();
     for (uint64_t i = 0; i < calls; i++)
-        once(t);
+        t->refusal = once(t);
     return now() - begin;
 }
 
-/* Prints the microseconds of a call in spans of so many microseconds. */
-static void print_spans(struct task *t, double span, double turn)
+/* How many calls take so many microseconds: the clock is looked at after as many, since a look takes time too. */
+static uint64_t calls_in(struct task *t, double long_enough)
 {
-    /* A look at the clock takes time too: as many calls as take a twentieth of a span stand between two. */
-    uint64_t batch = 1;
-    while (repeated(t, batch) < span / 20)
-        batch *= 2;
+    uint64_t calls = 1;
+    while (repeated(t, calls) < long_enough)
+        calls *= 2;
+    return calls;
+}
+
+/* Prints the microseconds of a call in spans of so many microseconds. */
+static void print_spans(struct task *t, uint64_t batch, double span, double turn)
+{
     double begin = now();
     do {
         double took = 0, calls = 0;
@@ -195,16 +201,19 @@ int main(int count, char **words)
     if (count < 5)
         return 2;
     struct task t = {.job = words[1], .file = load(words[4])};
+    double span = atof(words[2]) * 1e3, turn = atof(words[3]) * 1e3;
     if (count > 6)
         t.bound = (uint32_t)strtoul(words[5], 0, 10);
     if (count > 5)
         t.other = load(words[count - 1]);
     in.store = malloc(sizeof(uint16_t) * (2 * t.file.length + 1));
     lend(&t);
-    int bad = once(&t);
-    unsigned long long second = t.out ? checksum(t.out, t.answer[0]) : t.answer[1];
-    printf("%d %llu %llu %llu %llu", bad, (unsigned long long)t.answer[0], second, (unsigned long long)t.lent, (unsigned long long)peak());
-    print_spans(&t, atof(words[2]) * 1e3, atof(words[3]) * 1e3);
+    uint64_t batch = calls_in(&t, span / 20);
+    if (t.out)
+        t.answer[1] = checksum(t.out, t.answer[0]);
+    printf("%d %llu %llu %llu %llu", t.refusal, (unsigned long long)t.answer[0], (unsigned long long)t.answer[1],
+        (unsigned long long)t.lent, (unsigned long long)peak());
+    print_spans(&t, batch, span, turn);
     printf("\n");
     return 0;
 }

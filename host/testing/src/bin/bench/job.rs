@@ -1,5 +1,5 @@
 //! A job done by the engine or by the reference in a process of its own, as the
-//! C program does it: once untimed, then again and again in spans.
+//! C program does it: at least once untimed, then again and again in spans.
 
 use crate::side::{Run, Side};
 use crate::spans::measured;
@@ -114,16 +114,15 @@ fn by_reference(job: &str, task: &Task) -> Run {
     }
 }
 
-/// Spans of calls after a first one. A proof without the empty clause is refused
-/// with 18 and its steps.
+/// Spans of calls. A proof without the empty clause is refused with 18 and its
+/// steps.
 fn timed(task: &Task, lent: usize, mut once: impl FnMut() -> Answer) -> Run {
-    let (refusal, answer) = match once() {
+    let mut answer = Ok([0, 0]);
+    let spans = measured(task.span, task.turn, || answer = black_box(once()));
+    let (refusal, answer) = match answer {
         Ok(answer) => (0, answer),
         Err(Refusal { number, value }) => (number, [value, 0]),
     };
-    let spans = measured(task.span, task.turn, || {
-        let _ = black_box(once());
-    });
     Run {
         refusal,
         answer,

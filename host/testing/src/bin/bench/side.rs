@@ -180,3 +180,20 @@ impl Drop for Sides {
         let _ = fs::remove_dir_all(&self.folder);
     }
 }
+
+#[cfg(test)]
+mod tests {
+    use super::Run;
+
+    #[test]
+    fn spans_are_read_and_gathered() {
+        let mut run = Run::parse("18 5 6 700 800 1.5 4\n").expect("a run");
+        assert_eq!((run.refusal, run.answer), (18, [5, 6]));
+        assert_eq!((run.lent, run.peak, run.time()), (700, 800, 2.75));
+        let later = Run::parse("18 5 6 700 900 9").expect("a run");
+        assert!(run.same(&later));
+        run.add(later);
+        assert_eq!((run.peak, run.time()), (900, 4.0));
+        assert!(Run::parse("18 5 6 700 800").is_none(), "no span");
+    }
+}

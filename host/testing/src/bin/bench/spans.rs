@@ -6,7 +6,7 @@ use crate::clock::processor_time;
 use std::time::Duration;
 
 /// Microseconds of a call in each span: spans of at least `span`, one after
-/// another until `turn` is over.
+/// another until `turn` is over, after at least one call that does not count.
 pub fn measured(span: Duration, turn: Duration, mut once: impl FnMut()) -> Vec<f64> {
     let batch = batch(span / 20, &mut once);
     let begin = processor_time();
@@ -53,5 +53,17 @@ pub fn median(spans: &[f64]) -> f64 {
     match sorted.len() % 2 {
         1 => sorted[half],
         _ => (sorted[half - 1] + sorted[half]) / 2.0,
+    }
+}
+
+#[cfg(test)]
+mod tests {
+    use super::median;
+
+    #[test]
+    fn the_median_is_in_the_middle() {
+        assert_eq!(median(&[7.0]), 7.0);
+        assert_eq!(median(&[90.0, 1.0, 2.0]), 2.0);
+        assert_eq!(median(&[4.0, 100.0, 1.0, 2.0]), 3.0);
     }
 }
