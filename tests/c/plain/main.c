@@ -1,11 +1,12 @@
 /*
- * plain JOB MILLISECONDS INSTANCE [TABLE | MODEL | BOUND PROOF]
+ * plain JOB SPAN TURN INSTANCE [TABLE | MODEL | BOUND PROOF]
  *
- * Does a job once untimed, then again and again for so long, and prints the
- * refusal's number, two numbers of the answer (for a text its length and a
- * checksum), the microseconds of the fastest time, the bytes of output and
- * stores, and the most bytes that the process held. Each time the instance
- * file is read anew. All times are the process's own time on a processor.
+ * Does a job at least once untimed, then again and again in spans of at least
+ * SPAN milliseconds until TURN milliseconds are over. Prints the refusal's number,
+ * two numbers of the answer (for a text its length and a checksum), the bytes
+ * of output and stores, the most bytes that the process held, and for each
+ * span the microseconds of a call. Each time the instance file is read anew.
+ * All times are the process's own time on a processor.
  */
 #define _POSIX_C_SOURCE 199309L
 #include "plain.h"
@@ -64,6 +65,7 @@ struct task {
     size_t room;
     struct stores stores;
     uint64_t lent;
+    int refusal;
     uint64_t answer[2];
 };
 
@@ -162,34 +164,56 @@ static void lend(struct task *t)
     }
 }
 
+/* The microseconds of so many calls. */
+static double repeated(struct task *t, uint64_t calls)
+{
+    double begin = now();
+    for (uint64_t i = 0; i < calls; i++)
+        t->refusal = once(t);
+    return now() - begin;
+}
+
+/* How many calls take so many microseconds: the clock is looked at after as many, since a look takes time too. */
+static uint64_t calls_in(struct task *t, double long_enough)
+{
+    uint64_t calls = 1;
+    while (repeated(t, calls) < long_enough)
+        calls *= 2;
+    return calls;
+}
+
+/* Prints the microseconds of a call in spans of so many microseconds. */
+static void print_spans(struct task *t, uint64_t batch, double span, double turn)
+{
+    double begin = now();
+    do {
+        double took = 0, calls = 0;
+        while (took < span) {
+            took += repeated(t, batch);
+            calls += (double)batch;
+        }
+        printf(" %.4f", took / calls);
+    } while (now() - begin < turn);
+}
+
 int main(int count, char **words)
 {
-    if (count < 4)
+    if (count < 5)
         return 2;
-    struct task t = {.job = words[1], .file = load(words[3])};
+    struct task t = {.job = words[1], .file = load(words[4])};
+    double span = atof(words[2]) * 1e3, turn = atof(words[3]) * 1e3;
+    if (count > 6)
+        t.bound = (uint32_t)strtoul(words[5], 0, 10);
     if (count > 5)
-        t.bound = (uint32_t)strtoul(words[4], 0, 10);
-    if (count > 4)
         t.other = load(words[count - 1]);
     in.store = malloc(sizeof(uint16_t) * (2 * t.file.length + 1));
     lend(&t);
-    double begin = now();
-    int bad = once(&t);
-    /* Short calls are timed several at once: a look at the clock takes time too. */
-    double first = now() - begin, fastest = 1e18, turn = atof(words[2]) * 1e3;
-    int batch = first < 100 ? 1 + (int)(100 / (first + 1)) : 1;
-    begin = now();
-    do {
-        double start = now();
-        for (int i = 0; i < batch; i++)
-            bad = once(&t);
-        double took = (now() - start) / batch;
-        if (took < fastest)
-            fastest = took;
-    } while (now() - begin < turn);
+    uint64_t batch = calls_in(&t, span / 20);
     if (t.out)
         t.answer[1] = checksum(t.out, t.answer[0]);
-    printf("%d %llu %llu %.3f %llu %llu\n", bad, (unsigned long long)t.answer[0], (unsigned long long)t.answer[1], fastest,
+    printf("%d %llu %llu %llu %llu", t.refusal, (unsigned long long)t.answer[0], (unsigned long long)t.answer[1],
         (unsigned long long)t.lent, (unsigned long long)peak());
+    print_spans(&t, batch, span, turn);
+    printf("\n");
     return 0;
 }

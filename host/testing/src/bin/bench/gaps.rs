@@ -1,61 +1,59 @@
 //! The same proofs with ids skipped.
 
-use crate::proofs::{second_copies, Clauses};
-use crate::schools::{generated, learned_proof, BOUND};
-use crate::table::head;
+use crate::proofs::{second_copies, steps_of, Clauses};
+use crate::schools::{generated, recorded, Learned, BOUND};
+use crate::table::{head, GAPS};
 use crate::Bench;
 use testing::generate::Random;
 use testing::steps::{encode_steps, renumbered, with_gaps, Step};
 use timetable::engine;
 
 /// Prints what gaps cost.
-pub fn table(bench: &Bench) {
-    let columns = [
-        "proof, ids",
-        "engine",
-        "C",
-        "engine / the same without gaps",
-        "C / the same without gaps",
-        "engine / C",
-    ];
+pub fn table(bench: &Bench, learned: &[Learned]) {
     let said = "Copies: half of the hints name a clause of the proof, at random. Learned: the \
                 clauses that a search learned.";
-    head("Gaps in ids", said, &columns);
-    let lessons = bench.scale.learned[0];
-    let school = generated(lessons);
-    let clauses = Clauses::of(&school.instance, BOUND);
-    let copies = second_copies(&mut Random::new(2), &clauses, clauses.count() / 2);
-    rows(bench, "copies", &school.file, &copies);
-    let (file, steps) = learned_proof(lessons, bench.scale.hints);
-    rows(bench, "learned", &file, &steps);
+    head("Gaps in ids", said, &GAPS);
+    for school in recorded() {
+        let (bound, proof) = school.proof.expect("a recorded proof");
+        rows(
+            bench,
+            &school.name(),
+            (&school.file, bound),
+            &steps_of(proof),
+        );
+    }
+    for &lessons in bench.scale.shown {
+        let school = generated(lessons);
+        let clauses = Clauses::of(&school.instance, BOUND);
+        let steps = second_copies(&mut Random::new(2), &clauses, bench.scale.copies);
+        let name = format!("{}, copies", school.name());
+        rows(bench, &name, (&school.file, BOUND), &steps);
+    }
+    for one in learned {
+        let name = format!("{} lessons, learned", one.lessons);
+        rows(bench, &name, (&one.file, BOUND), &one.steps);
+    }
 }
 
 /// The proof without gaps, with the first id skipped, with every second one
 /// skipped, and with up to nine skipped between any two.
-fn rows(bench: &Bench, name: &str, file: &[u8], steps: &[Step]) {
-    let clauses = engine::sizes(file, BOUND)
-        .expect("an accepted file")
-        .clauses;
-    let formula = clauses as u32;
-    let proofs = [
-        ("no gap", steps.to_vec()),
-        (
-            "one skipped",
-            renumbered(steps, |id| id + u32::from(id > formula)),
-        ),
-        (
-            "every second skipped",
-            with_gaps(clauses as usize, steps, 1),
-        ),
-        ("up to nine skipped", sparse(clauses as usize, steps)),
-    ];
-    let number = BOUND.to_string();
-    let measured = proofs.map(|(ids, steps)| {
-        let inputs: [&[u8]; 3] = [file, number.as_bytes(), &encode_steps(&steps)];
-        bench.row("check", format!("{name}, {ids}"), &inputs, false)
-    });
-    for row in &measured {
-        println!("{}", row.against(&measured[0]));
+fn rows(bench: &Bench, name: &str, (file, bound): (&[u8], u64), steps: &[Step]) {
+    let sizes = engine::sizes(file, bound).expect("an accepted file");
+    let formula = sizes.clauses as usize;
+    let number = bound.to_string();
+    let row = |ids: &str, steps: &[Step]| {
+        let inputs: [&[u8]; 3] = [file, number.as_bytes(), &encode_steps(steps)];
+        bench.row("check", format!("{name}, {ids}"), &inputs, true)
+    };
+    let first = renumbered(steps, |id| id + u32::from(id > formula as u32));
+    let base = row("no gap", steps);
+    println!("{}", base.against(&base));
+    for row in [
+        row("one skipped", &first),
+        row("every second skipped", &with_gaps(formula, steps, 1)),
+        row("up to nine skipped", &sparse(formula, steps)),
+    ] {
+        println!("{}", row.against(&base));
     }
 }
 

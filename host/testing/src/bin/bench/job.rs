@@ -1,8 +1,8 @@
 //! A job done by the engine or by the reference in a process of its own, as the
-//! C program does it: once untimed, then again and again for so long.
+//! C program does it: at least once untimed, then again and again in spans.
 
-use crate::clock::processor_time;
 use crate::side::{Run, Side};
+use crate::spans::measured;
 use std::fs;
 use std::hint::black_box;
 use std::mem::size_of_val;
@@ -15,6 +15,7 @@ type Answer = Result<[u64; 2], Refusal>;
 
 /// What a job works on.
 struct Task {
+    span: Duration,
     turn: Duration,
     file: Vec<u8>,
     /// A timetable, a model or a proof.
@@ -24,12 +25,14 @@ struct Task {
 
 /// Does the job that `words` name, and prints what came of it.
 pub fn run(side: Side, words: &[String]) {
-    let [job, milliseconds, file, rest @ ..] = words else {
-        panic!("JOB MILLISECONDS INSTANCE are missing");
+    let [job, span, turn, file, rest @ ..] = words else {
+        panic!("JOB SPAN TURN INSTANCE are missing");
     };
+    let milliseconds = |word: &String| Duration::from_millis(word.parse().expect("milliseconds"));
     let load = |name: &String| fs::read(name).expect("an input");
     let task = Task {
-        turn: Duration::from_millis(milliseconds.parse().expect("milliseconds")),
+        span: milliseconds(span),
+        turn: milliseconds(turn),
         file: load(file),
         other: rest.last().map(load).unwrap_or_default(),
         bound: match rest {
@@ -111,27 +114,11 @@ fn by_reference(job: &str, task: &Task) -> Run {
     }
 }
 
-/// The fastest call of a turn. A proof without the empty clause is refused with
-/// 18 and its steps.
+/// Spans of calls. A proof without the empty clause is refused with 18 and its
+/// steps.
 fn timed(task: &Task, lent: usize, mut once: impl FnMut() -> Answer) -> Run {
-    let begin = processor_time();
-    let _ = once();
-    // Short calls are timed several at once: a look at the clock takes time too.
-    let first = processor_time() - begin;
-    let batch = 1 + (100 / (first.as_micros() + 1)) as u32;
-    let turn = processor_time();
-    let mut fastest = Duration::MAX;
-    let answer = loop {
-        let start = processor_time();
-        for _ in 1..batch {
-            let _ = black_box(once());
-        }
-        let answer = once();
-        fastest = fastest.min((processor_time() - start) / batch);
-        if processor_time() - turn >= task.turn {
-            break answer;
-        }
-    };
+    let mut answer = Ok([0, 0]);
+    let spans = measured(task.span, task.turn, || answer = black_box(once()));
     let (refusal, answer) = match answer {
         Ok(answer) => (0, answer),
         Err(Refusal { number, value }) => (number, [value, 0]),
@@ -139,7 +126,7 @@ fn timed(task: &Task, lent: usize, mut once: impl FnMut() -> Answer) -> Run {
     Run {
         refusal,
         answer,
-        microseconds: fastest.as_secs_f64() * 1e6,
+        spans,
         lent: lent as u64,
         peak: 0,
     }

@@ -4,10 +4,11 @@
 //!
 //! `cargo run --release --offline --bin bench` prints the tables of
 //! docs/BENCHMARKS.md; with `-- --short` the same on small inputs. Each time is
-//! the time on a processor of the fastest call of several turns, in which the
-//! sides alternate, so that a busy machine disturbs all alike. Each turn is a
-//! process of its own: `tests/c/plain`, compiled by `cc -O2`, or this program as
-//! `bench engine` or `bench reference` with the same arguments.
+//! time on a processor: a call is made again and again in spans of 20 ms, and
+//! the median of the spans of several turns counts, in which the sides
+//! alternate, so that a busy machine disturbs all alike. Each turn is a process
+//! of its own: `tests/c/plain`, compiled by `cc -O2`, or this program as `bench
+//! engine` or `bench reference` with the same arguments.
 
 mod clock;
 mod gaps;
@@ -15,21 +16,26 @@ mod job;
 mod proofs;
 mod schools;
 mod side;
+mod spans;
 mod table;
 mod worst;
 
-use side::{Side, Sides};
+use schools::Learned;
+use side::{Side, Sides, Turns};
 use std::process::ExitCode;
+use std::time::{Duration, Instant};
 use table::Row;
 
 /// How large the inputs of a run are.
 pub struct Scale {
-    /// Lessons of the generated schools, and the most of a check.
+    /// Lessons of the generated schools, and those of the table of operations.
     lessons: &'static [usize],
-    most_checked: usize,
+    shown: &'static [usize],
     /// Lessons of the schools of learned clauses, and their hints.
     learned: &'static [usize],
     hints: usize,
+    /// Clauses that the proofs with gaps copy once, and then once more.
+    copies: usize,
     /// Constraints of the formula of many ORs.
     ors: usize,
     /// The worst inputs have one in so many of their constraints.
@@ -38,20 +44,34 @@ pub struct Scale {
 
 const WHOLE: Scale = Scale {
     lessons: &[20, 50, 100, 200, 400, 800],
-    most_checked: 400,
+    shown: &[100, 400],
     learned: &[100, 400],
     hints: 4_000_000,
+    copies: 250_000,
     ors: 200,
     part: 1,
 };
 
 const SHORT: Scale = Scale {
-    lessons: &[20, 50],
-    most_checked: 50,
-    learned: &[20],
-    hints: 50_000,
+    lessons: &[20, 50, 100],
+    shown: &[100],
+    learned: &[100],
+    hints: 200_000,
+    copies: 50_000,
     ors: 20,
     part: 64,
+};
+
+const MANY: Turns = Turns {
+    least: 3,
+    most: 5,
+    enough: Duration::from_secs(8),
+};
+
+const FEW: Turns = Turns {
+    least: 1,
+    most: 3,
+    enough: Duration::from_secs(1),
 };
 
 /// The sides, and the size of what they are given.
@@ -77,8 +97,8 @@ impl Bench {
 fn main() -> ExitCode {
     let words: Vec<String> = std::env::args().skip(1).collect();
     let (turns, scale) = match words.first().map(String::as_str) {
-        None => (7, WHOLE),
-        Some("--short") => (3, SHORT),
+        None => (MANY, WHOLE),
+        Some("--short") => (FEW, SHORT),
         Some("engine") => return done(Side::Engine, &words[1..]),
         Some("reference") => return done(Side::Reference, &words[1..]),
         Some(_) => {
@@ -86,15 +106,35 @@ fn main() -> ExitCode {
             return ExitCode::from(2);
         }
     };
-    let mut bench = Bench {
-        sides: Sides::new(turns, 40),
+    let begin = Instant::now();
+    let before = load();
+    let hints = scale.hints;
+    let learned = scale
+        .learned
+        .iter()
+        .map(|&lessons| Learned::new(lessons, hints));
+    let learned: Vec<Learned> = learned.collect();
+    let bench = Bench {
+        sides: Sides::new(turns),
         scale,
     };
-    schools::tables(&bench);
-    gaps::table(&bench);
-    bench.sides.turns = turns.min(2);
+    schools::tables(&bench, &learned);
+    gaps::table(&bench, &learned);
+    drop(learned);
     worst::table(&bench);
+    let minutes = begin.elapsed().as_secs_f64() / 60.0;
+    println!(
+        "\nThe run took {minutes:.1} minutes. Load average before it {before}, after it {}.",
+        load()
+    );
     ExitCode::SUCCESS
+}
+
+/// How many programs wanted a processor in the last minute: on an idle machine
+/// 0 before a run and 1 after it.
+fn load() -> String {
+    let said = std::fs::read_to_string("/proc/loadavg").unwrap_or_default();
+    said.split(' ').next().unwrap_or_default().into()
 }
 
 /// A turn of one side.

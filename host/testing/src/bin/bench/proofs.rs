@@ -2,7 +2,8 @@
 //! they are answered with 18 after their last step.
 
 use testing::generate::Random;
-use testing::reference::{walk_with_tail, write_number, Instance, Literal, Sink, ADD};
+use testing::reference::{read_number, walk_with_tail, write_number};
+use testing::reference::{Instance, Literal, Sink, ADD};
 use testing::steps::Step;
 
 /// The hard clauses and the tail's, one after another.
@@ -94,4 +95,39 @@ pub fn long_clauses(clauses: &Clauses, length: usize, count: usize) -> Vec<u8> {
         write_step(&mut proof, clauses.count() + at + 1, &literals, hint);
     }
     proof
+}
+
+/// The steps of an accepted proof.
+pub fn steps_of(proof: &[u8]) -> Vec<Step> {
+    let mut at = 0;
+    let mut steps = Vec::new();
+    while at < proof.len() {
+        let adds = proof[at] == ADD;
+        at += 1;
+        if !adds {
+            let ids = list(proof, &mut at);
+            steps.push(Step::Delete { ids });
+            continue;
+        }
+        let id = number(proof, &mut at);
+        let codes = list(proof, &mut at);
+        steps.push(Step::Add {
+            id,
+            literals: codes.into_iter().filter_map(Literal::from_code).collect(),
+            hints: list(proof, &mut at),
+        });
+    }
+    steps
+}
+
+/// The numbers before a 0.
+fn list(proof: &[u8], at: &mut usize) -> Vec<u32> {
+    let numbers = std::iter::from_fn(|| Some(number(proof, at)).filter(|&number| number > 0));
+    numbers.collect()
+}
+
+fn number(proof: &[u8], at: &mut usize) -> u32 {
+    let (number, end) = read_number(proof, *at).expect("a number");
+    *at = end;
+    number
 }

@@ -2,7 +2,7 @@
 //! proofs of many hints; then growth and memory from the same runs.
 
 use crate::proofs::{copies, Clauses};
-use crate::table::{grouped, head, Row, MEMORY, OPERATIONS};
+use crate::table::{grouped, head, Row, GROWTH, MEMORY, OPERATIONS};
 use crate::Bench;
 use testing::generate::{encode, many_ors, model, planned_school, school, timetable, Plan, Random};
 use testing::prover::{clause_list, lemmas};
@@ -28,58 +28,69 @@ pub struct School {
     pub instance: Instance,
     pub file: Vec<u8>,
     table: Vec<u8>,
-    /// Whether it is one of the generated ones, whose growth is looked at.
-    generated: bool,
+    /// A recorded refutation and its bound.
+    pub proof: Option<(u64, &'static [u8])>,
+    /// Whether its times stand in the table of operations.
+    shown: bool,
 }
 
 /// A row with how much it worked on, for growth.
 struct Measured {
     row: Row,
-    lessons: usize,
     generated: bool,
     /// Bytes of input or of text, variables, or clauses.
     amount: u64,
 }
 
+/// Clauses that a search on a planned school learned.
+pub struct Learned {
+    pub lessons: usize,
+    pub file: Vec<u8>,
+    pub steps: Vec<Step>,
+}
+
 /// Prints the table of operations, then growth and memory.
-pub fn tables(bench: &Bench) {
+pub fn tables(bench: &Bench, learned: &[Learned]) {
     let mut schools = recorded();
-    schools.extend(
-        bench
-            .scale
-            .lessons
-            .iter()
-            .map(|&lessons| generated(lessons)),
-    );
-    let said = "Below 1 the engine is faster.";
-    head("Operations", said, &OPERATIONS);
+    let generated = bench.scale.lessons.iter().map(|&lessons| {
+        let shown = bench.scale.shown.contains(&lessons);
+        School {
+            shown,
+            ..generated(lessons)
+        }
+    });
+    schools.extend(generated);
+    head("Operations", "Below 1 the engine is faster.", &OPERATIONS);
     let mut all = small_operations(bench, &schools);
     all.extend(formulas(bench, &schools));
     all.extend(checks(bench, &schools));
     all.extend(empty_proofs(bench, &schools));
     ors(bench);
-    learned(bench);
+    many_hints(bench, learned);
     growth(&all);
     memory(&all);
 }
 
 /// The schools in host/schools.
-fn recorded() -> Vec<School> {
-    let toy: [&[u8]; 2] = [
+pub fn recorded() -> Vec<School> {
+    let toy: [&[u8]; 3] = [
         include_bytes!("../../../../schools/toy.instance"),
         include_bytes!("../../../../schools/toy.timetable"),
+        include_bytes!("../../../../schools/toy.proof"),
     ];
-    let small: [&[u8]; 2] = [
+    let small: [&[u8]; 3] = [
         include_bytes!("../../../../schools/small.instance"),
         include_bytes!("../../../../schools/small.timetable"),
+        include_bytes!("../../../../schools/small.proof"),
     ];
-    [(6, toy), (21, small)]
-        .map(|(lessons, [file, table])| School {
+    [(6, 3, toy), (21, 10, small)]
+        .map(|(lessons, bound, [file, table, proof])| School {
             lessons,
             instance: Instance::read(file).expect("an accepted file"),
             file: file.to_vec(),
             table: table.to_vec(),
-            generated: false,
+            proof: Some((bound, proof)),
+            shown: true,
         })
         .into()
 }
@@ -92,36 +103,38 @@ pub fn generated(lessons: usize) -> School {
         file: encode(&instance),
         table: timetable(&mut random, &instance),
         instance,
-        generated: true,
+        proof: None,
+        shown: false,
     }
 }
 
 impl School {
     fn measured(&self, row: Row, amount: u64) -> Measured {
-        println!("{}", row.line());
+        if self.shown {
+            println!("{}", row.line());
+        }
         Measured {
             row,
-            lessons: self.lessons,
-            generated: self.generated,
+            generated: self.proof.is_none(),
             amount,
         }
     }
 
-    fn name(&self) -> String {
+    pub fn name(&self) -> String {
         format!("{} lessons", self.lessons)
     }
 }
 
 fn small_operations(bench: &Bench, schools: &[School]) -> Vec<Measured> {
     let read = schools.iter().map(|school| {
-        let row = bench.row("read", school.name(), &[&school.file], true);
+        let row = bench.row("read", school.name(), &[&school.file], school.shown);
         let amount = row.bytes as u64;
         school.measured(row, amount)
     });
     let read: Vec<Measured> = read.collect();
     let score = schools.iter().map(|school| {
         let inputs: [&[u8]; 2] = [&school.file, &school.table];
-        let row = bench.row("score", school.name(), &inputs, true);
+        let row = bench.row("score", school.name(), &inputs, school.shown);
         let amount = row.bytes as u64;
         school.measured(row, amount)
     });
@@ -142,51 +155,41 @@ fn formulas(bench: &Bench, schools: &[School]) -> Vec<Measured> {
     let files: Vec<(Vec<u8>, Vec<u8>)> = schools.iter().map(soft).collect();
     let mut all = Vec::new();
     for (school, (file, _)) in schools.iter().zip(&files) {
-        let row = bench.row("text", school.name(), &[file], true);
+        let row = bench.row("text", school.name(), &[file], school.shown);
         let amount = row.engine().answer[0];
         all.push(school.measured(row, amount));
     }
     for (school, (file, model)) in schools.iter().zip(&files) {
-        let row = bench.row("decode", school.name(), &[file, model], true);
+        let row = bench.row("decode", school.name(), &[file, model], school.shown);
         all.push(school.measured(row, model.len() as u64));
     }
     all
 }
 
-/// Refutations of the schools in host/schools, then proofs that add a copy of
-/// each clause of a larger school.
+/// Refutations of the schools in host/schools; of the others, proofs that add a
+/// copy of each clause.
 fn checks(bench: &Bench, schools: &[School]) -> Vec<Measured> {
-    let toy = include_bytes!("../../../../schools/toy.proof");
-    let small = include_bytes!("../../../../schools/small.proof");
-    let mut all = vec![
-        check(bench, &schools[0], "check", 3, toy),
-        check(bench, &schools[1], "check", 10, small),
-    ];
-    for school in &schools[2..] {
-        if school.lessons <= bench.scale.most_checked {
+    let check = |school: &School| match school.proof {
+        Some((bound, proof)) => check(bench, school, "check", bound, proof),
+        None => {
             let proof = copies(&Clauses::of(&school.instance, BOUND));
-            all.push(check(bench, school, "check", BOUND, &proof));
+            check(bench, school, "check", BOUND, &proof)
         }
-    }
-    all
+    };
+    schools.iter().map(check).collect()
 }
 
 fn empty_proofs(bench: &Bench, schools: &[School]) -> Vec<Measured> {
-    let fits = |school: &&School| engine::sizes(&school.file, BOUND).is_ok();
-    let schools = schools.iter().filter(fits);
-    schools
-        .map(|school| check(bench, school, EMPTY, BOUND, &[]))
-        .collect()
+    let check = |school: &School| check(bench, school, EMPTY, BOUND, &[]);
+    schools.iter().map(check).collect()
 }
 
 fn check(bench: &Bench, school: &School, job: &'static str, bound: u64, proof: &[u8]) -> Measured {
     let number = bound.to_string();
     let inputs: [&[u8]; 3] = [&school.file, number.as_bytes(), proof];
-    let row = bench.row(job, school.name(), &inputs, true);
-    let clauses = engine::sizes(&school.file, bound)
-        .expect("an accepted file")
-        .clauses;
-    let amount = clauses + row.engine().answer[0];
+    let row = bench.row(job, school.name(), &inputs, school.shown);
+    let sizes = engine::sizes(&school.file, bound).expect("an accepted file");
+    let amount = sizes.clauses + row.engine().answer[0];
     school.measured(row, amount)
 }
 
@@ -210,59 +213,57 @@ fn ors(bench: &Bench) {
 }
 
 /// Checks of clauses that a search learned.
-fn learned(bench: &Bench) {
-    for &lessons in bench.scale.learned {
-        let (file, steps) = learned_proof(lessons, bench.scale.hints);
+fn many_hints(bench: &Bench, learned: &[Learned]) {
+    for learned in learned {
         let number = BOUND.to_string();
-        let hints: usize = steps.iter().map(|step| step.hints().len()).sum();
-        let name = format!("{lessons} lessons, {} hints", grouped(hints as u64));
-        let inputs: [&[u8]; 3] = [&file, number.as_bytes(), &encode_steps(&steps)];
-        println!("{}", bench.row("check", name, &inputs, true).line());
+        let proof = encode_steps(&learned.steps);
+        let inputs: [&[u8]; 3] = [&learned.file, number.as_bytes(), &proof];
+        let row = bench.row("check", learned.name(), &inputs, true);
+        println!("{}", row.line());
     }
 }
 
-/// A planned school, and clauses that a search on it learned.
-pub fn learned_proof(lessons: usize, hints: usize) -> (Vec<u8>, Vec<Step>) {
-    let mut random = Random::new(1);
-    let plan = Plan {
-        lessons,
-        periods: 5,
-    };
-    let instance = planned_school(&mut random, plan);
-    let sizes = Sizes::of(&instance, Some(BOUND)).expect("a formula that is small enough");
-    let clauses = clause_list(&instance, Some(BOUND));
-    let decided = 2 * instance.events.len() * instance.times;
-    let variables = [sizes.variables as usize, decided];
-    let steps = lemmas(&mut random, variables, &clauses, hints);
-    (encode(&instance), steps)
+impl Learned {
+    pub fn new(lessons: usize, hints: usize) -> Learned {
+        let mut random = Random::new(1);
+        let plan = Plan {
+            lessons,
+            periods: 5,
+        };
+        let instance = planned_school(&mut random, plan);
+        let sizes = Sizes::of(&instance, Some(BOUND)).expect("a formula that is small enough");
+        let clauses = clause_list(&instance, Some(BOUND));
+        let decided = 2 * instance.events.len() * instance.times;
+        let variables = [sizes.variables as usize, decided];
+        Learned {
+            lessons,
+            file: encode(&instance),
+            steps: lemmas(&mut random, variables, &clauses, hints),
+        }
+    }
+
+    pub fn name(&self) -> String {
+        let hints: usize = self.steps.iter().map(|step| step.hints().len()).sum();
+        format!("{} lessons, {} hints", self.lessons, grouped(hints as u64))
+    }
 }
 
 /// What one byte, variable or clause takes.
 fn growth(all: &[Measured]) {
-    let mut lessons: Vec<usize> = Vec::new();
-    for measured in all.iter().filter(|measured| measured.generated) {
-        if !lessons.contains(&measured.lessons) {
-            lessons.push(measured.lessons);
-        }
-    }
-    let names: Vec<String> = lessons
-        .iter()
-        .map(|count| format!("{count} lessons"))
-        .collect();
-    let mut columns = vec!["operation", "nanoseconds for each"];
+    let generated: Vec<&Measured> = all.iter().filter(|one| one.generated).collect();
+    let reads = generated.iter().filter(|one| one.row.job == "read");
+    let names: Vec<String> = reads.map(|one| one.row.input.clone()).collect();
+    let mut columns = GROWTH.to_vec();
     columns.extend(names.iter().map(String::as_str));
-    head("Growth", "The engine's times of the table above.", &columns);
+    head("Growth", "What each takes as schools grow.", &columns);
     for (job, each) in JOBS {
-        let cell = |&count: &usize| {
-            let same =
-                |one: &&Measured| one.generated && one.lessons == count && one.row.job == job;
-            all.iter().find(same).map_or("–".into(), |one| {
-                let nanoseconds = 1e3 * one.row.engine().microseconds;
-                format!("{:.2}", nanoseconds / one.amount as f64)
-            })
-        };
-        let cells: Vec<String> = lessons.iter().map(cell).collect();
-        println!("| {job} | {each} | {} |", cells.join(" | "));
+        let same = generated.iter().filter(|one| one.row.job == job);
+        let same: Vec<(&Row, u64)> = same.map(|one| (&one.row, one.amount)).collect();
+        for (side, name) in ["engine", "C"].into_iter().enumerate() {
+            let cell = |(row, amount): &(&Row, u64)| row.nanoseconds(side, *amount);
+            let cells: Vec<String> = same.iter().map(cell).collect();
+            println!("| {job} | {each} | {name} | {} |", cells.join(" | "));
+        }
     }
 }
 

@@ -1,9 +1,15 @@
 //! The three that are compared, each as a program with the same arguments:
-//! `JOB MILLISECONDS INSTANCE [TABLE | MODEL | BOUND PROOF]`.
+//! `JOB SPAN TURN INSTANCE [TABLE | MODEL | BOUND PROOF]`.
 
+use crate::spans::median;
 use std::fs;
 use std::path::{Path, PathBuf};
 use std::process::Command;
+use std::time::{Duration, Instant};
+
+/// Milliseconds of a span, and of the spans of one process.
+const SPAN: u64 = 20;
+const TURN: u64 = 60;
 
 /// Who does a job.
 #[derive(Clone, Copy, PartialEq, Eq)]
@@ -13,52 +19,80 @@ pub enum Side {
     Reference,
 }
 
-/// What a program printed: the refusal's number, two numbers of the answer, its
-/// fastest time, the bytes of output and stores, and the most bytes held.
-#[derive(Clone, Copy)]
+/// What a program printed: the refusal's number, two numbers of the answer, the
+/// bytes of output and stores, the most bytes held, and microseconds of a call
+/// in each span.
+#[derive(Clone, Debug)]
 pub struct Run {
     pub refusal: u32,
     pub answer: [u64; 2],
-    pub microseconds: f64,
     pub lent: u64,
     pub peak: u64,
+    pub spans: Vec<f64>,
 }
 
 impl Run {
+    /// Microseconds of a call.
+    pub fn time(&self) -> f64 {
+        median(&self.spans)
+    }
+
     pub fn print(&self) {
         let [first, second] = self.answer;
+        let spans: Vec<String> = self.spans.iter().map(|one| format!("{one:.4}")).collect();
         println!(
-            "{} {first} {second} {:.3} {} {}",
-            self.refusal, self.microseconds, self.lent, self.peak
+            "{} {first} {second} {} {} {}",
+            self.refusal,
+            self.lent,
+            self.peak,
+            spans.join(" ")
         );
     }
 
     fn parse(said: &str) -> Option<Run> {
         let words: Vec<&str> = said.split_whitespace().collect();
-        let [refusal, first, second, time, lent, peak] = words[..] else {
+        let [refusal, first, second, lent, peak, ref spans @ ..] = words[..] else {
             return None;
         };
+        let spans: Result<Vec<f64>, _> = spans.iter().map(|one| one.parse()).collect();
         Some(Run {
             refusal: refusal.parse().ok()?,
             answer: [first.parse().ok()?, second.parse().ok()?],
-            microseconds: time.parse().ok()?,
             lent: lent.parse().ok()?,
             peak: peak.parse().ok()?,
+            spans: spans.ok().filter(|spans| !spans.is_empty())?,
         })
     }
+
+    /// Takes the spans of a later turn, which answers alike.
+    fn add(&mut self, later: Run) {
+        self.peak = self.peak.max(later.peak);
+        self.spans.extend(later.spans);
+    }
+
+    fn same(&self, other: &Run) -> bool {
+        (self.refusal, self.answer) == (other.refusal, other.answer)
+    }
+}
+
+/// How often the sides take turns: at least and at most so often, and in between
+/// until a row has taken so long.
+#[derive(Clone, Copy)]
+pub struct Turns {
+    pub least: usize,
+    pub most: usize,
+    pub enough: Duration,
 }
 
 /// The programs, and the folder of their inputs.
 pub struct Sides {
     folder: PathBuf,
-    /// Turns of each side, and how long one is.
-    pub turns: usize,
-    pub milliseconds: u64,
+    turns: Turns,
 }
 
 impl Sides {
     /// Compiles the C program.
-    pub fn new(turns: usize, milliseconds: u64) -> Sides {
+    pub fn new(turns: Turns) -> Sides {
         let sources = Path::new(env!("CARGO_MANIFEST_DIR")).join("../../tests/c/plain");
         let folder = std::env::temp_dir().join(format!("plain-{}", std::process::id()));
         fs::create_dir_all(&folder).expect("a folder for the C program");
@@ -70,38 +104,37 @@ impl Sides {
             .status()
             .expect("cc runs");
         assert!(status.success(), "the C program compiles");
-        Sides {
-            folder,
-            turns,
-            milliseconds,
-        }
+        Sides { folder, turns }
     }
 
-    /// The fastest run of each side, which take turns. All must answer alike,
-    /// with acceptance or, for a proof without the empty clause, with 18.
+    /// The spans of each side, which take turns. All must answer alike, with
+    /// acceptance or, for a proof without the empty clause, with 18.
     /// A job's name may say more after a comma.
     pub fn compare(&self, job: &str, inputs: &[&[u8]], sides: &[Side]) -> Vec<Run> {
+        let begin = Instant::now();
         let arguments = self.written(inputs);
         let job = job.split(',').next().unwrap_or(job);
-        let mut best: Vec<Run> = Vec::new();
-        for turn in 0..self.turns {
-            for (index, &side) in sides.iter().enumerate() {
-                let run = self.run(side, job, &arguments);
-                assert!(
-                    matches!(run.refusal, 0 | 18),
-                    "{job} is refused with {}",
-                    run.refusal
-                );
-                match turn {
-                    0 => best.push(run),
-                    _ if run.microseconds < best[index].microseconds => best[index] = run,
-                    _ => {}
-                }
-                let same = (run.refusal, run.answer) == (best[0].refusal, best[0].answer);
-                assert!(same, "{job}: {:?} and {:?}", run.answer, best[0].answer);
+        let turn = || -> Vec<Run> {
+            let run = |&side: &Side| self.run(side, job, &arguments);
+            sides.iter().map(run).collect()
+        };
+        let mut all = turn();
+        for done in 1..self.turns.most {
+            if done >= self.turns.least && begin.elapsed() >= self.turns.enough {
+                break;
             }
+            let later = turn();
+            all.iter_mut().zip(later).for_each(|(run, later)| {
+                assert!(run.same(&later), "{job}: {run:?} and {later:?}");
+                run.add(later);
+            });
         }
-        best
+        let accepted = matches!(all[0].refusal, 0 | 18);
+        assert!(accepted, "{job} is refused with {}", all[0].refusal);
+        for run in &all {
+            assert!(run.same(&all[0]), "{job}: {run:?} and {:?}", all[0]);
+        }
+        all
     }
 
     /// Inputs as files, but a bound, which stands between two of them, as it is.
@@ -130,7 +163,7 @@ impl Sides {
             Side::Reference => command.arg("reference"),
         };
         let output = command
-            .args([job, &self.milliseconds.to_string()])
+            .args([job, &SPAN.to_string(), &TURN.to_string()])
             .args(arguments)
             .output()
             .expect("the program runs");
@@ -145,5 +178,22 @@ impl Sides {
 impl Drop for Sides {
     fn drop(&mut self) {
         let _ = fs::remove_dir_all(&self.folder);
+    }
+}
+
+#[cfg(test)]
+mod tests {
+    use super::Run;
+
+    #[test]
+    fn spans_are_read_and_gathered() {
+        let mut run = Run::parse("18 5 6 700 800 1.5 4\n").expect("a run");
+        assert_eq!((run.refusal, run.answer), (18, [5, 6]));
+        assert_eq!((run.lent, run.peak, run.time()), (700, 800, 2.75));
+        let later = Run::parse("18 5 6 700 900 9").expect("a run");
+        assert!(run.same(&later));
+        run.add(later);
+        assert_eq!((run.peak, run.time()), (900, 4.0));
+        assert!(Run::parse("18 5 6 700 800").is_none(), "no span");
     }
 }

@@ -20,59 +20,84 @@ impl Row {
         &self.runs[1]
     }
 
-    /// The engine's time as so many of another's.
-    fn ratio(&self, other: Option<&Run>) -> String {
-        other.map_or("–".into(), |other| {
-            format!("{:.2}", self.engine().microseconds / other.microseconds)
-        })
-    }
-
     /// A line of the table of operations.
     pub fn line(&self) -> String {
         let reference = self.runs.get(2);
-        format!(
-            "| {} | {} | {} | {} | {} | {} | {} | {} |",
-            self.job,
-            self.input,
+        line(&[
+            self.job.into(),
+            self.input.clone(),
             grouped(self.bytes as u64),
             time(self.engine()),
             time(self.c()),
-            reference.map_or("–".into(), time),
-            self.ratio(Some(self.c())),
-            self.ratio(reference)
-        )
+            reference.map_or(NONE.into(), time),
+            ratio(self.engine(), Some(self.c())),
+            ratio(self.engine(), reference),
+        ])
     }
 
-    /// A line of a table with memory.
+    /// A line of the table of memory.
     pub fn memory(&self) -> String {
         let [engine, c] = [self.engine(), self.c()];
-        format!(
-            "| {} | {} | {} | {} | {} | {} | {} | {} | {} |",
-            self.input,
-            self.job,
+        line(&[
+            self.job.into(),
+            self.input.clone(),
+            grouped(self.bytes as u64),
+            megabytes(engine.lent),
+            megabytes(engine.peak),
+            megabytes(c.peak),
+            format!("{:.2}", engine.peak as f64 / c.peak as f64),
+        ])
+    }
+
+    /// A line of the table of worst inputs.
+    pub fn worst(&self) -> String {
+        let [engine, c] = [self.engine(), self.c()];
+        line(&[
+            self.job.into(),
+            self.input.clone(),
             grouped(self.bytes as u64),
             time(engine),
             time(c),
-            self.ratio(Some(c)),
+            ratio(engine, Some(c)),
             megabytes(engine.lent),
             megabytes(engine.peak),
-            megabytes(c.peak)
-        )
+            megabytes(c.peak),
+        ])
     }
 
     /// A line of the table of gaps, against the same proof without gaps.
     pub fn against(&self, without: &Row) -> String {
-        let times = |one: &Run, other: &Run| one.microseconds / other.microseconds;
-        format!(
-            "| {} | {} | {} | {:.2} | {:.2} | {} |",
-            self.input,
-            time(self.engine()),
-            time(self.c()),
-            times(self.engine(), without.engine()),
-            times(self.c(), without.c()),
-            self.ratio(Some(self.c()))
-        )
+        let [engine, c] = [self.engine(), self.c()];
+        line(&[
+            self.input.clone(),
+            time(engine),
+            time(c),
+            self.runs.get(2).map_or(NONE.into(), time),
+            ratio(engine, Some(without.engine())),
+            ratio(c, Some(without.c())),
+            ratio(engine, Some(c)),
+            ratio(engine, self.runs.get(2)),
+        ])
     }
+
+    /// Nanoseconds of a side for each of so many, for the table of growth.
+    pub fn nanoseconds(&self, side: usize, amount: u64) -> String {
+        format!("{:.2}", 1e3 * self.runs[side].time() / amount as f64)
+    }
+}
+
+/// What stands for a side that took no part.
+const NONE: &str = "–";
+
+fn line(cells: &[String]) -> String {
+    format!("| {} |", cells.join(" | "))
+}
+
+/// One's time as so many of another's.
+fn ratio(one: &Run, other: Option<&Run>) -> String {
+    other.map_or(NONE.into(), |other| {
+        format!("{:.2}", one.time() / other.time())
+    })
 }
 
 /// A heading with what is said of its table, and the table's head.
@@ -93,9 +118,32 @@ pub const OPERATIONS: [&str; 8] = [
     "engine / reference",
 ];
 
-pub const MEMORY: [&str; 9] = [
-    "input",
+pub const GROWTH: [&str; 3] = ["operation", "nanoseconds for each", "side"];
+
+pub const MEMORY: [&str; 7] = [
     "operation",
+    "input",
+    "bytes of input",
+    "output and stores",
+    "engine's process",
+    "C's process",
+    "engine / C",
+];
+
+pub const GAPS: [&str; 8] = [
+    "proof, ids",
+    "engine",
+    "C",
+    "reference",
+    "engine / the same without gaps",
+    "C / the same without gaps",
+    "engine / C",
+    "engine / reference",
+];
+
+pub const WORST: [&str; 9] = [
+    "operation",
+    "input",
     "bytes of input",
     "engine",
     "C",
@@ -105,15 +153,15 @@ pub const MEMORY: [&str; 9] = [
     "C's process",
 ];
 
-pub fn time(run: &Run) -> String {
-    match run.microseconds {
+fn time(run: &Run) -> String {
+    match run.time() {
         few if few < 1e3 => format!("{few:.1} µs"),
         more if more < 1e6 => format!("{:.2} ms", more / 1e3),
         many => format!("{:.2} s", many / 1e6),
     }
 }
 
-pub fn megabytes(bytes: u64) -> String {
+fn megabytes(bytes: u64) -> String {
     format!("{:.1} MB", bytes as f64 / 1e6)
 }
 
@@ -128,4 +176,76 @@ pub fn grouped(number: u64) -> String {
         out.push(digit);
     }
     out
+}
+
+#[cfg(test)]
+mod tests {
+    use super::*;
+
+    fn run(spans: &[f64], peak: u64) -> Run {
+        Run {
+            refusal: 0,
+            answer: [0, 0],
+            lent: 1_500_000,
+            peak,
+            spans: spans.to_vec(),
+        }
+    }
+
+    /// The medians are 30 µs of the engine, 20 µs of C and 1.2 ms of the
+    /// reference; neither the fastest spans nor the means have these ratios.
+    fn row(runs: usize) -> Row {
+        let all = [
+            run(&[30.0, 1.0, 500.0], 6_000_000),
+            run(&[19.0, 900.0, 2.0, 21.0], 4_000_000),
+            run(&[1_200.0], 9_000_000),
+        ];
+        Row {
+            job: "check",
+            input: "6 lessons".into(),
+            bytes: 1_234_567,
+            runs: all[..runs].to_vec(),
+        }
+    }
+
+    #[test]
+    fn a_line_has_the_ratios_of_medians() {
+        let line = "| check | 6 lessons | 1,234,567 | 30.0 µs | 20.0 µs | 1.20 ms | 1.50 | 0.03 |";
+        assert_eq!(row(3).line(), line);
+        let two = "| check | 6 lessons | 1,234,567 | 30.0 µs | 20.0 µs | – | 1.50 | – |";
+        assert_eq!(row(2).line(), two);
+    }
+
+    #[test]
+    fn gaps_are_set_against_the_same_proof_without_them() {
+        let mut gaps = row(3);
+        gaps.input = "6 lessons, one skipped".into();
+        gaps.runs[0].spans = vec![45.0];
+        gaps.runs[1].spans = vec![22.0];
+        let line =
+            "| 6 lessons, one skipped | 45.0 µs | 22.0 µs | 1.20 ms | 1.50 | 1.10 | 2.05 | 0.04 |";
+        assert_eq!(gaps.against(&row(3)), line);
+        let itself = "| 6 lessons | 30.0 µs | 20.0 µs | 1.20 ms | 1.00 | 1.00 | 1.50 | 0.03 |";
+        assert_eq!(row(3).against(&row(3)), itself);
+    }
+
+    #[test]
+    fn growth_and_memory() {
+        assert_eq!(row(2).nanoseconds(0, 400), "75.00");
+        assert_eq!(row(2).nanoseconds(1, 400), "50.00");
+        let memory = "| check | 6 lessons | 1,234,567 | 1.5 MB | 6.0 MB | 4.0 MB | 1.50 |";
+        assert_eq!(row(2).memory(), memory);
+        let worst =
+            "| check | 6 lessons | 1,234,567 | 30.0 µs | 20.0 µs | 1.50 | 1.5 MB | 6.0 MB | 4.0 MB |";
+        assert_eq!(row(2).worst(), worst);
+    }
+
+    #[test]
+    fn a_line_has_a_cell_for_each_column() {
+        let cells = |line: String| line.matches('|').count() - 1;
+        assert_eq!(cells(row(3).line()), OPERATIONS.len());
+        assert_eq!(cells(row(3).memory()), MEMORY.len());
+        assert_eq!(cells(row(3).against(&row(3))), GAPS.len());
+        assert_eq!(cells(row(3).worst()), WORST.len());
+    }
 }

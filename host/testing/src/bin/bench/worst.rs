@@ -3,7 +3,7 @@
 use crate::gaps::sparse;
 use crate::proofs::{long_clauses, second_copies, Clauses};
 use crate::schools::{generated, BOUND};
-use crate::table::{grouped, head, MEMORY};
+use crate::table::{grouped, head, WORST};
 use crate::Bench;
 use testing::generate::{encode, idle_limits, long_tail, many_variables, model, Random};
 use testing::reference::{Instance, LARGEST_BOUND, LARGEST_FORMULA};
@@ -20,7 +20,7 @@ pub fn table(bench: &Bench) {
         1 => String::new(),
         _ => format!("Inputs of a {part}th of their size. "),
     } + "A check is of the empty proof where nothing else is said.";
-    head("Worst accepted inputs", &said, &MEMORY);
+    head("Worst accepted inputs", &said, &WORST);
     let mut random = Random::new(1);
     let idle = idle_limits(&mut random, MOST_CONSTRAINTS / part);
     all_jobs(bench, "idle limits", &idle, BOUND);
@@ -38,8 +38,7 @@ pub fn table(bench: &Bench) {
     check(bench, &name, &encode(&many.0), BOUND, &proof);
     let (tail, _) = long_tail(&mut random, LARGEST_BOUND, variables);
     check(bench, "tail at 4,095", &encode(&tail), LARGEST_BOUND, &[]);
-    let lessons = bench.scale.learned[0];
-    let school = generated(lessons);
+    let school = generated(bench.scale.shown[0]);
     let clauses = Clauses::of(&school.instance, BOUND);
     let sizes = engine::sizes(&school.file, BOUND).expect("an accepted file");
     // As many literals in all, in clauses just above a trail of 4,096 and in the longest.
@@ -68,7 +67,8 @@ fn all_jobs(bench: &Bench, name: &str, (instance, table): &(Instance, Vec<u8>), 
         ("decode", vec![&file, &model]),
     ];
     for (job, inputs) in jobs {
-        println!("{}", bench.row(job, name.clone(), &inputs, false).memory());
+        let row = bench.row(job, name.clone(), &inputs, false);
+        println!("{}", row.worst());
     }
     check(bench, &name, &file, bound, &[]);
 }
@@ -76,10 +76,6 @@ fn all_jobs(bench: &Bench, name: &str, (instance, table): &(Instance, Vec<u8>), 
 fn check(bench: &Bench, name: &str, file: &[u8], bound: u64, proof: &[u8]) {
     let number = bound.to_string();
     let inputs = [file, number.as_bytes(), proof];
-    println!(
-        "{}",
-        bench
-            .row("check", name.to_string(), &inputs, false)
-            .memory()
-    );
+    let row = bench.row("check", name.to_string(), &inputs, false);
+    println!("{}", row.worst());
 }
