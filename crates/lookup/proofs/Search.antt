@@ -13,6 +13,7 @@ use Rattle.directory.specs.Rows.{noRow, Rising}
 use Rattle.lookup.specs.Lookup.{started, upward, downward, narrowed, seek, Found, hit, miss, Finds}
 use Rattle.directory.specs.Directory.{rowsOf}
 use Rattle.lookup.specs.Lookup.{lookUp}
+use Rattle.lookup.proofs.Aims.{aimed-within}
 
 -- the place that is looked at next lies between the bounds, and these within the directory's cap rows
 pub record Bounded (cap : ℕ) (p : Probe) : Type 0 where
@@ -33,7 +34,7 @@ unfolding narrowed
 narrows s row id = go (eqb (row .id) id) refl (ltb (row .id) id) refl
   where
     go : (t : Bool) → eqb (row .id) id ≡ t → (u : Bool) → ltb (row .id) id ≡ u
-        → Narrowed s row id (cond t (record { lo = s .hi; hi = s .hi; at = s .at; hit = row })
+        → Narrowed s row id (cond t (record { lo = s .hi; hi = s .hi; at = s .at; hit = row; below = s .below; above = s .above; left = s .left })
         (cond u (upward s (id - row .id)) (downward s (row .id - id))))
     go true t u e = met (eqb-true (row .id) id t) refl refl refl refl
     go false t true e = above (ltb-true (row .id) id e) refl
@@ -51,8 +52,22 @@ module _ (p : Probe) (row : Row) (id : ℕ) (l : p .lo ≤ p .at) (h : p .at < p
 
   pub bounded : (cap : ℕ) → p .hi ≤ cap → (r : Probe) → Narrowed p row id r → Bounded cap r
   bounded cap k r (met e lo hi x y) = record { inside = λ m. absurd (omega arith); high = omega arith }
-  bounded cap k r (above e q) = rw q (record { inside = λ m. (omega arith, omega arith); high = omega arith })
-  bounded cap k r (below e q) = rw q (record { inside = λ m. (omega arith, omega arith); high = omega arith })
+  bounded cap k r (above e q) =
+      rw q (record {
+        inside =
+            λ m.
+            let i = aimed-within (p .hi - (p .at + 1)) (id - row .id) (p .above) (p .left - min (p .left) 1) in
+            (omega arith, omega arith);
+        high = k;
+      })
+  bounded cap k r (below e q) =
+      rw q (record {
+        inside =
+            λ m.
+            let i = aimed-within (p .at - p .lo) (p .below) (row .id - id) (p .left - min (p .left) 1) in
+            (omega arith, omega arith);
+        high = omega arith;
+      })
 
 -- what is left of a search that comes to g
 pub record Left (R : ℕ → Row) (id : ℕ) (p g : Probe) : Type 0 where
@@ -108,21 +123,6 @@ module _ (R : ℕ → Row) (n : ℕ) (up : Rising R n) where
       go true t = ltb-true i k t
       go false t = absurd (not-before (ltb-false i k t) (ltb k i) refl)
 
-  -- ids differ at least as much as the rows' places
-  apart : (i d : ℕ) → i + d < n → R i .id + d ≤ R (i + d) .id
-  apart i zero h = let e : i + 0 ≡ i = omega arith in rw e (omega arith)
-  apart i (suc d) h =
-      let e : i + suc d ≡ suc (i + d) = omega arith in
-      let g = apart i d (omega arith) in
-      let u = up .up (i + d) (suc (i + d)) (omega arith) (omega arith) in
-      rw e (omega arith)
-
-  between : (i k : ℕ) → i ≤ k → k < n → R i .id + (k - i) ≤ R k .id
-  between i k l h =
-      let e : i + (k - i) ≡ k = omega arith in
-      let g = apart i (k - i) (omega arith) in
-      omega (arith, g, ap (λ j. R j .id) e)
-
   module _ (id : ℕ) (p : Probe) (l : p .lo ≤ p .at) (h : p .at < p .hi) where
     looked : Seeking R n id p → (r : Probe) → Narrowed p (R (p .at)) id r → Seeking R n id r
     looked (holds e a b c) r _ = absurd (omega arith)
@@ -132,14 +132,12 @@ module _ (R : ℕ → Row) (n : ℕ) (up : Rising R n) where
         rw q (seeks (omega arith)
         (λ i m f.
         let a = in-order (p .at) i (omega arith) (omega arith) in
-        let b = between (p .at) i (omega arith) m in
         (omega arith, omega (arith, w i m f .1)))
         z)
     looked (seeks k w z) r (below e q) =
         rw q (seeks (omega arith)
         (λ i m f.
         let a = in-order i (p .at) m (omega arith) in
-        let b = between i (p .at) (omega arith) (omega arith) in
         (omega (arith, w i m f .0), omega arith))
         z)
 
