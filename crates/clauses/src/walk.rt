@@ -31,7 +31,7 @@ pub fn write_constraints(
         (lines first (itemsOf (now (users .entry)) (now (groups .entry)) head (constraintsIn head (now (file .entry))) first))
         (world s (now (text .entry)) (now (words .entry))) (world r (now (text .exit)) (now (words .exit))) ⌝ }
 {
-    let mut store = [0u32; 65536];
+    let mut store = [0u32; 34816];
     let mut z = s;
     let mut v = first;
     let mut next = head.start;

@@ -81,7 +81,7 @@ module _ (users groups : List ℕ) (h : Head) (k : Kind) where
       list-short : Short counts (listNow t)
       list-short = let e : t + 1 - 1 ≡ t = omega arith in rw e (each-at t noList (fits .short) g)
 
-      pub list-fillable : {words : List ℕ} → length words ≡ 65536 → Fillable users groups list h k (t + 1) v words
+      pub list-fillable : {words : List ℕ} → length words ≡ 34816 → Fillable users groups list h k (t + 1) v words
       unfolding gs
       list-fillable l =
           record {
@@ -100,7 +100,7 @@ module _ (users groups : List ℕ) (h : Head) (k : Kind) where
           }
 
       -- after it was filled into a store
-      module _ (before : List ℕ) (l : length before ≡ 65536) {words : List ℕ} {r : Filled} (s : Stored (numOf h) (listNow t) v words r) where
+      module _ (before : List ℕ) (l : length before ≡ 34816) {words : List ℕ} {r : Filled} (s : Stored (numOf h) (listNow t) v words r) where
         over : OverLiterals (numOf h) (listNow t) v
         over = list-literals users groups list h (t + 1) v before (room .some) k (list-fillable l)
 

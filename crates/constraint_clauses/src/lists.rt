@@ -30,7 +30,7 @@ pub fn write_lists(
     store: &mut [u32],
 ) -> Written
     requires { ⌜ Fits (now users) (now groups) (now list) head (kindOf (now list) (c .kind))
-        × Room v (constraintPart (now users) (now groups) head (kindOf (now list) (c .kind)) (c .weight) v) × (length (now store) ≡ 65536) ⌝ }
+        × Room v (constraintPart (now users) (now groups) head (kindOf (now list) (c .kind)) (c .weight) v) × (length (now store) ≡ 34816) ⌝ }
     ensures { λ r. ⌜ Wrote (step job (now (model .entry))) v
         (constraintPart (now (users .entry)) (now (groups .entry)) head (kindOf (now (list .entry)) (c .kind)) (c .weight) v)
         (world s (now (text .entry)) (now (words .entry))) (world (r .sink) (now (text .exit)) (now (words .exit))) (r .next) ⌝ }

@@ -31,7 +31,7 @@ pub fn write_constraint(
 ) -> Written
     requires { ⌜ Fits (now users) (now groups) (now list) head (kindOf (now list) (c .kind))
         × Room v (constraintPart (now users) (now groups) head (kindOf (now list) (c .kind)) (c .weight) v) ⌝ }
-    requires { ⌜ (s .at ≤ 9223372036854775807) × (length (now store) ≡ 65536) ⌝ }
+    requires { ⌜ (s .at ≤ 9223372036854775807) × (length (now store) ≡ 34816) ⌝ }
     ensures { λ r. ⌜ Wrote (step job (now (model .entry))) v
         (constraintPart (now (users .entry)) (now (groups .entry)) head (kindOf (now (list .entry)) (c .kind)) (c .weight) v)
         (world s (now (text .entry)) (now (words .entry))) (world (r .sink) (now (text .exit)) (now (words .exit))) (r .next) ⌝ }

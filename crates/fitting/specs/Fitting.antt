@@ -19,7 +19,7 @@ use Rattle.literals.specs.Filled.{Filled, usersAt, filled-users, filled-rows}
 use Rattle.literals.specs.Tables.{groupIn, counted-same}
 use Rattle.list_nodes.specs.Stored.{Fits, countedIn}
 use Rattle.fitting.specs.Known.{groups-within, known-groups}
-use Rattle.fitting.specs.Lists.{lists-reached, lists-few, short-lists}
+use Rattle.fitting.specs.Lists.{lists-shape, lists-reached, lists-few, lists-some, short-lists}
 
 module _ {s d te tg us : List ℕ} {h : Head} (a : Accepted s d te tg h) (f : Filled us (usersIn te (h .events))) where
   -- what a kind counts, by the tables
@@ -48,10 +48,13 @@ module _ {s d te tg us : List ℕ} {h : Head} (a : Accepted s d te tg h) (f : Fi
           short =
               rw same at
               (short-lists counted (counted .lists) (v .short)
-              (rw low (lists-reached (h .times) (λ r. users r (eventsOf d te (h .events))) (groupAt (rows tg (h .groups))) k (v .reached))));
+              (lists-reached (lists-shape (h .times) (λ r. users r (eventsOf d te (h .events))) (groupAt (rows tg (h .groups))) k) (rw low (v .reached))));
         }
 
-    -- and they are few
+    -- and they are few, but there is one
     pub known-few : length (countedIn (usersAt us) tg h (c .kind) .lists) ≤ 125
     known-few =
-        omega (arith, a .sizes .times-high, lists-few (h .times) (usersAt us) (groupIn tg) (c .kind) (a .sizes .times-low))
+        omega (arith, a .sizes .times-high, lists-few (lists-shape (h .times) (usersAt us) (groupIn tg) (c .kind)) (a .sizes .times-low))
+
+    pub known-some : 1 ≤ length (countedIn (usersAt us) tg h (c .kind) .lists)
+    known-some = lists-some (lists-shape (h .times) (usersAt us) (groupIn tg) (c .kind)) (a .sizes .times-low)

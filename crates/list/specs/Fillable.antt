@@ -28,7 +28,7 @@ pub record Fillable (users groups list : List ℕ) (h : Head) (k : Kind) (t v : 
   pub first : 1 ≤ t
   pub last : t ≤ length (countedIn (usersAt users) groups h k .lists)
   pub small : v + length (listIn (usersAt users) groups h k t .nodes) ≤ 8000001
-  pub room : length words ≡ 65536
+  pub room : length words ≡ 34816
 
 -- how long lists of literals and of gates are
 pub length-from : (n k : ℕ) → length (from n k) ≡ k

@@ -23,7 +23,7 @@ pub fn fill_cluster(
     out: &mut [u32],
 ) -> Filled
     requires { ⌜ Ground (now groups) head × (InRange (countsIn head) (cluster (f .resource) (leading (f .groups) (now list)) (f .lo) (f .hi))
-        × ((length (now list) ≡ 2048) × ((f .groups ≤ 255) × ((v + f .groups ≤ 8000001) × (length (now out) ≡ 65536))))) ⌝ }
+        × ((length (now list) ≡ 2048) × ((f .groups ≤ 255) × ((v + f .groups ≤ 8000001) × (length (now out) ≡ 34816))))) ⌝ }
     ensures { λ r. ⌜ Stored (numOf head) (onlyIn (now (groups .entry)) head (cluster (f .resource) (leading (f .groups) (now (list .entry))) (f .lo) (f .hi))) v (now (out .exit)) r ⌝ }
 {
     let l = literals::numbering(head.times, head.events, head.resources);

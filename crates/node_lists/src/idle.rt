@@ -68,7 +68,7 @@ pub fn fill_idle(
     requires { ⌜ Ground (now groups) head × (InRange (countsIn head) (idle (f .resource) (leading (f .groups) (now list)) (f .lo) (f .hi))
         × ((length (now list) ≡ 2048) × ((innerCount (xsOf (head .times) (layoutOf head .uses) (groupIn (now groups)) (f .resource) (leading (f .groups) (now list))) ≤ 255)
         × ((v + 3 * innerCount (xsOf (head .times) (layoutOf head .uses) (groupIn (now groups)) (f .resource) (leading (f .groups) (now list))) ≤ 8000001)
-        × (length (now out) ≡ 65536))))) ⌝ }
+        × (length (now out) ≡ 34816))))) ⌝ }
     ensures { λ r. ⌜ Stored (numOf head) (onlyIn (now (groups .entry)) head (idle (f .resource) (leading (f .groups) (now (list .entry))) (f .lo) (f .hi))) v (now (out .exit)) r ⌝ }
 {
     let mut row = [0u32; 125];

@@ -1,4 +1,3 @@
 pub mod Listed
 pub mod Sizable
-pub mod Before
 pub mod Walked

@@ -43,13 +43,13 @@ pub record Told (l : Listed) (f : Filled) : Type 0 where
   pub nodes : f .nodes ≡ length (l .nodes)
   pub inputs : f .at ≡ 2 * length (l .nodes) + allInputs (l .nodes)
   pub members : f .end ≡ f .at + length (l .members)
-  pub room : f .end ≤ 65536
+  pub room : f .end ≤ 34816
 
 front-room : {words : List ℕ} {n : ℕ} {xs : List ℕ} → Holds words n xs → n ≤ length words
 front-room {words} {n} {xs} h = omega (arith, h .count, ap length (h .front), length-take n words)
 
 pub stored-told : {num : Atom → ℕ} {l : Listed} {v : ℕ} {words : List ℕ} {f : Filled} → Stored num l v words f
-    → length words ≡ 65536 → Told l f
+    → length words ≡ 34816 → Told l f
 stored-told {num} {l} {v} {words} {f} s e =
     let ns = map (nodeGate num v) (l .nodes) in
     let ms = map (refLiteral num v) (l .members) in
@@ -72,7 +72,7 @@ pub record Measurable (w : ℕ) (b : Bounds) (f : Filled) : Type 0 where
   pub weight : w ≤ 1000
   pub nodes : 2 * f .nodes ≤ f .at
   pub ahead : f .at ≤ f .end
-  pub room : f .end ≤ 65536
+  pub room : f .end ≤ 34816
   pub short : f .end - f .at ≤ 255
   pub ordered : b .lo ≤ b .hi
   pub reached : b .lo ≤ f .end - f .at

@@ -1,13 +1,12 @@
--- What is known of a constraint that is sized, and its size after some of its counted lists.
-use Prim.Native.Nat.{ℕ, _+_, _-_, _*_, _≤_, _<_}
+-- What is known of a constraint that is sized, and its size from that of its first counted list.
+use Prim.Native.Nat.{ℕ, _+_, _≤_}
 use mathlib.Core.Path.{_≡_, sym, _∙_}
 use mathlib.Core.List.{List, map}
+use native.Mathlib.Nat.{mul-le-mul}
 use native.Mathlib.Omega.{arith}
-use native.Mathlib.Numerals.{add-one}
-use lib.ListN.{length, drop, drop-of-length-le}
-use lib.Seq.{drop-cons}
-use Rattle.scope.specs.Kinds.{Constraint, Listed, Counted, rule}
-use Rattle.number.specs.Each.{each-at}
+use lib.ListN.{length}
+use Rattle.scope.specs.Kinds.{Constraint, Node, Listed, Counted, rule}
+use Rattle.number.specs.Each.{Each, each-none, each-more, each-at}
 use Rattle.constraint.specs.declared.kinds.Head.{Head}
 use Rattle.constraint.specs.declared.kinds.Bounds.{Bounds}
 use Rattle.constraint.specs.Bounds.{lowOf, highOf, freeOf, bounds-right}
@@ -15,10 +14,10 @@ use Rattle.literals.specs.Filled.{usersAt}
 use Rattle.literals.specs.Numbered.{noList}
 use Rattle.literals.specs.Tables.{groupIn}
 use Rattle.list_nodes.specs.Stored.{Fits, Short, listAt, countedIn, listIn}
-use Rattle.fitting.specs.Lists.{Small, lists-small}
+use Rattle.fitting.specs.Lists.{Shape, lists-shape, Small, lists-small, Like, lists-alike}
 use Rattle.sizing.specs.declared.Size.{Size}
-use Rattle.sizing.specs.Sums.{none, sum, Within, Fits64, within-more, within-none, within-sum, none-sum, sum-none, sum-assoc}
-use Rattle.measuring.specs.Rules.{ruleSize, rulesSize}
+use Rattle.sizing.specs.Sums.{multiple, Within, Fits64, within-more, within-multiple, multiple-zero, multiple-suc}
+use Rattle.measuring.specs.Rules.{ruleSize, rulesSize, listed-size}
 use Rattle.part_sizes.specs.Listed.{BoundsOf, ListSized}
 
 -- the size of some lists of the weight w
@@ -31,6 +30,7 @@ pub record Sizable (users groups list : List ℕ) (h : Head) (c : Constraint) : 
   pub weight : c .weight ≤ 1000
   pub ordered : lowOf (c .kind) ≤ highOf (c .kind)
   pub few : length (countedIn (usersAt users) groups h (c .kind) .lists) ≤ 125
+  pub some : 1 ≤ length (countedIn (usersAt users) groups h (c .kind) .lists)
 
 -- the size of what is counted, far below 2 ^ 64
 pub record CountedSized (w : ℕ) (c : Counted) (z : Size) : Type 0 where
@@ -54,53 +54,48 @@ module _ {users groups list : List ℕ} {h : Head} {c : Constraint} (s : Sizable
       let r = bounds-right (h .times) (usersAt users) (groupIn groups) (c .kind) in
       omega (arith, r .lo, r .hi, s .ordered)
 
-  -- list number t, from 1, is short, and so its nodes have small numbers
-  module _ {t : ℕ} (a : 1 ≤ t) (b : t ≤ length (countedBy .lists)) where
-    pub sizable-short : Short countedBy (listIn (usersAt users) groups h (c .kind) t)
-    sizable-short = each-at (t - 1) noList (s .fits .short) (omega arith)
+  pub sizable-shape : Shape (h .times) countedBy
+  sizable-shape = lists-shape (h .times) (usersAt users) (groupIn groups) (c .kind)
 
-    pub sizable-small : 1 + length (listIn (usersAt users) groups h (c .kind) t .nodes) ≤ 8000001
-    sizable-small =
-        let small : Small (listIn (usersAt users) groups h (c .kind) t) =
-        each-at (t - 1) noList (lists-small (h .times) (usersAt users) (groupIn groups) (c .kind)) (omega arith)
-        in
-        omega (arith, small .few, sizable-short .most)
+  -- its first list is short, and so its nodes have small numbers
+  pub sizable-short : Short countedBy (listIn (usersAt users) groups h (c .kind) 1)
+  sizable-short = each-at 0 noList (s .fits .short) (omega (arith, s .some))
 
--- after k of the lists: their sum and what the others come to are the whole
-pub record Summed (w : ℕ) (c : Counted) (k : ℕ) (z : Size) : Type 0 where
-  pub whole : listsSize w c (c .lists) ≡ sum z (listsSize w c (drop k (c .lists)))
-  pub within : Within (k * 1454651) z
-  pub few : z .units ≤ k * 255
+  pub sizable-small : 1 + length (listIn (usersAt users) groups h (c .kind) 1 .nodes) ≤ 8000001
+  sizable-small =
+      let small : Small (listIn (usersAt users) groups h (c .kind) 1) =
+      each-at 0 noList (lists-small sizable-shape) (omega (arith, s .some))
+      in
+      omega (arith, small .few, sizable-short .most)
 
+-- lists that are alike have one size
 module _ (w : ℕ) (c : Counted) where
-  pub summed-none : {z : Size} → z ≡ none → Summed w c 0 z
-  summed-none e =
-      record { whole = rw e (sym (none-sum (listsSize w c (c .lists)))); within = rw e (within-none 0); few = rw e (unfold none in omega arith) }
+  like-size : {ns : List Node} {n : ℕ} (l m : Listed) → Like ns n l → Like ns n m → ruleSize w (rule c l) ≡ ruleSize w (rule c m)
+  like-size l m p q = rw (listed-size w c l, listed-size w c m, p .nodes, p .members, q .nodes, q .members)
 
-  module _ {k : ℕ} {z one : Size} (p : Summed w c k z) (o : ListSized w c (listAt (c .lists) (k + 1)) one) where
-    pub summed-fits : k ≤ 125 → Fits64 (sum z one)
-    summed-fits h = within-more (omega arith) (within-sum (k * 1454651) 1454651 z one (p .within) (o .within))
-
-    pub summed-more : {r : Size} → k < length (c .lists) → r ≡ sum z one → Summed w c (k + 1) r
-    unfolding rulesSize
-    summed-more {r} h e =
-        let rest = listsSize w c (drop (k + 1) (c .lists)) in
-        let first = ruleSize w (rule c (listAt (c .lists) (k + 1))) in
-        let j : k + 1 - 1 ≡ k = omega arith in
-        let parts : listsSize w c (drop k (c .lists)) ≡ sum first rest = rw (j, drop-cons (c .lists) k noList h, add-one k) in
-        record {
-          whole = p .whole ∙ rw (parts, ← (o .eq), e) (sym (sum-assoc z one rest));
-          within =
-              rw e
-              (within-more (omega arith) (within-sum (k * 1454651) 1454651 z one (p .within) (o .within)));
-          few = rw e (unfold sum in omega (arith, p .few, o .few));
-        }
-
-  pub summed-all : {k : ℕ} {z : Size} → Summed w c k z → length (c .lists) ≤ k → k ≤ 125 → CountedSized w c z
+  lists-times : {ns : List Node} {n : ℕ} (z : Size) (m : Listed) → Like ns n m → z ≡ ruleSize w (rule c m) → {ls : List Listed}
+      → Each (Like ns n) ls
+      → listsSize w c ls ≡ multiple (length ls) z
   unfolding rulesSize
-  summed-all {k} {z} p a b =
-      record {
-        eq = sym (p .whole ∙ rw (drop-of-length-le (c .lists) a) (sum-none z));
-        within = within-more (omega arith) (p .within);
-        few = omega (arith, p .few);
-      }
+  lists-times z m q e each-none = sym (multiple-zero z)
+  lists-times z m q e (each-more {x = l} {xs = ls} p ps) =
+      rw (like-size l m p q, ← e, lists-times z m q e ps) (sym (multiple-suc (length ls) z))
+
+  module _ {k : ℕ} {one : Size} (o : ListSized w c (listAt (c .lists) 1) one) (few : k ≤ 125) where
+    times-within : Within 268435456 (multiple k one)
+    times-within = within-more (omega arith) (within-multiple k 1454651 one (o .within))
+
+    pub times-fits : Fits64 (multiple k one)
+    times-fits = within-more (omega arith) times-within
+
+    -- the size of one of them, as often as there are lists
+    pub times-sized : {T : ℕ} {z : Size} → Shape T c → k ≡ length (c .lists) → 1 ≤ k → z ≡ multiple k one → CountedSized w c z
+    times-sized {z = z} s n h e =
+        let a = lists-alike s in
+        let q = each-at 0 noList (a .each) (omega arith) in
+        let m = mul-le-mul {n₁ = k} {m₁ = one .units} {n₂ = 125} {m₂ = 255} few (o .few) in
+        record {
+          eq = e ∙ rw n (sym (lists-times one (listAt (c .lists) 1) q (o .eq) (a .each)));
+          within = rw e times-within;
+          few = rw e (unfold multiple in omega (arith, m));
+        }

@@ -16,7 +16,7 @@ use Rattle.instance.specs.Laws.{Accepted, NextOf, accepted-next}
 use Rattle.literals.specs.Users.{usersIn}
 use Rattle.literals.specs.Filled.{Filled, usersAt}
 use Rattle.list_nodes.specs.Stored.{countedIn}
-use Rattle.fitting.specs.Fitting.{known-counted, known-fits, known-few}
+use Rattle.fitting.specs.Fitting.{known-counted, known-fits, known-few, known-some}
 use Rattle.sizing.specs.declared.Size.{Size}
 use Rattle.sizing.specs.Sums.{none, sum, Within, Fits64, within-more, within-none, within-sum, sum-none, sum-assoc}
 use Rattle.sizing.specs.Tail.{tailAdd}
@@ -37,7 +37,7 @@ pub record Walkable (s us tg list store : List ℕ) (h : Head) (cols : ℕ) (bef
   pub tabled : Tabled s durations resources us tg h
   pub groups-long : length tg ≡ 258048
   pub list-long : length list ≡ 2048
-  pub store-long : length store ≡ 65536
+  pub store-long : length store ≡ 34816
   pub columns : cols ≤ 4096
   pub within : Within 2147483648 before
 
@@ -132,6 +132,7 @@ module _ {s d te us tg : List ℕ} {h : Head} (a : Tabled s d te us tg h) {cols 
             weight = n .valid .weight;
             ordered = n .valid .ordered;
             few = known-few (a .accepted) (a .filled) (n .valid);
+            some = known-some (a .accepted) (a .filled) (n .valid);
           }
 
       -- and was

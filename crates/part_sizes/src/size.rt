@@ -1,4 +1,4 @@
-// The size of a constraint: its counted lists are filled one after another, and each is sized by what the store then holds.
+// The size of a constraint: its first counted list is filled, and sized by what the store then holds; the others are like it.
 use constraint::Bounds;
 use constraint::Constraint;
 use constraint::Head;
@@ -9,10 +9,9 @@ use list_nodes::Filled;
 use sizing::Size;
 use sizing::counts::list_size;
 use sizing::nodes::nodes_size;
-use sizing::sums::nothing;
+use sizing::sums::multiply;
 use sizing::sums::plus;
 ghost use mathlib.Core.Path.{_≡_};
-ghost use Prim.Native.Nat.{_≤_};
 ghost use lib.ListN.{length};
 ghost use Rattle.constraint.specs.Answers.{constraintOf};
 ghost use Rattle.literals.specs.Filled.{usersAt};
@@ -32,28 +31,27 @@ fn filled_size(f: Filled, weight: u32, b: Bounds) -> Size
     plus(nodes, counted)
 }
 
-// List number t of a constraint, from 1; its size does not depend on its first variable.
-fn one_size(
+// The first list of a constraint; its size does not depend on its first variable.
+fn first_size(
     c: Constraint,
-    t: u32,
     head: Head,
     users: &[u16],
     groups: &[u8],
     list: &[u16],
     store: &mut [u32],
 ) -> Size
-    requires { ⌜ Sizable (now users) (now groups) (now list) head (constraintOf (now list) c) × ((1 ≤ t)
-        × ((t ≤ length (countedIn (usersAt (now users)) (now groups) head (constraintOf (now list) c .kind) .lists)) × (length (now store) ≡ 65536))) ⌝ }
+    requires { ⌜ Sizable (now users) (now groups) (now list) head (constraintOf (now list) c) × (length (now store) ≡ 34816) ⌝ }
     ensures { λ r. ⌜ ListSized (c .weight) (countedIn (usersAt (now (users .entry))) (now (groups .entry)) head (constraintOf (now (list .entry)) c .kind))
-        (listIn (usersAt (now (users .entry))) (now (groups .entry)) head (constraintOf (now (list .entry)) c .kind) t) r ⌝ }
+        (listIn (usersAt (now (users .entry))) (now (groups .entry)) head (constraintOf (now (list .entry)) c .kind) 1) r ⌝ }
 {
     let kind = c.kind;
-    let f = fill(kind, t, head, users, groups, list, 1, store);
+    let f = fill(kind, 1, head, users, groups, list, 1, store);
     let b = bounds_of(kind);
     filled_size(f, c.weight, b)
 }
 
-// A constraint, where users is the table of the users of each resource; store is overwritten.
+// A constraint, where users is the table of the users of each resource; store is overwritten. Its lists are alike, so one is
+// filled for all.
 pub fn constraint_size(
     c: Constraint,
     head: Head,
@@ -62,17 +60,11 @@ pub fn constraint_size(
     list: &[u16],
     store: &mut [u32],
 ) -> Size
-    requires { ⌜ Sizable (now users) (now groups) (now list) head (constraintOf (now list) c) × (length (now store) ≡ 65536) ⌝ }
+    requires { ⌜ Sizable (now users) (now groups) (now list) head (constraintOf (now list) c) × (length (now store) ≡ 34816) ⌝ }
     ensures { λ r. ⌜ CountedSized (c .weight) (countedIn (usersAt (now (users .entry))) (now (groups .entry)) head (constraintOf (now (list .entry)) c .kind)) r ⌝ }
 {
     let kind = c.kind;
     let most = lists(kind, head.times);
-    let mut sum = nothing();
-    let mut t: u32 = 0;
-    while t < most {
-        t = t + 1;
-        let one = one_size(c, t, head, users, groups, list, store);
-        sum = plus(sum, one);
-    }
-    sum
+    let one = first_size(c, head, users, groups, list, store);
+    multiply(most as u64, one)
 }

@@ -12,7 +12,7 @@ ghost use Rattle.list_nodes.specs.Ground.{Ground};
 ghost use Rattle.list_nodes.specs.Stored.{onlyIn, numOf, Plain};
 
 pub fn fill_busy(f: Busy, head: Head, groups: &[u8], out: &mut [u32]) -> Filled
-    requires { ⌜ Ground (now groups) head × (InRange (countsIn head) (busy (f .resource) (f .group) (f .lo) (f .hi)) × (length (now out) ≡ 65536)) ⌝ }
+    requires { ⌜ Ground (now groups) head × (InRange (countsIn head) (busy (f .resource) (f .group) (f .lo) (f .hi)) × (length (now out) ≡ 34816)) ⌝ }
     ensures { λ r. ⌜ Plain (numOf head) (onlyIn (now (groups .entry)) head (busy (f .resource) (f .group) (f .lo) (f .hi))) (now (out .exit)) r ⌝ }
 {
     let l = literals::numbering(head.times, head.events, head.resources);

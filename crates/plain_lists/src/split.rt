@@ -14,7 +14,7 @@ ghost use Rattle.list_nodes.specs.Stored.{onlyIn, numOf, Plain};
 
 // No group is named.
 pub fn fill_split(f: Split, head: Head, out: &mut [u32]) -> Filled
-    requires { ⌜ Sized head × (InRange (countsIn head) (split (f .event) (f .lo) (f .hi)) × (length (now out) ≡ 65536)) ⌝ }
+    requires { ⌜ Sized head × (InRange (countsIn head) (split (f .event) (f .lo) (f .hi)) × (length (now out) ≡ 34816)) ⌝ }
     ensures { λ r. ⌜ Plain (numOf head) (onlyIn [] head (split (f .event) (f .lo) (f .hi))) (now (out .exit)) r ⌝ }
 {
     let l = literals::numbering(head.times, head.events, head.resources);

@@ -16,7 +16,7 @@ ghost use Rattle.list_nodes.specs.Stored.{onlyIn, numOf, Plain};
 
 pub fn fill_spread(f: Spread, head: Head, groups: &[u8], list: &[u16], out: &mut [u32]) -> Filled
     requires { ⌜ Ground (now groups) head × (InRange (countsIn head) (spread (leading (f .events) (now list)) (f .group) (f .lo) (f .hi))
-        × ((length (now list) ≡ 2048) × ((f .events * length (rowAt (now groups) (f .group - 1)) ≤ 255) × (length (now out) ≡ 65536)))) ⌝ }
+        × ((length (now list) ≡ 2048) × ((f .events * length (rowAt (now groups) (f .group - 1)) ≤ 255) × (length (now out) ≡ 34816)))) ⌝ }
     ensures { λ r. ⌜ Plain (numOf head) (onlyIn (now (groups .entry)) head (spread (leading (f .events) (now (list .entry))) (f .group) (f .lo) (f .hi))) (now (out .exit)) r ⌝ }
 {
     let l = literals::numbering(head.times, head.events, head.resources);

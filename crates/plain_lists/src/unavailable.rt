@@ -12,7 +12,7 @@ ghost use Rattle.list_nodes.specs.Ground.{Ground};
 ghost use Rattle.list_nodes.specs.Stored.{onlyIn, numOf, Plain};
 
 pub fn fill_unavailable(f: Unavailable, head: Head, groups: &[u8], out: &mut [u32]) -> Filled
-    requires { ⌜ Ground (now groups) head × (InRange (countsIn head) (unavailable (f .resource) (f .group)) × (length (now out) ≡ 65536)) ⌝ }
+    requires { ⌜ Ground (now groups) head × (InRange (countsIn head) (unavailable (f .resource) (f .group)) × (length (now out) ≡ 34816)) ⌝ }
     ensures { λ r. ⌜ Plain (numOf head) (onlyIn (now (groups .entry)) head (unavailable (f .resource) (f .group))) (now (out .exit)) r ⌝ }
 {
     let l = literals::numbering(head.times, head.events, head.resources);

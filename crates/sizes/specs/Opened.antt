@@ -22,7 +22,7 @@ use Rattle.sizing.specs.declared.Size.{Size}
 use Rattle.sizing.specs.Sums.{Within, within-more}
 use Rattle.measuring.specs.Whole.{beforeSize, wholeSize, tailOf}
 use Rattle.part_sizes.specs.declared.walk.Total.{Total}
-use Rattle.part_sizes.specs.Before.{Users, Begun, blocksSize}
+use Rattle.before_sizes.specs.Before.{Users, Begun, blocksSize}
 use Rattle.part_sizes.specs.Walked.{Tabled, Walkable, TotalOf}
 use Rattle.sizes.specs.Whole.{WholeOf}
 
@@ -85,7 +85,7 @@ module _ {s d te tg list : List ℕ} {h : Head} {B : ℕ} (o : Opened s d te tg 
     pub opened-tabled : Tabled s d te us tg h
     opened-tabled = record { accepted = o .accepted; filled = f }
 
-    pub opened-walkable : {before : Size} {store : List ℕ} {cols : ℕ} → Within 2147483648 before → length store ≡ 65536 → cols ≡ B + 1
+    pub opened-walkable : {before : Size} {store : List ℕ} {cols : ℕ} → Within 2147483648 before → length store ≡ 34816 → cols ≡ B + 1
         → Walkable s us tg list store h cols before
     opened-walkable w l k =
         record {

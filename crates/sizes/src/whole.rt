@@ -1,8 +1,8 @@
 // The sizes of the formula and of its tail, for a file that was accepted.
+use before_sizes::before_size;
 use constraint::Head;
 use literals::fill_users;
 use part_sizes::Total;
-use part_sizes::before_size;
 use part_sizes::constraints_total;
 ghost use Rattle.instance.specs.Answers.{instanceOf};
 ghost use Rattle.sizes.specs.Opened.{Opened};
@@ -23,7 +23,7 @@ pub fn whole_size(
     ensures { λ r. ⌜ WholeOf (instanceOf (now (file .entry)) (now (durations .entry)) (now (resources .entry)) (now (groups .entry)) head) bound r ⌝ }
 {
     let mut users = [0u16; 102500];
-    let mut store = [0u32; 65536];
+    let mut store = [0u32; 34816];
     fill_users(resources, head.events, &mut users);
     let before = before_size(head, &users, durations);
     constraints_total(

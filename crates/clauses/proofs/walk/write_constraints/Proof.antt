@@ -17,7 +17,7 @@ Inv-loop job model text₀ words₀ file head users groups list₀ first store�
     (i ≤ head .constraints) × (length text ≡ length text₀) × (length words ≡ length words₀) × (z .at ≤ 9223372036854775807)
     × Walkable file users groups list head first
     × Part (step job model) file users groups head first i next v (world z₀ text₀ words₀) (world z text words)
-    × (length store ≡ 65536)
+    × (length store ≡ 34816)
 
 abbrev μ-loop : tie.MeasureT-loop
 μ-loop job model text₀ words₀ file head users groups list₀ first store₀ z₀ v₀ next₀ i₀ text words list store z v next i = head .constraints - i

@@ -17,7 +17,7 @@ use Rattle.constraint_clauses.proofs.lists.write_lists.Tie as tie
 
 abbrev Inv-loop : tie.InvT-loop
 Inv-loop job model text₀ words₀ c head users groups list v store₀ kind b n sink₀ next₀ t₀ text words store sink next t =
-    (t ≤ n) × (length text ≡ length text₀) × (length words ≡ length words₀) × (length store ≡ 65536) × (1 ≤ next)
+    (t ≤ n) × (length text ≡ length text₀) × (length words ≡ length words₀) × (length store ≡ 34816) × (1 ≤ next)
     × Left (step job model) next (allNumbered (c .weight) (listsLeft users groups head (kindOf list (c .kind)) t) next)
     v (allNumbered (c .weight) (listsLeft users groups head (kindOf list (c .kind)) 0) v)
     (world sink₀ text₀ words₀) (world sink text words)

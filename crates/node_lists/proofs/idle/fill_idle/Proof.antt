@@ -13,7 +13,7 @@ use Rattle.node_lists.proofs.idle.fill_idle.Tie as tie
 
 abbrev Inv-loop : tie.InvT-loop
 Inv-loop groups list v out₀ row₀ times uses resource count found₀ at₀ i₀ out row found at i =
-    (i ≤ count) × (length out ≡ 65536) × (length row ≡ 125) × (found ≤ 255) × (v + 3 * found ≤ 8000001) × (at ≤ 134 * found)
+    (i ≤ count) × (length out ≡ 34816) × (length row ≡ 125) × (found ≤ 255) × (v + 3 * found ≤ 8000001) × (at ≤ 134 * found)
     × IdleIn times uses (groupIn groups) resource list v count × IdleTo times uses (groupIn groups) resource list v out at found i
 
 abbrev μ-loop : tie.MeasureT-loop

@@ -7,9 +7,9 @@ use native.Mathlib.Omega.{arith}
 use Rattle.tables.specs.Rows.{eventsOf}
 use Rattle.sizing.specs.Sums.{Within, within-more, within-none}
 use Rattle.measuring.specs.Blocks.{durationsSize}
-use Rattle.part_sizes.specs.Before.{durations-sum-within, durations-more}
-use Rattle.part_sizes.proofs.before.durations_size.Statement.{statement}
-use Rattle.part_sizes.proofs.before.durations_size.Tie as tie
+use Rattle.before_sizes.specs.Before.{durations-sum-within, durations-more}
+use Rattle.before_sizes.proofs.before.durations_size.Statement.{statement}
+use Rattle.before_sizes.proofs.before.durations_size.Tie as tie
 
 abbrev Inv-loop : tie.InvT-loop
 Inv-loop times events durations t most sum₀ e₀ sum e =

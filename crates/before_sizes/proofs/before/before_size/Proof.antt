@@ -3,9 +3,9 @@ use borrow.Author.Needs.{needs}
 use mathlib.Core.Path.{refl}
 use native.Mathlib.Omega.{arith}
 use Rattle.sizing.specs.Sums.{within-more}
-use Rattle.part_sizes.specs.Before.{rest-within, blocks-within, blocks-size}
-use Rattle.part_sizes.proofs.before.before_size.Statement.{statement}
-use Rattle.part_sizes.proofs.before.before_size.Tie as tie
+use Rattle.before_sizes.specs.Before.{rest-within, blocks-within, blocks-size}
+use Rattle.before_sizes.proofs.before.before_size.Statement.{statement}
+use Rattle.before_sizes.proofs.before.before_size.Tie as tie
 
 cast-starts-size : tie.Need-cast-starts-size
 cast-starts-size c = search needs

@@ -14,7 +14,7 @@ ghost use Rattle.scope.specs.Kinds.{Event, upTo};
 ghost use Rattle.tables.specs.Rows.{eventsOf};
 ghost use Rattle.sizing.specs.Sums.{Within};
 ghost use Rattle.measuring.specs.Blocks.{usesSize, durationsSize};
-ghost use Rattle.part_sizes.specs.Before.{Users, Begun, blocksSize};
+ghost use Rattle.before_sizes.specs.Before.{Users, Begun, blocksSize};
 
 // X of each resource, where users is the table of the users of each resource.
 fn uses_size(times: u32, resources: u32, users: &[u16]) -> Size

@@ -8,9 +8,9 @@ use native.Mathlib.Omega.{arith}
 use Rattle.scope.specs.Kinds.{Event, from, upTo}
 use Rattle.sizing.specs.Sums.{sum as together, Within, within-more, within-none}
 use Rattle.measuring.specs.Blocks.{usesSize}
-use Rattle.part_sizes.specs.Before.{Users, uses-sum-within, uses-start, uses-more, uses-end}
-use Rattle.part_sizes.proofs.before.uses_size.Statement.{statement}
-use Rattle.part_sizes.proofs.before.uses_size.Tie as tie
+use Rattle.before_sizes.specs.Before.{Users, uses-sum-within, uses-start, uses-more, uses-end}
+use Rattle.before_sizes.proofs.before.uses_size.Statement.{statement}
+use Rattle.before_sizes.proofs.before.uses_size.Tie as tie
 
 abbrev Inv-loop : tie.InvT-loop
 Inv-loop times resources users t most sum₀ i₀ sum i =
