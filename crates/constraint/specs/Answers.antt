@@ -4,18 +4,15 @@ use mathlib.Core.List.{List}
 use Rattle.scope.specs.Parsed.{Parsed, got}
 use Rattle.scope.specs.Instance.{Counts}
 use Rattle.scope.specs.Kinds as kinds
-use Rattle.number.specs.declared.Number.{Number}
 use Rattle.number.specs.Answers.{refusedBy}
 use Rattle.number.specs.Lists.{leading}
 use Rattle.constraint.specs.declared.kinds.Kind.{Kind}
 use Rattle.constraint.specs.declared.kinds.Constraint.{Constraint}
 use Rattle.constraint.specs.declared.kinds.Head.{Head}
 use Rattle.constraint.specs.declared.kinds.Next.{Next}
-
--- a list whose length the answer has
-abbrev pub saidList : List ℕ → Number → Parsed (List ℕ)
-saidList l (Number.Value n next) = got (leading n l) next
-saidList l (Number.Refused f) = refusedBy f
+use Rattle.constraint.specs.declared.flat.FlatConstraint.{FlatConstraint}
+use Rattle.constraint.specs.declared.flat.FlatNext.{FlatNext}
+use Rattle.fields.specs.Made.{kindFrom}
 
 -- a kind with its fields
 abbrev pub kindOf : List ℕ → Kind → kinds.Kind
@@ -34,6 +31,17 @@ constraintOf l c = record { weight = c .weight; kind = kindOf l (c .kind) }
 abbrev pub saidNext : List ℕ → Next → Parsed kinds.Constraint
 saidNext l (Next.Read c next) = got (constraintOf l c) next
 saidNext l (Next.Refused f) = refusedBy f
+
+-- the kind of a constraint in plain numbers, and the constraint
+abbrev pub flatKind : List ℕ → FlatConstraint → kinds.Kind
+flatKind l c = kindFrom (c .kind) (c .fields) (leading (c .fields .list) l)
+
+abbrev pub flatOf : List ℕ → FlatConstraint → kinds.Constraint
+flatOf l c = record { weight = c .weight; kind = flatKind l c }
+
+abbrev pub saidFlatNext : List ℕ → FlatNext → Parsed kinds.Constraint
+saidFlatNext l (FlatNext.Read c next) = got (flatOf l c) next
+saidFlatNext l (FlatNext.Refused f) = refusedBy f
 
 -- how many things there are to refer to
 abbrev pub countsIn : Head → Counts

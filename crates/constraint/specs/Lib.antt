@@ -1,9 +1,5 @@
 pub mod Answers
 pub mod Bounds
 pub mod Decoded
-pub mod Flat
-pub mod Sequence
-pub mod Left
-pub mod Table
 pub mod Valid
 pub mod Walk

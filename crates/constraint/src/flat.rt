@@ -1,103 +1,61 @@
-// The fields of a constraint as plain numbers, before its kind is made.
-use crate::kinds::Busy;
-use crate::kinds::Clash;
-use crate::kinds::Kind;
-use crate::kinds::OverGroups;
-use crate::kinds::Preferred;
-use crate::kinds::Split;
-use crate::kinds::Spread;
-use crate::kinds::Unavailable;
-use crate::table::Field;
+// The constraint at an offset as plain numbers.
+use crate::kinds::Head;
+use fields::Flat;
+use fields::FlatRead;
+use fields::Totals;
+use fields::fields_at;
+use number::Number;
+use number::limited;
+use number::refusal_of;
+use scope::Refusal;
 ghost use mathlib.Core.Path.{_≡_};
-ghost use mathlib.Core.List.{List};
-ghost use Prim.Native.Nat.{ℕ};
-ghost use Rattle.number.specs.Lists.{leading};
-ghost use Rattle.constraint.specs.Answers.{kindOf};
-ghost use Rattle.constraint.specs.Flat.{kindFrom, pushed, putOf};
+ghost use Prim.Native.Nat.{_≤_};
+ghost use lib.ListN.{length};
+ghost use Rattle.constraint.specs.Answers.{saidFlatNext, countsIn};
+ghost use Rattle.constraint.specs.Decoded.{decodedAt};
 
-// The last four numbers that were read, the latest in d, and the length of the list.
-pub struct Flat {
-    pub a: u32,
-    pub b: u32,
-    pub c: u32,
-    pub d: u32,
-    pub list: u32,
+// The kind from 1 to 8, the weight, and the fields in the order in which they were read.
+pub struct FlatConstraint {
+    pub kind: u32,
+    pub weight: u32,
+    pub fields: Flat,
 }
 
-// With one more number.
-fn push(w: Flat, v: u32) -> Flat
-    ensures { λ r. ⌜ r ≡ pushed v w ⌝ }
-{
-    Flat {
-        a: w.b,
-        b: w.c,
-        c: w.d,
-        d: v,
-        list: w.list,
-    }
+// A constraint with the offset after it, or a refusal.
+pub enum FlatNext {
+    Read(FlatConstraint, usize),
+    Refused(Refusal),
 }
 
-// With the number of one more field, or the length of its list.
-pub fn put(w: Flat, f: Field, v: u32) -> Flat
-    ensures { λ r. ⌜ r ≡ putOf f v w ⌝ }
+// A constraint without the checks at its end. Its list stands in the store.
+pub fn flat_at(s: &[u8], at: usize, head: Head, list: &mut [u16]) -> FlatNext
+    requires { ⌜ length (now list) ≡ 2048 ⌝ }
+    requires { ⌜ head .events ≤ 2048 ⌝ }
+    requires { ⌜ head .groups ≤ 2048 ⌝ }
+    ensures { λ r. ⌜ saidFlatNext (now (list .exit)) r ≡ decodedAt (countsIn head) (now (s .entry)) at ⌝ }
 {
-    match f {
-        Field::Reference(_) => push(w, v),
-        Field::List(_) => Flat {
-            a: w.a,
-            b: w.b,
-            c: w.c,
-            d: w.d,
-            list: v,
-        },
-        Field::Number(_, _) => push(w, v),
-    }
-}
-
-// The fields that a cluster and an idle limit have.
-fn over_groups(w: Flat) -> OverGroups
-    ensures { λ r. ⌜ r ≡ record { resource = w .b; groups = w .list; lo = w .c; hi = w .d } ⌝ }
-{
-    OverGroups {
-        resource: w.b,
-        groups: w.list,
-        lo: w.c,
-        hi: w.d,
-    }
-}
-
-// The kind that all its fields make.
-pub fn kind_of(kind: u32, w: Flat) -> Kind
-    ensures { λ r. ⌜ ((l : List ℕ) → kindOf l r ≡ kindFrom kind w (leading (w .list) l)) ⌝ }
-{
-    match kind {
-        1 => Kind::Clash(Clash { resource: w.d }),
-        2 => Kind::Unavailable(Unavailable {
-            resource: w.c,
-            group: w.d,
-        }),
-        3 => Kind::Preferred(Preferred {
-            event: w.c,
-            group: w.d,
-        }),
-        4 => Kind::Split(Split {
-            event: w.b,
-            lo: w.c,
-            hi: w.d,
-        }),
-        5 => Kind::Spread(Spread {
-            events: w.list,
-            group: w.b,
-            lo: w.c,
-            hi: w.d,
-        }),
-        6 => Kind::Busy(Busy {
-            resource: w.a,
-            group: w.b,
-            lo: w.c,
-            hi: w.d,
-        }),
-        7 => Kind::Cluster(over_groups(w)),
-        _ => Kind::Idle(over_groups(w)),
+    let x = limited(s, at, 1, 8);
+    let Number::Value(kind, more) = x else {
+        return FlatNext::Refused(refusal_of(x));
+    };
+    let y = limited(s, more, 0, 1000);
+    let Number::Value(weight, start) = y else {
+        return FlatNext::Refused(refusal_of(y));
+    };
+    let t = Totals {
+        events: head.events,
+        resources: head.resources,
+        groups: head.groups,
+    };
+    match fields_at(s, start, kind, t, list) {
+        FlatRead::Read(w, end) => FlatNext::Read(
+            FlatConstraint {
+                kind,
+                weight,
+                fields: w,
+            },
+            end,
+        ),
+        FlatRead::Refused(f) => FlatNext::Refused(f),
     }
 }

@@ -1,53 +1,18 @@
 // The kinds of constraint with their fields. A list of events or of groups stands in a store beside, and the field has its
 // length. lo and hi are as written.
+use crate::busy::Busy;
+use crate::clash::Clash;
+use crate::over_groups::OverGroups;
+use crate::preferred::Preferred;
+use crate::split::Split;
+use crate::spread::Spread;
+use crate::unavailable::Unavailable;
 use scope::Refusal;
 ghost use mathlib.Core.Path.{_≡_};
 ghost use mathlib.Core.List.{List};
 ghost use Prim.Native.Nat.{ℕ};
 ghost use Rattle.constraint.specs.Answers.{kindOf};
 ghost use Rattle.constraint.specs.Bounds.{lowOf, highOf, freeOf};
-
-pub struct Clash {
-    pub resource: u32,
-}
-
-pub struct Unavailable {
-    pub resource: u32,
-    pub group: u32,
-}
-
-pub struct Preferred {
-    pub event: u32,
-    pub group: u32,
-}
-
-pub struct Split {
-    pub event: u32,
-    pub lo: u32,
-    pub hi: u32,
-}
-
-pub struct Spread {
-    pub events: u32,
-    pub group: u32,
-    pub lo: u32,
-    pub hi: u32,
-}
-
-pub struct Busy {
-    pub resource: u32,
-    pub group: u32,
-    pub lo: u32,
-    pub hi: u32,
-}
-
-// A resource over a list of groups: a cluster's fields and an idle limit's.
-pub struct OverGroups {
-    pub resource: u32,
-    pub groups: u32,
-    pub lo: u32,
-    pub hi: u32,
-}
 
 pub enum Kind {
     Clash(Clash),
@@ -89,7 +54,8 @@ pub struct Bounds {
     pub free: bool,
 }
 
-// Fixed for the kinds without lo and hi; in a busy limit a count of 0 is free.
+// One table for all kinds, as the definitions have it: fixed for the kinds without lo and hi; in a busy limit a count of 0 is
+// free.
 pub fn bounds_of(k: Kind) -> Bounds
     ensures { λ r. ⌜ ((l : List ℕ) → r ≡ record { lo = lowOf (kindOf l k); hi = highOf (kindOf l k); free = freeOf (kindOf l k) }) ⌝ }
 {

@@ -1,22 +1,33 @@
-// The constraints of an instance. They stay in the file, and are decoded one at a time into a kind with its fields.
-mod field;
+// The constraints of an instance. They stay in the file, and are decoded one at a time: into a flat struct of numbers, and into a
+// kind with its fields.
+mod busy;
+mod by_kind;
+mod clash;
+mod cluster;
 mod flat;
+mod idle;
 mod kinds;
-mod list;
 mod next;
-mod table;
+mod over_groups;
+mod preferred;
+mod split;
+mod spread;
+mod unavailable;
 
+pub use busy::Busy;
+pub use clash::Clash;
+pub use flat::FlatConstraint;
+pub use flat::FlatNext;
+pub use flat::flat_at;
 pub use kinds::Bounds;
-pub use kinds::Busy;
-pub use kinds::Clash;
 pub use kinds::Constraint;
 pub use kinds::Head;
 pub use kinds::Kind;
 pub use kinds::Next;
-pub use kinds::OverGroups;
-pub use kinds::Preferred;
-pub use kinds::Split;
-pub use kinds::Spread;
-pub use kinds::Unavailable;
 pub use kinds::bounds_of;
 pub use next::constraint_at;
+pub use over_groups::OverGroups;
+pub use preferred::Preferred;
+pub use split::Split;
+pub use spread::Spread;
+pub use unavailable::Unavailable;

@@ -31,17 +31,31 @@ ends-cons : {A : Type 0} (a : A) (p : Parsed (List A)) → ends (cons a p) ≡ e
 ends-cons a (got xs end) = refl
 ends-cons a (refused k v) = refl
 
+-- one more that ends somewhere, or is refused
+ends-rest : {A : Type 0} (p : Parsed A) (g : ℕ → Parsed (List A)) {v next : ℕ} → ends p ≡ got v next → ends (andThen p (λ a next. cons a (g next))) ≡ ends (g next)
+ends-rest (got a end) g {v} {next} e = let k : end ≡ next = cc in rw k (ends-cons a (g next))
+ends-rest (refused k w) g {v} {next} e = refused-got (refused k w ≡ ends (g next)) e
+
+pub ends-of-refused : {A : Type 0} (p : Parsed A) {k v : ℕ} → ends p ≡ refused k v → p ≡ refused k v
+ends-of-refused (got xs e) {k} {v} h = refused-got (got xs e ≡ refused k v) (sym h)
+ends-of-refused (refused k v) h = cc
+
+ends-stop : {A B : Type 0} (p : Parsed A) (g : A → ℕ → Parsed B) {k v : ℕ} → ends p ≡ refused k v → ends (andThen p g) ≡ refused k v
+ends-stop p g e = rw (ends-of-refused p e)
+
 -- a turn of reading the same thing again
 module _ {A : Type 0} (i count : ℕ) (f : ℕ → Parsed A) (at : ℕ) (h : i < count) where
-  pub ends-more : {a : A} {next : ℕ} → f at ≡ got a next → ends (repeat (count - i) f at) ≡ ends (repeat (count - (i + 1)) f next)
+  pub ends-more : {v next : ℕ} → ends (f at) ≡ got v next → ends (repeat (count - i) f at) ≡ ends (repeat (count - (i + 1)) f next)
   unfolding repeat
-  ends-more {a} {next} e =
+  ends-more e =
       let k : count - i ≡ suc (count - (i + 1)) = omega arith in
-      rw (k, e) (ends-cons a (repeat (count - (i + 1)) f next))
+      rw k (ends-rest (f at) (repeat (count - (i + 1)) f) e)
 
-  pub ends-refused : {k v : ℕ} → f at ≡ refused k v → ends (repeat (count - i) f at) ≡ refused k v
+  pub ends-refused : {k v : ℕ} → ends (f at) ≡ refused k v → ends (repeat (count - i) f at) ≡ refused k v
   unfolding repeat
-  ends-refused e = let k : count - i ≡ suc (count - (i + 1)) = omega arith in rw (k, e)
+  ends-refused e =
+      let k : count - i ≡ suc (count - (i + 1)) = omega arith in
+      rw k (ends-stop (f at) (λ a next. cons a (repeat (count - (i + 1)) f next)) e)
 
 pub ends-end : {A : Type 0} (i count : ℕ) (f : ℕ → Parsed A) (at : ℕ) → count ≤ i → ends (repeat (count - i) f at) ≡ got 0 at
 unfolding repeat
@@ -51,10 +65,6 @@ ends-end i count f at h = let k : count - i ≡ 0 = omega arith in rw k
 pub ends-got : {A : Type 0} (p : Parsed (List A)) {n end : ℕ} → ends p ≡ got n end → p ≡ got (listOf p) end
 ends-got (got xs e) {n} {end} h = let k : e ≡ end = cc in rw k
 ends-got (refused k v) {n} {end} h = refused-got (refused k v ≡ got [] end) h
-
-pub ends-of-refused : {A : Type 0} (p : Parsed A) {k v : ℕ} → ends p ≡ refused k v → p ≡ refused k v
-ends-of-refused (got xs e) {k} {v} h = refused-got (got xs e ≡ refused k v) (sym h)
-ends-of-refused (refused k v) h = cc
 
 -- a list that reached the end of the bytes
 pub record WholeAt {A : Type 0} (s : List ℕ) (n : ℕ) (f : ℕ → Parsed A) (at : ℕ) (xs : List A) (end : ℕ) : Type 0 where

@@ -8,26 +8,35 @@ use crate::split::length_of_split;
 use crate::spread::length_of_spread;
 use crate::unavailable::length_of_unavailable;
 use constraint::Head;
-use constraint::Kind;
+use fields::Flat;
 ghost use mathlib.Core.Path.{_≡_};
-ghost use Rattle.constraint.specs.Answers.{kindOf, countsIn};
+ghost use Rattle.number.specs.Lists.{leading};
+ghost use Rattle.fields.specs.Made.{kindFrom};
+ghost use Rattle.constraint.specs.Answers.{countsIn};
 ghost use Rattle.constraint.specs.Valid.{InRange};
 ghost use Rattle.constraint_end.specs.Ready.{Ready, lengthBy, byCounts};
 
 // loads[r] is how many events use resource r.
-pub fn list_length(k: Kind, head: Head, loads: &[u32], groups: &[u8], list: &[u16]) -> u32
+pub fn list_length(
+    kind: u32,
+    w: Flat,
+    head: Head,
+    loads: &[u32],
+    groups: &[u8],
+    list: &[u16],
+) -> u32
     requires { ⌜ Ready (now loads) (now groups) (now list) head ⌝ }
-    requires { ⌜ InRange (countsIn head) (kindOf (now list) k) ⌝ }
-    ensures { λ r. ⌜ r ≡ lengthBy (byCounts (now (loads .entry))) (now (groups .entry)) head (kindOf (now (list .entry)) k) ⌝ }
+    requires { ⌜ InRange (countsIn head) (kindFrom kind w (leading (w .list) (now list))) ⌝ }
+    ensures { λ r. ⌜ r ≡ lengthBy (byCounts (now (loads .entry))) (now (groups .entry)) head (kindFrom kind w (leading (w .list) (now (list .entry)))) ⌝ }
 {
-    match k {
-        Kind::Clash(f) => length_of_clash(f.resource, loads),
-        Kind::Unavailable(f) => length_of_unavailable(f.group, groups),
-        Kind::Preferred(f) => length_of_preferred(head.times, f.group, groups),
-        Kind::Split(_) => length_of_split(head.times),
-        Kind::Spread(f) => length_of_spread(f.events, f.group, groups),
-        Kind::Busy(f) => length_of_busy(f.group, groups),
-        Kind::Cluster(f) => length_of_cluster(f.groups),
-        Kind::Idle(f) => length_of_idle(groups, list, f.groups),
+    match kind {
+        1 => length_of_clash(w.d, loads),
+        2 => length_of_unavailable(w.d, groups),
+        3 => length_of_preferred(head.times, w.d, groups),
+        4 => length_of_split(head.times),
+        5 => length_of_spread(w.list, w.b, groups),
+        6 => length_of_busy(w.b, groups),
+        7 => length_of_cluster(w.list),
+        _ => length_of_idle(groups, list, w.list),
     }
 }

@@ -1,49 +1,47 @@
 // The checks at a constraint's end.
+use crate::bounds::hi_of;
+use crate::bounds::lo_of;
 use crate::by_kind::list_length;
-use constraint::Constraint;
+use constraint::FlatNext;
 use constraint::Head;
-use constraint::Next;
-use constraint::bounds_of;
-use constraint::constraint_at;
+use constraint::flat_at;
+use number::Number;
 use scope::Refusal;
 use scope::refusals::BAD_BOUNDS;
 use scope::refusals::LIST_TOO_LONG;
 ghost use mathlib.Core.Path.{_≡_};
-ghost use mathlib.Core.List.{List};
 ghost use Prim.Native.Nat.{ℕ};
+ghost use Rattle.scope.specs.Kinds.{Kind};
 ghost use Rattle.scope.specs.Instance.{ended as endedAt};
-ghost use Rattle.constraint.specs.Answers.{kindOf, saidNext};
-ghost use Rattle.constraint.specs.Bounds.{lowOf, highOf};
+ghost use Rattle.number.specs.Answers.{said};
+ghost use Rattle.constraint_end.specs.Ends.{ends};
 ghost use Rattle.constraint_end.specs.Ready.{Ready, checkedBy, byCounts};
 
-// A constraint whose kind stands at an offset and whose counted list has n members.
-fn ended(at: usize, n: u32, c: Constraint, end: usize) -> Next
-    ensures { λ r. ⌜ ((l : List ℕ) → saidNext l r ≡ endedAt at (lowOf (kindOf l (c .kind))) (highOf (kindOf l (c .kind))) n (c .weight) (kindOf l (c .kind)) end) ⌝ }
+// A constraint whose kind stands at an offset and whose counted list has n members: where it ends.
+fn ended(at: usize, n: u32, lo: u32, hi: u32, end: usize) -> Number
+    ensures { λ r. ⌜ ((weight : ℕ) (k : Kind) → said r ≡ ends (endedAt at lo hi n weight k end)) ⌝ }
 {
-    if 255 < n {
-        return Next::Refused(Refusal {
-            number: LIST_TOO_LONG,
-            value: at as u64,
-        });
-    }
+    let long = Refusal {
+        number: LIST_TOO_LONG,
+        value: at as u64,
+    };
     let bad = Refusal {
         number: BAD_BOUNDS,
         value: at as u64,
     };
-    let kind = c.kind;
-    let b = bounds_of(kind);
-    let lo = b.lo;
-    let hi = b.hi;
+    if 255 < n {
+        return Number::Refused(long);
+    }
     if hi < lo {
-        return Next::Refused(bad);
+        return Number::Refused(bad);
     }
-    if n < lo {
-        return Next::Refused(bad);
+    if lo <= n {
+        return Number::Value(0, end);
     }
-    Next::Read(c, end)
+    Number::Refused(bad)
 }
 
-// The constraint at an offset, checked.
+// Where the constraint at an offset ends, checked.
 pub fn checked_at(
     s: &[u8],
     at: usize,
@@ -51,15 +49,17 @@ pub fn checked_at(
     loads: &[u32],
     groups: &[u8],
     list: &mut [u16],
-) -> Next
+) -> Number
     requires { ⌜ Ready (now loads) (now groups) (now list) head ⌝ }
-    ensures { λ r. ⌜ saidNext (now (list .exit)) r ≡ checkedBy (byCounts (now (loads .entry))) (now (groups .entry)) head (now (s .entry)) at ⌝ }
+    ensures { λ r. ⌜ said r ≡ ends (checkedBy (byCounts (now (loads .entry))) (now (groups .entry)) head (now (s .entry)) at) ⌝ }
 {
-    let x = constraint_at(s, at, head, list);
-    let Next::Read(c, end) = x else {
-        return x;
-    };
-    let kind = c.kind;
-    let n = list_length(kind, head, loads, groups, list);
-    ended(at, n, c, end)
+    match flat_at(s, at, head, list) {
+        FlatNext::Read(c, end) => {
+            let n = list_length(c.kind, c.fields, head, loads, groups, list);
+            let lo = lo_of(c.kind, c.fields);
+            let hi = hi_of(c.kind, c.fields);
+            ended(at, n, lo, hi, end)
+        }
+        FlatNext::Refused(f) => Number::Refused(f),
+    }
 }

@@ -1,4 +1,5 @@
 // A constraint as it stands in the file, checked at its end: the length of its counted list (4), its bounds (5).
+mod bounds;
 mod busy;
 mod by_kind;
 mod check;

@@ -9,7 +9,6 @@ use Rattle.number.specs.Answers.{refusedBy}
 use Rattle.number.specs.Parsing.{listOf}
 use Rattle.tables.specs.Rows.{rows, eventsOf}
 use Rattle.constraint.specs.declared.kinds.Head.{Head}
-use Rattle.constraint.specs.declared.kinds.Next.{Next}
 use Rattle.instance.specs.declared.reader.Sizes.{Sizes}
 use Rattle.instance.specs.declared.reader.SizesRead.{SizesRead}
 use Rattle.instance.specs.declared.reader.File.{File}
@@ -46,10 +45,6 @@ saidFile s d te tg (File.Accepted h) = got (instanceOf s d te tg h) (endOf (cons
 saidFile s d te tg (File.Refused f) = refusedBy f
 
 -- the refusal that an answer holds; of a value, none
-abbrev pub refusalOfNext : Next → Refusal
-refusalOfNext (Next.Read c next) = record { number = 0; value = 0 }
-refusalOfNext (Next.Refused f) = f
-
 abbrev pub refusalOfSizes : SizesRead → Refusal
 refusalOfSizes (SizesRead.Value w next) = record { number = 0; value = 0 }
 refusalOfSizes (SizesRead.Refused f) = f

@@ -1,6 +1,5 @@
 // The walk over all constraints of a file.
 use constraint::Head;
-use constraint::Next;
 use constraint_end::checked_at;
 use number::Number;
 use scope::Refusal;
@@ -8,21 +7,8 @@ use scope::refusals::BYTES_LEFT;
 use tables::count_members;
 ghost use mathlib.Core.Path.{_≡_};
 ghost use Rattle.number.specs.Answers.{said};
-ghost use Rattle.instance.specs.Answers.{refusalOfNext};
 ghost use Rattle.constraint_end.specs.Ends.{ends};
 ghost use Rattle.constraint_end.specs.Ready.{Ready, Lent, checkedAll, checkedWhole, byCounts, byRows};
-
-fn refusal_of_next(x: Next) -> Refusal
-    ensures { λ r. ⌜ r ≡ refusalOfNext x ⌝ }
-{
-    match x {
-        Next::Read(_, _) => Refusal {
-            number: 0,
-            value: 0,
-        },
-        Next::Refused(f) => f,
-    }
-}
 
 // Where the constraints end.
 fn constraints_end(s: &[u8], head: Head, loads: &[u32], groups: &[u8], list: &mut [u16]) -> Number
@@ -34,8 +20,8 @@ fn constraints_end(s: &[u8], head: Head, loads: &[u32], groups: &[u8], list: &mu
     let mut i: usize = 0;
     while i < most {
         let x = checked_at(s, next, head, loads, groups, list);
-        let Next::Read(_, after) = x else {
-            return Number::Refused(refusal_of_next(x));
+        let Number::Value(_, after) = x else {
+            return x;
         };
         next = after;
         i = i + 1;

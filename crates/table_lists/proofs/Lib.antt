@@ -1,1 +1,2 @@
+mod Stops
 mod Writing

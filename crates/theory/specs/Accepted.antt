@@ -1,46 +1,24 @@
 -- What an accepted instance satisfies: every limit, reference and list that the reader checks.
 use mathlib.Core.List.{List, [], _∷_}
-use Prim.Native.Nat.{ℕ, zero, suc, _+_, _-_, _≤_}
+use Prim.Native.Nat.{ℕ, suc, _-_, _≤_}
 use native.Mathlib.Omega.{arith}
-use lib.Dec.{leb, ltb}
+use lib.Dec.{leb}
 use lib.ListN.{length}
-use borrow.Author.Tests.{leb-true, ltb-true}
+use borrow.Author.Tests.{leb-true}
 use Rattle.laws.specs.Lists.{All, All-at, All-weaken}
 use Rattle.scope.specs.Parsed.{Parsed, andThen, repeat}
-use Rattle.scope.specs.Number.{number, limited, reference, references, listed}
-use Rattle.scope.specs.Kinds.{Event, Kind, clash, unavailable, preferred, split, spread, busy, cluster, idle, Constraint, Counted, users, groupAt, countedOf, longest}
-use Rattle.scope.specs.Instance.{Instance, Counts, countsOf, eventAt, Fields, aReference, aList, aNumber, theKind, fieldsRead, fieldsTable, fieldsOf, ended, constraintAt, sizesAt, groupsAt, constraintsAt, parse}
+use Rattle.scope.specs.Number.{limited, listed}
+use Rattle.scope.specs.Kinds.{Event, Kind, Constraint, Counted, users, groupAt, countedOf, longest}
+use Rattle.scope.specs.Instance.{Instance, Counts, countsOf, eventAt, fieldsRead, fieldsOf, ended, constraintAt, sizesAt, groupsAt, constraintsAt, parse}
 use Rattle.scope.specs.Demands.{Accepted}
-use Rattle.theory.specs.Readings.{Gives, gives-value, gives-andThen, gives-unless, gives-cons, gives-repeat}
-
--- a number within its limits
-pub record Within (lo hi v : ℕ) : Type 0 where
-  pub low : lo ≤ v
-  pub high : v ≤ hi
-
--- strictly ascending, above the number before and up to n
-abbrev pub Ascending : ℕ → ℕ → List ℕ → Type 0
-Ascending before n [] = Unit {0}
-Ascending before n (x ∷ xs) = Within (suc before) n x × Ascending x n xs
+use Rattle.number.specs.Laws.{Ascending, none, more, limited-got, listed-got}
+use Rattle.fields.proofs.ValidRows.{kind-read}
+pub use Rattle.fields.specs.Valid.{Within, InRange}
+use Rattle.theory.specs.Readings.{Gives, gives-value, gives-andThen, gives-unless, gives-repeat}
 
 pub record ValidEvent (T R : ℕ) (v : Event) : Type 0 where
   pub duration : Within 1 T (v .duration)
-  pub resources : Ascending 0 R (v .resources)
-
--- lo and hi as written
-abbrev pub Bounds : ℕ → ℕ → Type 0
-Bounds lo hi = Within 0 255 lo × Within 0 255 hi
-
--- each field of a kind is a reference to something, an ascending list of them, or a bound up to 255
-abbrev pub ValidFields : Counts → Kind → Type 0
-ValidFields n (clash r) = Within 1 (n .resources) r
-ValidFields n (unavailable r g) = Within 1 (n .resources) r × Within 1 (n .groups) g
-ValidFields n (preferred e g) = Within 1 (n .events) e × Within 1 (n .groups) g
-ValidFields n (split e lo hi) = Within 1 (n .events) e × Bounds lo hi
-ValidFields n (spread vs g lo hi) = Ascending 0 (n .events) vs × Within 1 (n .groups) g × Bounds lo hi
-ValidFields n (busy r g lo hi) = Within 1 (n .resources) r × Within 1 (n .groups) g × Bounds lo hi
-ValidFields n (cluster r hs lo hi) = Within 1 (n .resources) r × Ascending 0 (n .groups) hs × Bounds lo hi
-ValidFields n (idle r hs lo hi) = Within 1 (n .resources) r × Ascending 0 (n .groups) hs × Bounds lo hi
+  pub resources : Ascending R 0 (v .resources)
 
 -- what a kind counts in an instance
 abbrev pub counted : ℕ → List Event → List (List ℕ) → Kind → Counted
@@ -48,7 +26,7 @@ counted T es gs k = countedOf T (λ r. users r es) (groupAt gs) k
 
 pub record ValidConstraint (T R : ℕ) (es : List Event) (gs : List (List ℕ)) (c : Constraint) : Type 0 where
   pub weight : Within 0 1000 (c .weight)
-  pub fields : ValidFields (countsOf T R es gs) (c .kind)
+  pub fields : InRange (countsOf T R es gs) (c .kind)
   -- its counted lists have up to 255 members, its lo is at most its hi as written and at most their length
   pub lists : longest (counted T es gs (c .kind) .lists) ≤ 255
   pub bounds : counted T es gs (c .kind) .lo ≤ counted T es gs (c .kind) .hi
@@ -60,45 +38,18 @@ pub record ValidInstance (i : Instance) : Type 0 where
   pub resources : Within 0 99 (i .resources)
   pub events : All (ValidEvent (i .times) (i .resources)) (i .events)
   pub group-count : Within 0 1024 (length (i .groups))
-  pub groups : All (Ascending 0 (i .times)) (i .groups)
+  pub groups : All (Ascending (i .times) 0) (i .groups)
   pub constraint-count : Within 0 4096 (length (i .constraints))
   pub constraints : All (ValidConstraint (i .times) (i .resources) (i .events) (i .groups)) (i .constraints)
 
 -- each reading gives what it checks
 
-any-number : (s : List ℕ) (at : ℕ) → Gives (λ v. Unit {0}) (number s at)
-any-number s at = record { known = λ v next e. tt }
-
--- a number within its limits
 pub gives-limited : (lo hi : ℕ) (s : List ℕ) (at : ℕ) → Gives (Within lo hi) (limited lo hi s at)
-unfolding limited
 gives-limited lo hi s at =
-    gives-andThen (any-number s at)
-    (λ v next _.
-    gives-unless (leb lo v) 2 at
-    (λ a. gives-unless (leb v hi) 2 at (λ b. gives-value (record { low = leb-true lo v a; high = leb-true v hi b }))))
+    record { known = λ v next e. let r = limited-got lo hi s at e in record { low = r .low; high = r .high } }
 
--- a reference to one of n things, above the one before it
-pub gives-reference : (before n : ℕ) (s : List ℕ) (at : ℕ) → Gives (Within (suc before) n) (reference before n s at)
-unfolding reference
-gives-reference before n s at =
-    gives-andThen (any-number s at)
-    (λ v next _.
-    gives-unless (ltb before v) 3 at
-    (λ a. gives-unless (leb v n) 3 at (λ b. gives-value (record { low = ltb-true before v a; high = leb-true v n b }))))
-
--- so many references, ascending
-gives-references : (k before n : ℕ) (s : List ℕ) (at : ℕ) → Gives (Ascending before n) (references k before n s at)
-unfolding references
-gives-references zero before n s at = gives-value tt
-gives-references (suc k) before n s at =
-    gives-andThen (gives-reference before n s at)
-    (λ v next a. gives-cons v (gives-references k v n s next) (λ vs b. (a, b)))
-
--- a list of references
-pub gives-listed : (n : ℕ) (s : List ℕ) (at : ℕ) → Gives (Ascending 0 n) (listed n s at)
-unfolding listed
-gives-listed n s at = gives-andThen (gives-limited 0 n s at) (λ count next _. gives-references count 0 n s next)
+pub gives-listed : (n : ℕ) (s : List ℕ) (at : ℕ) → Gives (Ascending n 0) (listed n s at)
+gives-listed n s at = record { known = λ xs end e. listed-got n s at e .ascending }
 
 -- an event
 pub gives-event : (T R : ℕ) (s : List ℕ) (at : ℕ) → Gives (ValidEvent T R) (eventAt T R s at)
@@ -107,51 +58,9 @@ gives-event T R s at =
     gives-andThen (gives-limited 1 T s at)
     (λ d next a. gives-andThen (gives-listed R s next) (λ rs end b. gives-value (record { duration = a; resources = b })))
 
--- every kind that some fields can make is valid
-abbrev ValidRow : Counts → Fields → Type 0
-ValidRow n (aReference m f) = (v : ℕ) → Within 1 m v → ValidRow n (f v)
-ValidRow n (aList m f) = (vs : List ℕ) → Ascending 0 m vs → ValidRow n (f vs)
-ValidRow n (aNumber lo hi f) = (v : ℕ) → Within lo hi v → ValidRow n (f v)
-ValidRow n (theKind k) = ValidFields n k
-
-gives-row : (n : Counts) (f : Fields) (s : List ℕ) (at : ℕ) → ValidRow n f → Gives (ValidFields n) (fieldsRead f s at)
-unfolding fieldsRead
-gives-row n (aReference m f) s at h = gives-andThen (gives-reference 0 m s at) (λ v next a. gives-row n (f v) s next (h v a))
-gives-row n (aList m f) s at h = gives-andThen (gives-listed m s at) (λ vs next a. gives-row n (f vs) s next (h vs a))
-gives-row n (aNumber lo hi f) s at h = gives-andThen (gives-limited lo hi s at) (λ v next a. gives-row n (f v) s next (h v a))
-gives-row n (theKind k) s at h = gives-value h
-
--- those of each row of the table
-valid-rows : (n : Counts) → All (ValidRow n) (fieldsTable n)
-unfolding fieldsTable
-valid-rows n = (
-  λ r a. a,
-  (
-    λ r a g b. (a, b),
-    (
-      λ e a g b. (a, b),
-      (
-        λ e a lo b hi c. (a, (b, c)),
-        (
-          λ vs a g b lo c hi d. (a, b, (c, d)),
-          (
-            λ r a g b lo c hi d. (a, b, (c, d)),
-            (
-              λ r a hs b lo c hi d. (a, b, (c, d)),
-              (λ r a hs b lo c hi d. (a, b, (c, d)), tt),
-            ),
-          ),
-        ),
-      ),
-    ),
-  ),
-)
-
-gives-fields : (n : Counts) (s : List ℕ) (at k : ℕ) → Within 1 8 k → Gives (ValidFields n) (fieldsRead (fieldsOf n k) s at)
-unfolding fieldsTable
-gives-fields n s at k w =
-    gives-row n (fieldsOf n k) s at
-    (All-at (ValidRow n) (theKind (clash 0)) (fieldsTable n) (k - 1) (omega (arith, w .low, w .high)) (valid-rows n))
+-- the fields of a kind
+gives-fields : (n : Counts) (s : List ℕ) (at k : ℕ) → Within 1 8 k → Gives (InRange n) (fieldsRead (fieldsOf n k) s at)
+gives-fields n s at k w = record { known = λ kind end e. kind-read n s at k kind end (w .low) (w .high) e .holds }
 
 -- a constraint, with the checks at its end
 pub gives-constraint : (T R : ℕ) (es : List Event) (gs : List (List ℕ)) (s : List ℕ) (at : ℕ)
@@ -161,8 +70,8 @@ gives-constraint T R es gs s at =
     gives-andThen (gives-limited 1 8 s at)
     (λ kind next i.
     gives-andThen (gives-limited 0 1000 s next)
-    (λ weight more w.
-    gives-andThen (gives-fields (countsOf T R es gs) s more kind i)
+    (λ weight after w.
+    gives-andThen (gives-fields (countsOf T R es gs) s after kind i)
     (λ k end f.
     let x = counted T es gs k in
     let n = longest (x .lists) in
@@ -209,7 +118,7 @@ gives-counted h most s at =
       known = λ xs end e. let m = gives-repeat h count next .known xs end e in record { count = rw (m .count) w; each = m .each };
     })
 
-gives-groups : (T : ℕ) (s : List ℕ) (at : ℕ) → Gives (Several (Ascending 0 T) 1024) (groupsAt T s at)
+gives-groups : (T : ℕ) (s : List ℕ) (at : ℕ) → Gives (Several (Ascending T 0) 1024) (groupsAt T s at)
 unfolding groupsAt
 gives-groups T s at = gives-counted (gives-listed T s) 1024 s at
 
@@ -248,22 +157,17 @@ gives-instance s =
 pub accepted-valid : (file : List ℕ) (i : Instance) → Accepted file i → ValidInstance i
 accepted-valid file i a = gives-instance file .known i (a .end) (a .parsed)
 
--- the members of an ascending list are within its limits, and there are at most as many
-pub ascending-within : (before n : ℕ) (xs : List ℕ) → Ascending before n xs → All (Within (suc before) n) xs
-ascending-within before n [] h = tt
-ascending-within before n (x ∷ xs) h =
+-- the members of an ascending list are within its limits
+pub ascending-within : (before n : ℕ) (xs : List ℕ) → Ascending n before xs → All (Within (suc before) n) xs
+ascending-within before n [] none = tt
+ascending-within before n (x ∷ xs) (more a b h) =
     let above : (y : ℕ) → Within (suc x) n y → Within (suc before) n y =
-    λ y w. record { low = omega (arith, h .0 .low, w .low); high = w .high } in
-    (h .0, All-weaken (Within (suc x) n) (Within (suc before) n) above xs (ascending-within x n xs (h .1)))
-
--- and there are at most as many as things above the number before
-pub ascending-length : (before n : ℕ) (xs : List ℕ) → before ≤ n → Ascending before n xs → before + length xs ≤ n
-ascending-length before n [] l h = omega arith
-ascending-length before n (x ∷ xs) l h = omega (arith, h .0 .low, ascending-length x n xs (h .0 .high) (h .1))
+    λ y w. record { low = omega (arith, a, w .low); high = w .high } in
+    (record { low = a; high = b }, All-weaken (Within (suc x) n) (Within (suc before) n) above xs (ascending-within x n xs h))
 
 -- the members of a group that there is are times
 pub group-within : (i : Instance) → ValidInstance i → (g : ℕ) → Within 1 (length (i .groups)) g
     → All (Within 1 (i .times)) (groupAt (i .groups) g)
 group-within i v g w =
     ascending-within 0 (i .times) (groupAt (i .groups) g)
-    (All-at (Ascending 0 (i .times)) [] (i .groups) (g - 1) (omega (arith, w .low, w .high)) (v .groups))
+    (All-at (Ascending (i .times) 0) [] (i .groups) (g - 1) (omega (arith, w .low, w .high)) (v .groups))

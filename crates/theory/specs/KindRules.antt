@@ -11,7 +11,7 @@ use Rattle.scope.specs.Kinds.{Event, Kind, clash, unavailable, preferred, split
 use Rattle.scope.specs.Instance.{Instance, countsOf}
 use Rattle.scope.specs.Score.{eventCount, rules}
 use Rattle.scope.specs.Formula.{durationRules, constraintRules, allRules}
-use Rattle.theory.specs.Accepted.{Within, ascending-within, ValidEvent, ValidFields, counted, ValidConstraint, ValidInstance, group-within}
+use Rattle.theory.specs.Accepted.{Within, ascending-within, ValidEvent, InRange as ValidFields, counted, ValidConstraint, ValidInstance, group-within}
 use Rattle.theory.specs.Ranges.{length-from, from-all}
 use Rattle.theory.specs.Nodes.{ListKnown, Atoms, length-members, entries-known}
 use Rattle.theory.specs.Rules.{ValidRule, ValidRule-weaken}

@@ -12,6 +12,7 @@ use Rattle.number.specs.Sequence.{limited-value}
 use Rattle.number.specs.Parsing.{before, before-nil, repeat-more, repeat-refused, repeat-end}
 use Rattle.table_lists.specs.Sequence.{row-value, row-refused}
 use Rattle.tables.specs.Rows.{rows}
+use Rattle.table_lists.proofs.Stops.{count-stop}
 use Rattle.table_lists.proofs.Writing.{rows-more}
 use Rattle.table_lists.proofs.groups_at.Statement.{statement}
 use Rattle.table_lists.proofs.groups_at.Tie as tie
@@ -37,7 +38,7 @@ enum-told c = search needs
 
 returns : tie.Need-returns Inv-loop μ-loop
 unfolding groupsAt
-returns c = rw (← (c .before .before .limited .ensures), c .enum-told .given .1)
+returns c = count-stop _ _ _ _ _ (c .before .before .limited .ensures) (c .enum-told .given .1)
 
 cast-most : tie.Need-cast-most Inv-loop μ-loop
 cast-most c = search needs

@@ -1,56 +1,71 @@
--- `check::checked_at` meets its contract: a constraint is decoded, its list measured, then the checks at its end.
+-- `constraint_end::check::checked_at` meets its contract: a constraint is decoded, its list measured, then the checks at its end.
 use borrow.Author.Needs.{needs}
-use Rattle.constraint.specs.Sequence.{next-value}
+use mathlib.Core.Path.{sym, ap, _∙_}
+use Rattle.number.specs.Lists.{leading}
+use Rattle.fields.specs.Made.{kindFrom}
+use Rattle.constraint.specs.Answers.{saidFlatNext}
 use Rattle.constraint.specs.Decoded.{checkedAt}
 use Rattle.constraint.specs.Valid.{decoded-got}
 use Rattle.constraint_end.specs.Ready.{ready-kept}
 use Rattle.constraint_end.proofs.check.checked_at.Statement.{statement}
 use Rattle.constraint_end.proofs.check.checked_at.Tie as tie
 
-constraint-at-requires : tie.Need-constraint-at-requires
-constraint-at-requires c κs = search needs
+flat-at-requires : tie.Need-flat-at-requires
+flat-at-requires c κs = search needs
 
-enum-known-x : tie.Need-enum-known-x
-enum-known-x c = search needs
+enum-known-c : tie.Need-enum-known-c
+enum-known-c c = search needs
 
-enum-told : tie.Need-enum-told
-enum-told c = search needs
+list-length-requires : tie.Need-list-length-requires
+list-length-requires c κs =
+    let f = c .before .before .before .before .before .before .flat-at in
+    let l = f .last .1 .1 .1 .0 in
+    let e = sym (f .ensures) ∙ ap (saidFlatNext l) (c .before .before .c .given .1) in
+    (ready-kept (c .before .before .before .before .before .before .before .before .before .before .before .before .pre) (f .kept .1 .1 .1 .0), decoded-got _ _ _ e .fields)
+
+lo-of-requires : tie.Need-lo-of-requires
+lo-of-requires c κs = search needs
+
+hi-of-requires : tie.Need-hi-of-requires
+hi-of-requires c κs = search needs
+
+ended-requires : tie.Need-ended-requires
+ended-requires c κs = search needs
+
+enum-known-f : tie.Need-enum-known-f
+enum-known-f c = search needs
 
 same-length : tie.Need-same-length
 same-length c = search needs
 
 returns : tie.Need-returns
 unfolding checkedAt
-returns c = rw (← (c .before .before .before .before .constraint-at .ensures), c .enum-told .given .1)
-
-list-length-requires : tie.Need-list-length-requires
-list-length-requires c κs =
-    let f = c .before .before .before .before .before .before .constraint-at in
-    let d = decoded-got _ _ _ (next-value (f .last .1 .1 .1 .0) _ (f .ensures) (c .before .before .x .given .1)) in
-    (ready-kept (c .before .before .before .before .before .before .before .before .before .before .before .before .pre) (f .kept .1 .1 .1 .0), d .fields)
-
-ended-requires : tie.Need-ended-requires
-ended-requires c κs = search needs
+returns c =
+    let f = c .before .before .before .before .before .before .before .before .before .before .flat-at in
+    let w = c .before .before .before .before .before .before .c .given .0 .0 in
+    let l = leading (w .fields .list) (f .last .1 .1 .1 .0) in
+    rw (← (f .ensures), c .before .before .before .before .before .before .c .given .1, ← (c .before .before .before .list-length .ensures), ← (c .before .before .lo-of .ensures l), ← (c .before .hi-of .ensures l))
+    (c .ended .ensures (w .weight) (kindFrom (w .kind) (w .fields) l))
 
 same-length-2 : tie.Need-same-length-2
 same-length-2 c = search needs
 
 returns-2 : tie.Need-returns-2
 unfolding checkedAt
-returns-2 c =
-    let f = c .before .before .before .before .before .before .before .before .constraint-at in
-    rw (← (f .ensures), c .before .before .before .before .x .given .1, ← (c .before .list-length .ensures)) (c .ended .ensures (f .last .1 .1 .1 .0))
+returns-2 c = rw (← (c .before .before .before .before .before .flat-at .ensures), c .before .f .given .1)
 
 pub checked-at-spec : {M : Type 1} → statement M
 checked-at-spec =
     tie.close
     (tie.spec
-    constraint-at-requires
-    enum-known-x
-    enum-told
+    flat-at-requires
+    enum-known-c
+    list-length-requires
+    lo-of-requires
+    hi-of-requires
+    ended-requires
+    enum-known-f
     same-length
     returns
-    list-length-requires
-    ended-requires
     same-length-2
     returns-2)

@@ -1,11 +1,11 @@
 -- `instance::walk::constraints_end` meets its contract. The loop's invariant: the constraints still to be read end where all do.
 use borrow.Author.Needs.{needs}
 use Prim.Native.Nat.{_-_, _≤_}
-use mathlib.Core.Path.{_≡_, refl, sym, _∙_}
+use mathlib.Core.Path.{_≡_, refl, sym, ap, _∙_}
 use native.Mathlib.Omega.{arith}
 use lib.ListN.{getD}
 use Rattle.scope.specs.Parsed.{repeat}
-use Rattle.constraint.specs.Sequence.{next-value, next-refused}
+use Rattle.number.specs.Answers.{said}
 use Rattle.constraint_end.specs.Ends.{ends, ends-more, ends-refused, ends-end}
 use Rattle.constraint_end.specs.Ready.{Ready, checkedBy, ready-kept}
 use Rattle.instance.proofs.walk.constraints_end.Statement.{statement}
@@ -39,20 +39,15 @@ enum-known-x c = search needs
 enum-told : tie.Need-enum-told Inv-loop μ-loop
 enum-told c = search needs
 
-refusal-of-next-requires : tie.Need-refusal-of-next-requires Inv-loop μ-loop
-refusal-of-next-requires c κs = search needs
-
 same-length : tie.Need-same-length Inv-loop μ-loop
 same-length c = search needs
 
 returns : tie.Need-returns Inv-loop μ-loop
 returns c =
-    let f = c .before .before .before .before .before .checked-at in
-    let told = c .before .enum-told .given .1 in
-    rw (c .refusal-of-next .ensures, told)
-    (sym
-    (c .before .before .before .before .before .before .before .before .loop .inv .2
-    ∙ ends-refused _ _ _ _ (c .before .before .before .before .before .before .before .loop-test .taken) (next-refused (f .last .1 .1 .1 .1 .1 .0) _ (f .ensures) told)))
+    let f = c .before .before .before .before .checked-at in
+    let told = c .enum-told .given .1 in
+    rw told
+    (sym (c .before .before .before .before .before .before .before .loop .inv .2 ∙ ends-refused _ _ _ _ (c .before .before .before .before .before .before .loop-test .taken) (sym (f .ensures) ∙ ap said told)))
 
 add-i : tie.Need-add-i Inv-loop μ-loop
 add-i c = search needs
@@ -64,7 +59,7 @@ loop-again : tie.Need-loop-again Inv-loop μ-loop
 loop-again c =
     let f = c .before .before .before .before .before .checked-at in
     let l = c .before .before .before .before .before .before .before .before .loop in
-    let here = next-value (f .last .1 .1 .1 .1 .1 .0) _ (f .ensures) (c .before .x .given .1) in (
+    let here = sym (f .ensures) ∙ ap said (c .before .x .given .1) in (
       omega arith,
       ready-kept (l .inv .1) (f .kept .1 .1 .1 .1 .1 .0),
       l .inv .2 ∙ ends-more _ _ _ _ (c .before .before .before .before .before .before .before .loop-test .taken) here,
@@ -87,7 +82,6 @@ constraints-end-spec =
     checked-at-requires
     enum-known-x
     enum-told
-    refusal-of-next-requires
     same-length
     returns
     add-i

@@ -1,0 +1,29 @@
+// lo and hi of a constraint in plain numbers, as written: one table for all kinds, fixed for those without lo and hi.
+use fields::Flat;
+ghost use mathlib.Core.Path.{_≡_};
+ghost use mathlib.Core.List.{List};
+ghost use Prim.Native.Nat.{ℕ};
+ghost use Rattle.fields.specs.Made.{kindFrom};
+ghost use Rattle.constraint.specs.Bounds.{lowOf, highOf};
+
+pub fn lo_of(kind: u32, w: Flat) -> u32
+    ensures { λ r. ⌜ ((l : List ℕ) → r ≡ lowOf (kindFrom kind w l)) ⌝ }
+{
+    match kind {
+        1 => 0,
+        2 => 0,
+        3 => 0,
+        _ => w.c,
+    }
+}
+
+pub fn hi_of(kind: u32, w: Flat) -> u32
+    ensures { λ r. ⌜ ((l : List ℕ) → r ≡ highOf (kindFrom kind w l)) ⌝ }
+{
+    match kind {
+        1 => 1,
+        2 => 0,
+        3 => 0,
+        _ => w.d,
+    }
+}

@@ -1,0 +1,74 @@
+-- The numbers of a constraint's fields, read one after another.
+use Prim.Native.Nat.{ℕ}
+use mathlib.Core.Path.{_≡_, refl}
+use mathlib.Core.List.{List, [], _∷_}
+use lib.ListN.{length}
+use Rattle.scope.specs.Parsed.{andThen}
+use Rattle.scope.specs.Number.{limited, reference, listed}
+use Rattle.scope.specs.Instance.{Fields, aReference, aList, aNumber, theKind, fieldsRead}
+use Rattle.number.specs.declared.Number.{Number}
+use Rattle.number.specs.Answers.{said}
+use Rattle.number.specs.Lists.{leading, length-leading}
+use Rattle.fields.specs.declared.table.Field.{Field}
+use Rattle.fields.specs.declared.table.Totals.{Totals}
+use Rattle.fields.specs.declared.flat.Flat.{Flat}
+use Rattle.fields.specs.Answers.{saidList}
+use Rattle.fields.specs.Made.{kindFrom}
+use Rattle.fields.specs.Table.{countOf, fieldsFrom}
+
+-- one more number, and a list's length
+abbrev pub pushed : ℕ → Flat → Flat
+pushed v w = record { a = w .b; b = w .c; c = w .d; d = v; list = w .list }
+
+abbrev pub counting : ℕ → Flat → Flat
+counting v w = record { a = w .a; b = w .b; c = w .c; d = w .d; list = v }
+
+abbrev pub putOf : Field → ℕ → Flat → Flat
+putOf (Field.Reference n) v w = pushed v w
+putOf (Field.List n) v w = counting v w
+putOf (Field.Number lo hi) v w = pushed v w
+
+abbrev pub nothing : Flat
+nothing = record { a = 0; b = 0; c = 0; d = 0; list = 0 }
+
+-- the fields that are left, after those whose numbers and list are known
+unfoldable pub left : List Field → ℕ → Flat → List ℕ → Fields
+left [] k w l = theKind (kindFrom k w l)
+left (Field.Reference n ∷ fs) k w l = aReference n (λ v. left fs k (pushed v w) l)
+left (Field.List n ∷ fs) k w l = aList n (λ vs. left fs k (counting (length vs) w) vs)
+left (Field.Number lo hi ∷ fs) k w l = aNumber lo hi (λ v. left fs k (pushed v w) l)
+
+-- the same with the list in a store
+abbrev pub leftIn : List Field → ℕ → Flat → List ℕ → Fields
+leftIn fs k w l = left fs k w (leading (w .list) l)
+
+-- all fields of a kind
+abbrev pub rowOf : Totals → ℕ → Fields
+rowOf n k = left (fieldsFrom n k 0 (countOf k)) k nothing []
+
+-- a field that was read at an offset, with the store before and after: the other fields go on from its number
+pub record FieldRead (f : Field) (l l′ s : List ℕ) (at : ℕ) (x : Number) : Type 0 where
+  pub eq : (fs : List Field) (k : ℕ) (w : Flat)
+      → fieldsRead (leftIn (f ∷ fs) k w l) s at
+      ≡ andThen (said x) (λ v next. fieldsRead (leftIn fs k (putOf f v w) l′) s next)
+
+module _ (n : ℕ) (l s : List ℕ) (at : ℕ) (x : Number) where
+  pub reference-read : said x ≡ reference 0 n s at → FieldRead (Field.Reference n) l l s at x
+  unfolding fieldsRead left
+  reference-read e = record { eq = λ fs k w. rw e }
+
+  pub list-read : (l′ : List ℕ) → saidList l′ x ≡ listed n s at → FieldRead (Field.List n) l l′ s at x
+  unfolding fieldsRead left
+  list-read l′ e = record { eq = λ fs k w. rw (← e) (by fs k w x) }
+    where
+      by : (fs : List Field) (k : ℕ) (w : Flat) (x : Number)
+          → andThen (saidList l′ x) (λ vs next. fieldsRead (left fs k (counting (length vs) w) vs) s next)
+          ≡ andThen (said x) (λ v next. fieldsRead (leftIn fs k (counting v w) l′) s next)
+      by fs k w (Number.Value v next) = rw (length-leading v l′)
+      by fs k w (Number.Refused f) = refl
+
+pub number-read : (lo hi : ℕ) (l s : List ℕ) (at : ℕ) (x : Number)
+    → said x ≡ limited lo hi s at
+    → FieldRead (Field.Number lo hi) l l s at x
+unfolding fieldsRead left
+number-read lo hi l s at x e = record { eq = λ fs k w. rw e }

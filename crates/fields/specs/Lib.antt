@@ -1,0 +1,5 @@
+pub mod Made
+pub mod Answers
+pub mod Table
+pub mod Flat
+pub mod Valid

@@ -1,0 +1,56 @@
+-- The fields of each kind as data: which stands after i others, and how many there are.
+use Prim.Native.Nat.{ℕ, zero, suc, _≤_}
+use mathlib.Core.Bool.{Bool, true, false, cond}
+use mathlib.Core.List.{List, [], _∷_}
+use lib.Dec.{eqb}
+use native.Mathlib.Omega.{arith}
+use Rattle.scope.specs.Instance.{Counts}
+use Rattle.fields.specs.declared.table.Totals.{Totals}
+use Rattle.fields.specs.declared.table.Field.{Field}
+
+-- how many things an instance has to refer to
+abbrev pub totalsOf : Counts → Totals
+totalsOf n = record { events = n .events; resources = n .resources; groups = n .groups }
+
+unfoldable pub firstOf : Totals → ℕ → Field
+firstOf n k =
+    cond (eqb k 3) (Field.Reference (n .events))
+    (cond (eqb k 4) (Field.Reference (n .events))
+    (cond (eqb k 5) (Field.List (n .events)) (Field.Reference (n .resources))))
+
+unfoldable pub secondOf : Totals → ℕ → Field
+secondOf n k =
+    cond (eqb k 4) (Field.Number 0 255)
+    (cond (eqb k 7) (Field.List (n .groups))
+    (cond (eqb k 8) (Field.List (n .groups)) (Field.Reference (n .groups))))
+
+-- the field after i others
+unfoldable pub fieldAt : Totals → ℕ → ℕ → Field
+fieldAt n k i = cond (eqb i 0) (firstOf n k) (cond (eqb i 1) (secondOf n k) (Field.Number 0 255))
+
+-- how many fields a kind has
+unfoldable pub countOf : ℕ → ℕ
+countOf k = cond (eqb k 1) 1 (cond (eqb k 2) 2 (cond (eqb k 3) 2 (cond (eqb k 4) 3 4)))
+
+-- j fields, after i others
+unfoldable pub fieldsFrom : Totals → (k i j : ℕ) → List Field
+fieldsFrom n k i zero = []
+fieldsFrom n k i (suc j) = fieldAt n k i ∷ fieldsFrom n k (suc i) j
+
+-- how many things the list of a field refers to
+abbrev pub listLimit : Field → ℕ
+listLimit (Field.Reference n) = 0
+listLimit (Field.List n) = n
+listLimit (Field.Number lo hi) = 0
+
+either : {A : Type 0} (P : A → Type 0) (t : Bool) {a b : A} → P a → P b → P (cond t a b)
+either P true p q = p
+either P false p q = q
+
+-- a list of events or of groups
+pub list-limit : (n : Totals) (k i most : ℕ) → n .events ≤ most → n .groups ≤ most → listLimit (fieldAt n k i) ≤ most
+unfolding fieldAt firstOf secondOf
+list-limit n k i most e g =
+    let P : Field → Type 0 = λ f. listLimit f ≤ most in
+    either P (eqb i 0) (either P (eqb k 3) (omega arith) (either P (eqb k 4) (omega arith) (either P (eqb k 5) e (omega arith))))
+    (either P (eqb i 1) (either P (eqb k 4) (omega arith) (either P (eqb k 7) g (either P (eqb k 8) g (omega arith)))) (omega arith))
