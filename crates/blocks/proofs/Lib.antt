@@ -1,3 +1,4 @@
 pub mod EventStart
 pub mod ResourceUse
 pub mod EventDuration
+pub mod Passed

@@ -44,7 +44,7 @@ fn write_event_starts(
 }
 
 // Those of all events.
-pub fn write_starts(
+fn write_all_starts(
     job: Job,
     model: &[u8],
     text: &mut [u8],
@@ -64,4 +64,26 @@ pub fn write_starts(
         z = write_event_starts(job, model, text, words, z, times, starts, e);
     }
     z
+}
+
+// The same, passed over at once by a run that drops hard clauses.
+pub fn write_starts(
+    job: Job,
+    model: &[u8],
+    text: &mut [u8],
+    words: &mut [u32],
+    s: Sink,
+    events: u32,
+    times: u32,
+    starts: u32,
+) -> Sink
+    requires { ⌜ Block times starts × (events ≤ 1024) ⌝ }
+    ensures { λ r. ⌜ Ran (step job (now (model .entry)))
+        (lines 0 (flatMap (λ e. flatMap (startClauses times starts e) (upTo times)) (upTo events)))
+        (world s (now (text .entry)) (now (words .entry))) (world r (now (text .exit)) (now (words .exit))) ⌝ }
+{
+    if sink::skips(job) {
+        return s;
+    }
+    write_all_starts(job, model, text, words, s, events, times, starts)
 }

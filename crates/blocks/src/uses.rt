@@ -42,7 +42,7 @@ fn write_resource_uses(
 }
 
 // Those of all resources, by the table of their users.
-pub fn write_uses(
+fn write_all_uses(
     job: Job,
     model: &[u8],
     text: &mut [u8],
@@ -67,4 +67,26 @@ pub fn write_uses(
         next = next + times;
     }
     z
+}
+
+// The same, passed over at once by a run that drops hard clauses.
+pub fn write_uses(
+    job: Job,
+    model: &[u8],
+    text: &mut [u8],
+    words: &mut [u32],
+    s: Sink,
+    users: &[u16],
+    count: u32,
+    times: u32,
+    v: u32,
+) -> Sink
+    requires { ⌜ UserRows (now users) × ((count ≤ 99) × ((times ≤ 125) × ((1 ≤ v) × (v + count * times ≤ 1073741824)))) ⌝ }
+    ensures { λ r. ⌜ Ran (step job (now (model .entry))) (lines v (map gate (flatMap (λ r. useGates times (usersAt (now (users .entry)) r)) (upTo count))))
+        (world s (now (text .entry)) (now (words .entry))) (world r (now (text .exit)) (now (words .exit))) ⌝ }
+{
+    if sink::skips(job) {
+        return s;
+    }
+    write_all_uses(job, model, text, words, s, users, count, times, v)
 }

@@ -1,4 +1,5 @@
 pub mod Fill
+pub mod Following
 pub mod Literal
 pub mod Overlap
 pub mod Spelling

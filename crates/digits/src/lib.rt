@@ -11,6 +11,9 @@ ghost use Rattle.digits.specs.Decimal.{lastDigits};
 
 pub mod spelled;
 
+use spelled::put_spelled_literal;
+use spelled::spell;
+
 // A position moved on. It stops at 2^63 - 1, and no slice is longer, so counting needs no bound.
 pub fn advance(at: usize, n: usize) -> usize
     ensures { λ r. ⌜ r ≡ further at n ⌝ }
@@ -133,14 +136,20 @@ fn fast_number(text: &mut [u8], at: usize, v: u32) -> usize
 }
 
 // A literal with its sign, and a space, where there is room. A sign is written in any case, and a digit over it where it is not wanted.
-fn fast_literal(text: &mut [u8], at: usize, l: u32) -> usize
+pub fn fast_literal(text: &mut [u8], at: usize, l: u32) -> usize
     requires { ⌜ at + 12 ≤ length (now text) ⌝ }
     ensures { λ r. ⌜ Ran put (literalText l) (out at (now (text .entry))) (out r (now (text .exit))) ⌝ }
     ensures { λ r. ⌜ r ≤ at + 12 ⌝ }
 {
+    let v = l / 2;
+    if 100 <= v {
+        if v < 10000000 {
+            return put_spelled_literal(text, at, l, spell(v));
+        }
+    }
     text[at] = 45;
     let a = at + (l % 2) as usize;
-    let b = fast_number(text, a, l / 2);
+    let b = fast_number(text, a, v);
     text[b] = 32;
     b + 1
 }

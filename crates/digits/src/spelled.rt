@@ -83,6 +83,36 @@ pub fn spell(v: u32) -> Spelled
     }
 }
 
+// The number after one: mostly only its last digit is another. That digit stands in the third of the last four bytes, and in a
+// number of four digits in the fourth of the first four too.
+pub fn following(n: Spelled) -> Spelled
+    requires { ⌜ Spelt (n .value) n × (100 ≤ n .value) × (n .value + 1 < 10000000) ⌝ }
+    ensures { λ r. ⌜ Spelt (n .value + 1) r ⌝ }
+{
+    let value = n.value + 1;
+    if n.value < 1000 {
+        return spell(value);
+    }
+    if 57 <= n.last / 65536 % 256 {
+        return spell(value);
+    }
+    let last = n.last + 65536;
+    if n.value < 10000 {
+        return Spelled {
+            value,
+            first: n.first + 16777216,
+            last,
+            len: n.len,
+        };
+    }
+    Spelled {
+        value,
+        first: n.first,
+        last,
+        len: n.len,
+    }
+}
+
 // Four bytes, where there is room.
 fn put_four(text: &mut [u8], at: usize, b: u32)
     requires { ⌜ at + 4 ≤ length (now text) ⌝ }

@@ -12,6 +12,7 @@ ghost use Rattle.sink.specs.Meaning.{hardText};
 ghost use Rattle.row_words.specs.Cells.{upperClauses, lowerClauses, fullClauses, lowClauses};
 ghost use Rattle.row_text.specs.Spellable.{Short, Spellable};
 use digits::spelled::Spelled;
+use digits::spelled::following;
 use digits::spelled::spell;
 use sink::lines::pair_line;
 use sink::lines::triple_line;
@@ -160,10 +161,12 @@ pub fn row_text(
     let weight = spell(top);
     let number = spell(x / 2);
     let mut before = spell(prev);
-    let mut p = low_cell(text, at, weight, x, number, before, spell(first));
+    let mut below = spell(first);
+    let mut p = low_cell(text, at, weight, x, number, before, below);
     for j in 1..cols {
-        let above = spell(prev + j);
-        p = full_cell(text, p, weight, x, number, above, before, spell(first + j));
+        let above = following(before);
+        below = following(below);
+        p = full_cell(text, p, weight, x, number, above, before, below);
         before = above;
     }
     p

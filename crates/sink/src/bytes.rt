@@ -1,4 +1,6 @@
 // A block as text, and the length of its text.
+use crate::roomy::roomy_block;
+use digits::spelled::spell;
 ghost use mathlib.Core.Path.{_≡_};
 ghost use mathlib.Core.Bool.{true};
 ghost use Rattle.sink.specs.Run.{out};
@@ -29,8 +31,8 @@ fn word_text(text: &mut [u8], at: usize, top: u64, first: bool, w: u32) -> usize
     digits::put_byte(text, c, 10)
 }
 
-// The hard lines of a block.
-pub fn text_block(text: &mut [u8], at: usize, top: u64, block: &[u32]) -> usize
+// The hard lines of a block, with a test of room for each number.
+fn tested_block(text: &mut [u8], at: usize, top: u64, block: &[u32]) -> usize
     ensures { λ r. ⌜ out r (now (text .exit)) ≡ byWords (textParts top) true (now (block .entry)) (out at (now (text .entry))) ⌝ }
 {
     let mut p = at;
@@ -41,6 +43,25 @@ pub fn text_block(text: &mut [u8], at: usize, top: u64, block: &[u32]) -> usize
         first = 2147483648 <= w;
     }
     p
+}
+
+// The hard lines of a block. One test of room is enough for all of it, where the weight has three to seven digits.
+pub fn text_block(text: &mut [u8], at: usize, top: u64, block: &[u32]) -> usize
+    ensures { λ r. ⌜ out r (now (text .exit)) ≡ byWords (textParts top) true (now (block .entry)) (out at (now (text .entry))) ⌝ }
+{
+    if top < 100 {
+        return tested_block(text, at, top, block);
+    }
+    if 10000000 <= top {
+        return tested_block(text, at, top, block);
+    }
+    if text.len() < at {
+        return tested_block(text, at, top, block);
+    }
+    if (text.len() - at) / 22 < block.len() {
+        return tested_block(text, at, top, block);
+    }
+    roomy_block(text, at, spell(top as u32), block)
 }
 
 // A word's length in the text, for lines that have so many bytes beside their literals.

@@ -13,6 +13,7 @@ ghost use Rattle.sink.specs.Skipped.{skipping};
 pub mod bytes;
 pub mod judge;
 pub mod lines;
+mod roomy;
 pub mod store;
 
 // What a run over the formula is for: the text's length; its hard lines; its soft lines; the hard clauses as words; a model's

@@ -11,7 +11,7 @@ use digits::spelled::put_spelled;
 use digits::spelled::put_spelled_literal;
 
 // What ends a line.
-fn end_line(text: &mut [u8], at: usize) -> usize
+pub fn end_line(text: &mut [u8], at: usize) -> usize
     requires { ⌜ at + 2 ≤ length (now text) ⌝ }
     ensures { λ r. ⌜ Ran put (48 ∷ newline) (out at (now (text .entry))) (out r (now (text .exit))) ⌝ }
     ensures { λ r. ⌜ r ≤ at + 2 ⌝ }

@@ -14,12 +14,12 @@ use Rattle.row_text.proofs.row_text.Statement.{statement}
 use Rattle.row_text.proofs.row_text.Tie as tie
 
 abbrev Inv-loop : tie.InvT-loop
-Inv-loop text₀ at top x prev first cols weight number before₀ p₀ j₀ text before p j =
-    (1 ≤ j) × (j ≤ cols) × (length text ≡ length text₀) × (p + 139 * (cols - j) ≤ length text₀) × Spelt (prev + (j - 1)) before
+Inv-loop text₀ at top x prev first cols weight number before₀ below₀ p₀ j₀ text before below p j =
+    (1 ≤ j) × (j ≤ cols) × (length text ≡ length text₀) × (p + 139 * (cols - j) ≤ length text₀) × Spelt (prev + (j - 1)) before × Spelt (first + (j - 1)) below
     × Todo put (flatMap (line top) (cellsFrom x 1 prev first cols j)) (flatMap (line top) (cellsFrom x 1 prev first cols 1)) (out p₀ text₀) (out p text)
 
 abbrev μ-loop : tie.MeasureT-loop
-μ-loop text₀ at top x prev first cols weight number before₀ p₀ j₀ text before p j = cols - j
+μ-loop text₀ at top x prev first cols weight number before₀ below₀ p₀ j₀ text before below p j = cols - j
 
 spell-requires : tie.Need-spell-requires Inv-loop μ-loop
 spell-requires c κs = let s = c .before .pre .0 .weight in (s .least, omega (arith, s .most))
@@ -31,33 +31,33 @@ spell-requires-3 : tie.Need-spell-requires-3 Inv-loop μ-loop
 spell-requires-3 c κs = let s = c .before .before .before .pre .0 in (s .above .least, omega (arith, s .above .most, s .some))
 
 spell-requires-4 : tie.Need-spell-requires-4 Inv-loop μ-loop
-spell-requires-4 c κs = let s = c .before .before .before .before .before .pre .0 in (s .row .least, omega (arith, s .row .most, s .some))
+spell-requires-4 c κs = let s = c .before .before .before .before .pre .0 in (s .row .least, omega (arith, s .row .most, s .some))
 
 low-cell-requires : tie.Need-low-cell-requires Inv-loop μ-loop
 low-cell-requires c κs =
-    (spelt-own (c .before .before .before .before .spell .ensures), c .before .before .before .spell2 .ensures, spelt-own (c .before .before .spell3 .ensures), spelt-own (c .spell4 .ensures), omega (arith, c .before .before .before .before .before .before .pre .1, c .before .before .before .before .before .before .pre .0 .some))
+    (spelt-own (c .before .before .before .before .spell .ensures), c .before .before .before .spell2 .ensures, spelt-own (c .before .before .spell3 .ensures), spelt-own (c .before .spell4 .ensures), omega (arith, c .before .before .before .before .before .before .pre .1, c .before .before .before .before .before .before .pre .0 .some))
 
 loop-holds : tie.Need-loop-holds Inv-loop μ-loop
 loop-holds c =
     let s = c .before .before .before .before .before .before .before .before .before .pre in
-    (omega arith, s .0 .some, refl, omega (arith, s .1, s .0 .some, c .before .before .low-cell .kept .0, c .before .before .low-cell .ensures .1), spelt-at (c .before .before .before .before .before .spell3 .ensures) (omega arith), todo-start)
+    (omega arith, s .0 .some, refl, omega (arith, s .1, s .0 .some, c .before .before .low-cell .kept .0, c .before .before .low-cell .ensures .1), spelt-at (c .before .before .before .before .before .spell3 .ensures) (omega arith), spelt-at (c .before .before .before .before .spell4 .ensures) (omega arith), todo-start)
 
-add-spell : tie.Need-add-spell Inv-loop μ-loop
-add-spell c = omega (arith, c .before .before .before .before .before .before .before .before .before .before .before .pre .0 .above .most)
+following-requires : tie.Need-following-requires Inv-loop μ-loop
+following-requires c κs =
+    let l = c .before .loop in
+    let s = c .before .before .before .before .before .before .before .before .before .before .before .pre .0 .above in
+    (spelt-own (l .inv .4), omega (arith, s .least, l .inv .4 .value), omega (arith, s .most, l .inv .4 .value, c .loop-test .taken, l .inv .0))
 
-spell-requires-5 : tie.Need-spell-requires-5 Inv-loop μ-loop
-spell-requires-5 c κs = let s = c .before .before .before .before .before .before .before .before .before .before .before .pre .0 .above in (omega (arith, s .least), omega (arith, s .most))
-
-add-spell-2 : tie.Need-add-spell-2 Inv-loop μ-loop
-add-spell-2 c = omega (arith, c .before .before .before .before .before .before .before .before .before .before .before .before .before .pre .0 .row .most)
-
-spell-requires-6 : tie.Need-spell-requires-6 Inv-loop μ-loop
-spell-requires-6 c κs = let s = c .before .before .before .before .before .before .before .before .before .before .before .before .before .pre .0 .row in (omega (arith, s .least), omega (arith, s .most))
+following-requires-2 : tie.Need-following-requires-2 Inv-loop μ-loop
+following-requires-2 c κs =
+    let l = c .before .before .loop in
+    let s = c .before .before .before .before .before .before .before .before .before .before .before .before .pre .0 .row in
+    (spelt-own (l .inv .5), omega (arith, s .least, l .inv .5 .value), omega (arith, s .most, l .inv .5 .value, c .before .loop-test .taken, l .inv .0))
 
 full-cell-requires : tie.Need-full-cell-requires Inv-loop μ-loop
 full-cell-requires c κs =
     let l = c .before .before .before .before .loop in
-    (spelt-own (c .before .before .before .before .before .before .before .before .before .before .before .before .spell .ensures), c .before .before .before .before .before .before .before .before .before .before .before .spell2 .ensures, spelt-own (c .before .before .spell5 .ensures), spelt-own (l .inv .4), spelt-own (c .spell6 .ensures), omega (arith, l .inv .2, l .inv .3, c .before .before .before .loop-test .taken))
+    (spelt-own (c .before .before .before .before .before .before .before .before .before .before .before .before .spell .ensures), c .before .before .before .before .before .before .before .before .before .before .before .spell2 .ensures, spelt-own (c .before .before .following .ensures), spelt-own (l .inv .4), spelt-own (c .before .following2 .ensures), omega (arith, l .inv .2, l .inv .3, c .before .before .before .loop-test .taken))
 
 add-j : tie.Need-add-j Inv-loop μ-loop
 add-j c = search needs
@@ -71,15 +71,18 @@ loop-again c =
     let s = c .before .before .before .before .before .before .before .before .before .before .before .before .before .before .before .before .before in
     let a = s .args in
     let f = c .before .before .full-cell in
-    let t = c .before .before .before .before .before .before .loop-test .taken in (
+    let t = c .before .before .before .before .before .before .loop-test .taken in
+    let u = c .before .before .before .before .before .following .ensures in
+    let v = c .before .before .before .before .following2 .ensures in (
       omega (arith, l .inv .0),
       omega (arith, t),
       f .kept .0 ∙ l .inv .2,
       omega (arith, l .inv .3, t, f .ensures .1),
-      spelt-at (c .before .before .before .before .before .spell5 .ensures) (omega arith),
-      todo-turn (put-turn (a .x) 1 (a .prev) (a .first) (a .cols) (line (a .top)) (l .j) t) (l .inv .5)
+      spelt-at u (omega (arith, l .inv .0, l .inv .4 .value)),
+      spelt-at v (omega (arith, l .inv .0, l .inv .5 .value)),
+      todo-turn (put-turn (a .x) 1 (a .prev) (a .first) (a .cols) (line (a .top)) (l .j) t) (l .inv .6)
           (full-ran (a .top) (a .x) (a .prev) (a .first) (omega (arith, s .pre .0 .literal .least)) (omega (arith, s .pre .0 .above .least)) (omega (arith, s .pre .0 .row .least)) (l .j) (l .inv .0)
-          (f .ensures .0) (c .before .before .before .before .before .before .before .before .before .before .before .before .before .before .before .spell .ensures .value) (c .before .before .before .before .before .spell5 .ensures .value) (l .inv .4 .value) (c .before .before .before .spell6 .ensures .value)),
+          (f .ensures .0) (c .before .before .before .before .before .before .before .before .before .before .before .before .before .before .before .spell .ensures .value) (omega (arith, u .value, l .inv .0, l .inv .4 .value)) (l .inv .4 .value) (omega (arith, v .value, l .inv .0, l .inv .5 .value))),
     )
 
 same-length : tie.Need-same-length Inv-loop μ-loop
@@ -93,8 +96,8 @@ returns c =
     same (put-first (a .x) 1 (a .prev) (a .first) (a .cols) (line (a .top)) (s .pre .0 .some))
     (then
     (low-ran (a .top) (a .x) (a .prev) (a .first) (omega (arith, s .pre .0 .literal .least)) (omega (arith, s .pre .0 .above .least)) (omega (arith, s .pre .0 .row .least))
-    (c .before .before .before .before .low-cell .ensures .0) (c .before .before .before .before .before .before .before .before .before .spell .ensures .value) (omega (arith, c .before .before .before .before .before .before .before .spell3 .ensures .value)) (omega (arith, c .before .before .before .before .before .spell4 .ensures .value)))
-    (todo-done (put-end (a .x) 1 (a .prev) (a .first) (a .cols) (line (a .top)) (l .j) (c .loop-test .left)) (l .inv .5)))
+    (c .before .before .before .before .low-cell .ensures .0) (c .before .before .before .before .before .before .before .before .before .spell .ensures .value) (omega (arith, c .before .before .before .before .before .before .before .spell3 .ensures .value)) (omega (arith, c .before .before .before .before .before .before .spell4 .ensures .value)))
+    (todo-done (put-end (a .x) 1 (a .prev) (a .first) (a .cols) (line (a .top)) (l .j) (c .loop-test .left)) (l .inv .6)))
 
 pub row-text-spec : {M : Type 1} → statement M
 row-text-spec =
@@ -108,10 +111,8 @@ row-text-spec =
     spell-requires-4
     low-cell-requires
     loop-holds
-    add-spell
-    spell-requires-5
-    add-spell-2
-    spell-requires-6
+    following-requires
+    following-requires-2
     full-cell-requires
     add-j
     loop-less

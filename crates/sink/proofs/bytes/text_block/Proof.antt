@@ -1,66 +1,91 @@
-use mathlib.Core.Path.{_≡_, refl}
+use mathlib.Core.Path.{_≡_, ap, _∙_}
 use mathlib.Core.Bool.{true}
-use Prim.Native.Nat.{_-_, _≤_, _<_}
+use Prim.Native.Nat.{ℕ}
 use native.Mathlib.Omega.{arith}
-use borrow.Author.Needs.{needs}
-use lib.ListN.{length, drop}
 use Rattle.sink.specs.Run.{out}
 use Rattle.sink.specs.Block.{byWords}
 use Rattle.sink.specs.Parts.{textParts}
-use Rattle.sink.proofs.Turns.{Left, start, turn, finish}
+use Rattle.digits.proofs.Spelling.{spelt-own}
+use borrow.Author.Needs.{needs}
 use Rattle.sink.proofs.bytes.text_block.Statement.{statement}
 use Rattle.sink.proofs.bytes.text_block.Tie as tie
 
-abbrev Inv-loop : tie.InvT-loop
-Inv-loop text₀ at top block p₀ first₀ i₀ i-end text p first i =
-    (i ≤ i-end) × (i-end ≡ length block) × (length text ≡ length text₀)
-    × Left (textParts top) first (drop i block) (out p text) (byWords (textParts top) true block (out at text₀))
+tested-block-requires : tie.Need-tested-block-requires
+tested-block-requires c κs = search needs
 
-abbrev μ-loop : tie.MeasureT-loop
-μ-loop text₀ at top block p₀ first₀ i₀ i-end text p first i = i-end - i
-
-loop-holds : tie.Need-loop-holds Inv-loop μ-loop
-loop-holds c = (omega arith, refl, refl, start)
-
-mul-w : tie.Need-mul-w Inv-loop μ-loop
-mul-w c = search needs
-
-shared-slice-read-w : tie.Need-shared-slice-read-w Inv-loop μ-loop
-shared-slice-read-w c = search needs
-
-word-text-requires : tie.Need-word-text-requires Inv-loop μ-loop
-word-text-requires c κs = search needs
-
-add-i : tie.Need-add-i Inv-loop μ-loop
-add-i c = search needs
-
-loop-less : tie.Need-loop-less Inv-loop μ-loop
-loop-less c = search needs
-
-loop-again : tie.Need-loop-again Inv-loop μ-loop
-loop-again c =
-    let l = c .before .before .before .before .before .before .loop in
-    let lt : l .i < length (c .before .before .before .before .before .before .before .before .before .args .block .now) = omega arith in
-    (omega arith, refl, search needs, turn (l .first) _ (l .i) lt (c .before .before .word-text .ensures) (l .inv .3))
-
-same-length : tie.Need-same-length Inv-loop μ-loop
+same-length : tie.Need-same-length
 same-length c = search needs
 
-returns : tie.Need-returns Inv-loop μ-loop
-returns c = finish _ (c .before .loop .i) (omega arith) (c .before .loop .inv .3)
+returns : tie.Need-returns
+returns c = c .before .before .tested-block .ensures
+
+tested-block-requires-2 : tie.Need-tested-block-requires-2
+tested-block-requires-2 c κs = search needs
+
+same-length-2 : tie.Need-same-length-2
+same-length-2 c = search needs
+
+returns-2 : tie.Need-returns-2
+returns-2 c = c .before .before .tested-block2 .ensures
+
+tested-block-requires-3 : tie.Need-tested-block-requires-3
+tested-block-requires-3 c κs = search needs
+
+same-length-3 : tie.Need-same-length-3
+same-length-3 c = search needs
+
+returns-3 : tie.Need-returns-3
+returns-3 c = c .before .before .tested-block3 .ensures
+
+sub-if4 : tie.Need-sub-if4
+sub-if4 c = search needs
+
+tested-block-requires-4 : tie.Need-tested-block-requires-4
+tested-block-requires-4 c κs = search needs
+
+same-length-4 : tie.Need-same-length-4
+same-length-4 c = search needs
+
+returns-4 : tie.Need-returns-4
+returns-4 c = c .before .before .tested-block4 .ensures
+
+cast-spell : tie.Need-cast-spell
+cast-spell c = search needs
+
+spell-requires : tie.Need-spell-requires
+spell-requires c κs = search needs
+
+roomy-block-requires : tie.Need-roomy-block-requires
+roomy-block-requires c κs = (spelt-own (c .spell .ensures), omega arith)
+
+same-length-5 : tie.Need-same-length-5
+same-length-5 c = search needs
+
+returns-5 : tie.Need-returns-5
+returns-5 c =
+    let a = c .before .before .before .before .before .before .before .before .before .before .before .args in
+    c .before .before .roomy-block .ensures
+    ∙ ap (λ (v : ℕ). byWords (textParts v) true (a .block .now) (out (a .at) (a .text .now))) (c .before .before .before .spell .ensures .value)
 
 pub text-block-spec : {M : Type 1} → statement M
 text-block-spec =
     tie.close
     (tie.spec
-    Inv-loop
-    μ-loop
-    loop-holds
-    mul-w
-    shared-slice-read-w
-    word-text-requires
-    add-i
-    loop-less
-    loop-again
+    tested-block-requires
     same-length
-    returns)
+    returns
+    tested-block-requires-2
+    same-length-2
+    returns-2
+    tested-block-requires-3
+    same-length-3
+    returns-3
+    sub-if4
+    tested-block-requires-4
+    same-length-4
+    returns-4
+    cast-spell
+    spell-requires
+    roomy-block-requires
+    same-length-5
+    returns-5)
