@@ -7,7 +7,7 @@ use native.Mathlib.Omega.{arith}
 use lib.ListN.{length, take, drop, getD, drop-of-length-le, length-map}
 use lib.Seq.{drop-cons, getD-take, length-take-le}
 use Rattle.scope.specs.Kinds.{upTo}
-use Rattle.number.specs.Each.{Each}
+use Rattle.parsing.specs.Each.{Each}
 use Rattle.literals.specs.Variables.{yAt, Within}
 use Rattle.literals.specs.Proper.{Proper, times-proper, upTo-within}
 use Rattle.literals.specs.Numbered.{Numbered, plain, durationLists}

@@ -6,7 +6,7 @@ use native.Mathlib.Omega.{arith}
 use lib.ListN.{length, take, set, length-map}
 use Rattle.scope.specs.Kinds.{upTo}
 use Rattle.scope.specs.Cnf.{or, Item, gate, gates}
-use Rattle.number.specs.Each.{Each}
+use Rattle.parsing.specs.Each.{Each}
 use Rattle.sink.specs.Run.{Ran}
 use Rattle.sink.specs.Lines.{Line, clauseLine, lines, map-append}
 use Rattle.sink.specs.World.{World}

@@ -6,7 +6,7 @@ ghost use Prim.Native.Nat.{_+_, _*_, _≤_};
 ghost use lib.ListN.{length, take};
 ghost use Rattle.scope.specs.Kinds.{upTo};
 ghost use Rattle.scope.specs.Cnf.{gate};
-ghost use Rattle.number.specs.Each.{Each};
+ghost use Rattle.parsing.specs.Each.{Each};
 ghost use Rattle.sink.specs.Run.{Ran};
 ghost use Rattle.sink.specs.Lines.{lines};
 ghost use Rattle.sink.specs.World.{world, step};

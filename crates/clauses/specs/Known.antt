@@ -5,7 +5,7 @@ use Prim.Native.Nat.{ℕ}
 use native.Mathlib.Omega.{arith}
 use lib.ListN.{length, take}
 use Rattle.scope.specs.Formula.{formula}
-use Rattle.number.specs.Each.{each-map}
+use Rattle.parsing.specs.Each.{each-map}
 use Rattle.tables.specs.Reading.{event-in}
 use Rattle.constraint.specs.declared.kinds.Head.{Head}
 use Rattle.constraint.specs.Walk.{constraintsIn}

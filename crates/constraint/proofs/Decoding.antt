@@ -7,7 +7,7 @@ use Rattle.scope.specs.Number.{limited}
 use Rattle.scope.specs.Instance.{Counts, fieldsRead}
 use Rattle.number.specs.declared.Number.{Number}
 use Rattle.number.specs.Answers.{said}
-use Rattle.number.specs.Laws.{limited-got}
+use Rattle.parsing.specs.Numbers.{limited-got}
 use Rattle.fields.specs.declared.read.FlatRead.{FlatRead}
 use Rattle.fields.specs.Answers.{saidFlat}
 use Rattle.fields.specs.Flat.{rowOf}

@@ -8,10 +8,10 @@ use Rattle.scope.specs.Parsed.{got, andThen}
 use Rattle.scope.specs.Number.{limited}
 use Rattle.scope.specs.Kinds.{Constraint}
 use Rattle.scope.specs.Instance.{Counts, fieldsRead, fieldsOf}
-use Rattle.number.specs.Parsing.{andThen-got}
-use Rattle.number.specs.Laws.{limited-got}
-use Rattle.fields.proofs.ValidRows.{kind-read}
-pub use Rattle.fields.specs.Valid.{OneOf, BoundsIn, InRange}
+use Rattle.parsing.specs.Parsing.{andThen-got}
+use Rattle.parsing.specs.Numbers.{limited-got}
+use Rattle.parsing.specs.ValidRows.{kind-read}
+pub use Rattle.parsing.specs.Valid.{OneOf, BoundsIn, InRange}
 use Rattle.constraint.specs.Decoded.{decodedAt}
 
 -- a constraint that was decoded

@@ -9,7 +9,7 @@ use Rattle.scope.specs.Parsed.{got, refused, cons, repeat}
 use Rattle.scope.specs.Kinds.{Constraint}
 use Rattle.scope.specs.Instance.{Counts}
 use Rattle.scope.specs.declared.Refusal.{Refusal}
-use Rattle.number.specs.Parsing.{listOf, andThen-got, cons-got, refused-got}
+use Rattle.parsing.specs.Parsing.{listOf, andThen-got, cons-got, refused-got}
 use Rattle.constraint.specs.declared.kinds.Constraint as decl
 use Rattle.constraint.specs.declared.kinds.Head.{Head}
 use Rattle.constraint.specs.declared.kinds.Next.{Next}

@@ -9,7 +9,7 @@ use lib.Seq.{drop-cons}
 use Rattle.scope.specs.Cnf.{Gate, Item, gate}
 use Rattle.scope.specs.Kinds.{Kind, Listed, Counted}
 use Rattle.scope.specs.Formula.{refLiteral, nodeGate}
-use Rattle.number.specs.Each.{Each, each-at}
+use Rattle.parsing.specs.Each.{Each, each-at}
 use Rattle.constraint.specs.declared.kinds.Head.{Head}
 use Rattle.constraint.specs.declared.kinds.Bounds.{Bounds}
 use Rattle.constraint.specs.Bounds.{lowOf, highOf, freeOf, bounds-right}

@@ -11,7 +11,7 @@ use Rattle.scope.specs.declared.Refusal.{Refusal}
 use Rattle.number.specs.declared.Number.{Number}
 use Rattle.number.specs.declared.Number.the-variants.{Value, Refused}
 use Rattle.number.specs.Answers.{said}
-use Rattle.number.specs.Parsing.{listOf, refused-got, andThen-got, unless-got, repeat-same}
+use Rattle.parsing.specs.Parsing.{listOf, refused-got, andThen-got, unless-got, repeat-same}
 
 -- the end alone
 abbrev pub ends : {A : Type 0} → Parsed A → Parsed ℕ

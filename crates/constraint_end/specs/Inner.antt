@@ -6,9 +6,9 @@ use lib.ListN.{length, getD, drop, drop-of-length-le}
 use lib.Seq.{drop-cons}
 use native.Mathlib.Omega.{arith}
 use native.Mathlib.Numerals.{add-one}
-use Rattle.number.specs.Each.{Each, each-none, each-more, each-at}
+use Rattle.parsing.specs.Each.{Each, each-none, each-more, each-at}
 use Rattle.number.specs.Lists.{leading, length-leading, getD-leading}
-use Rattle.number.specs.Laws.{Ascending, none, more}
+use Rattle.parsing.specs.Numbers.{Ascending, none, more}
 use Rattle.tables.specs.Rows.{rowAt, rows, RowIn, RowsIn}
 use Rattle.tables.specs.Laws.{group-row}
 use Rattle.constraint.specs.Valid.{OneOf}

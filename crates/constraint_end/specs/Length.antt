@@ -11,8 +11,8 @@ use lib.ListN.{length, getD, length-map, length-append}
 use Rattle.scope.specs.Kinds.{Event, Kind, clash, unavailable, preferred, split, spread, busy, cluster, idle, Atom, Y, S, X, Entry, atom, Listed, entries, from, upTo, member, users, outside, groupAt, usesAt, startsAt, gapsAfter, gaps, countedOf, longest}
 use Rattle.theory.specs.Nodes.{length-members}
 use Rattle.constraint.specs.Decoded.{longestOf}
-use Rattle.number.specs.Each.{Each, each-none, each-more}
-use Rattle.number.specs.Laws.{Ascending, none, more}
+use Rattle.parsing.specs.Each.{Each, each-none, each-more}
+use Rattle.parsing.specs.Numbers.{Ascending, none, more}
 use Rattle.tables.specs.Occurrences.{below-once}
 
 -- the members but first and last of each of some groups

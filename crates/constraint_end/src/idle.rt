@@ -4,7 +4,7 @@ use crate::group::monus;
 ghost use mathlib.Core.Path.{_≡_};
 ghost use Prim.Native.Nat.{_≤_};
 ghost use lib.ListN.{length};
-ghost use Rattle.number.specs.Each.{Each};
+ghost use Rattle.parsing.specs.Each.{Each};
 ghost use Rattle.number.specs.Lists.{leading};
 ghost use Rattle.constraint_end.specs.Inner.{GroupIn, innerRows};
 

@@ -10,7 +10,7 @@ use native.Mathlib.Nat.{mul-le-mul, mul-le-mul-right}
 use Rattle.scope.specs.Kinds.{Kind, clash, unavailable, preferred, split, spread, busy, cluster, idle, upTo, outside}
 use Rattle.scope.specs.Instance.{Counts}
 use Rattle.scope.specs.Score.{trues, any, deviation}
-use Rattle.number.specs.Laws.{Ascending, ascending-length}
+use Rattle.parsing.specs.Numbers.{Ascending, ascending-length}
 use Rattle.number.specs.Lists.{leading, length-leading, getD-leading}
 use Rattle.tables.specs.Rows.{rowAt, RowIn}
 use Rattle.constraint.specs.Valid.{OneOf}

@@ -10,7 +10,7 @@ use native.Mathlib.Omega.{arith}
 use native.Mathlib.Nat.{add-zero, add-assoc}
 use native.Mathlib.Numerals.{add-one}
 use Rattle.scope.specs.Score.{trues}
-use Rattle.number.specs.Laws.{Ascending}
+use Rattle.parsing.specs.Numbers.{Ascending}
 use Rattle.timetable.specs.Bits.{marks, bit-next}
 use Rattle.timetable.specs.Uses.{member-in}
 

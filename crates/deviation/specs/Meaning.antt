@@ -13,7 +13,7 @@ use Rattle.scope.specs.Kinds.{Kind, clash, unavailable, preferred, split, sprea
 use Rattle.scope.specs.Instance.{Instance, Counts}
 use Rattle.scope.specs.Score.{trues, any, deviation, deviations, truth, slots}
 use Rattle.theory.specs.Entries.{entryTrue}
-use Rattle.number.specs.Laws.{Ascending, none, more}
+use Rattle.parsing.specs.Numbers.{Ascending, none, more}
 use Rattle.tables.specs.Rows.{rowAt, rows, eventsOf}
 use Rattle.tables.specs.Laws.{group-row}
 use Rattle.constraint.specs.Valid.{OneOf, InRange}

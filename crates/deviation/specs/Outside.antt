@@ -11,7 +11,7 @@ use Rattle.scope.specs.Kinds.{from, upTo, member, outside}
 use Rattle.scope.specs.Score.{trues}
 use Rattle.scope.specs.Cnf.{bit}
 use Rattle.timetable.specs.Bits.{marks}
-use Rattle.number.specs.Laws.{Ascending, none, more}
+use Rattle.parsing.specs.Numbers.{Ascending, none, more}
 
 -- what lies below an ascending list is no member
 member-below : (t n before : ℕ) (g : List ℕ) → t ≤ before → Ascending n before g → member t g ≡ false

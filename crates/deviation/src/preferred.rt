@@ -9,7 +9,7 @@ ghost use Prim.Native.Nat.{_≤_, _+_};
 ghost use lib.ListN.{length};
 ghost use Rattle.scope.specs.Kinds.{preferred, upTo, outside};
 ghost use Rattle.scope.specs.Score.{trues};
-ghost use Rattle.number.specs.Laws.{Ascending};
+ghost use Rattle.parsing.specs.Numbers.{Ascending};
 ghost use Rattle.tables.specs.Rows.{rowAt, RowIn};
 ghost use Rattle.constraint.specs.Answers.{countsIn};
 ghost use Rattle.constraint.specs.Valid.{InRange};

@@ -2,4 +2,3 @@ pub mod Made
 pub mod Answers
 pub mod Table
 pub mod Flat
-pub mod Valid

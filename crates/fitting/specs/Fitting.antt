@@ -5,7 +5,7 @@ use Prim.Native.Nat.{ℕ, _≤_}
 use native.Mathlib.Omega.{arith}
 use lib.ListN.{length}
 use Rattle.scope.specs.Kinds.{Kind, Constraint, users, groupAt, countedOf}
-use Rattle.number.specs.Each.{each-map}
+use Rattle.parsing.specs.Each.{each-map}
 use Rattle.tables.specs.Rows.{rows, eventsOf}
 use Rattle.tables.specs.Laws.{group-row}
 use Rattle.constraint.specs.declared.kinds.Head.{Head}

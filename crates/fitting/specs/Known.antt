@@ -6,7 +6,7 @@ use native.Mathlib.Omega.{arith}
 use lib.ListN.{length}
 use Rattle.scope.specs.Kinds.{Kind, clash, unavailable, preferred, split, spread, busy, cluster, idle}
 use Rattle.scope.specs.Instance.{Counts}
-use Rattle.number.specs.Each.{Each, each-none, each-more}
+use Rattle.parsing.specs.Each.{Each, each-none, each-more}
 use Rattle.tables.specs.Reading.{event-in, group-ascends}
 use Rattle.constraint.specs.declared.kinds.Head.{Head}
 use Rattle.constraint.specs.Valid.{OneOf, InRange}

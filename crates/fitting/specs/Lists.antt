@@ -6,7 +6,7 @@ use Prim.Native.Nat.{ℕ, zero, suc, _+_, _*_, _≤_}
 use native.Mathlib.Omega.{arith}
 use lib.ListN.{length, length-append, length-map}
 use Rattle.scope.specs.Kinds.{Kind, clash, unavailable, preferred, split, spread, busy, cluster, idle, Y, Entry, atom, anyOf, gap, Node, entryNodes, added, entriesNodes, entriesMembers, Listed, entries, Counted, from, upTo, countedOf, longest}
-use Rattle.number.specs.Each.{Each, each-none, each-more}
+use Rattle.parsing.specs.Each.{Each, each-none, each-more}
 use Rattle.list_nodes.specs.Stored.{Short}
 
 -- the list of time t: Y of some events

@@ -6,7 +6,7 @@ use Rattle.scope.specs.Kinds.{Constraint}
 use Rattle.scope.specs.Instance.{Instance}
 use Rattle.scope.specs.declared.Refusal.{Refusal}
 use Rattle.number.specs.Answers.{refusedBy}
-use Rattle.number.specs.Parsing.{listOf}
+use Rattle.parsing.specs.Parsing.{listOf}
 use Rattle.tables.specs.Rows.{rows, eventsOf}
 use Rattle.constraint.specs.declared.kinds.Head.{Head}
 use Rattle.instance.specs.declared.reader.Sizes.{Sizes}

@@ -12,9 +12,9 @@ use Rattle.scope.specs.Operations.{readOf}
 use Rattle.scope.specs.Number.{limited}
 use Rattle.scope.specs.Kinds.{Kind, Constraint}
 use Rattle.scope.specs.Instance.{Counts, Instance, countsOf, ended, parse}
-use Rattle.number.specs.Parsing.{listOf, andThen-got, unless-got, repeat-length, repeat-also}
-use Rattle.number.specs.Each.{Each, each-head, each-drop, repeat-each}
-use Rattle.number.specs.Laws.{Ascending, limited-got, repeat-got}
+use Rattle.parsing.specs.Parsing.{listOf, andThen-got, unless-got, repeat-length, repeat-also}
+use Rattle.parsing.specs.Each.{Each, each-head, each-drop, repeat-each}
+use Rattle.parsing.specs.Numbers.{Ascending, limited-got, repeat-got}
 use Rattle.tables.specs.Rows.{rows, eventsOf, RowsIn}
 use Rattle.tables.specs.Laws.{length-rows, length-events}
 use Rattle.tables.specs.Reading.{EventIn, events-in, groups-in}

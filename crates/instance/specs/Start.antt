@@ -7,9 +7,9 @@ use native.Mathlib.Omega.{arith}
 use Rattle.scope.specs.Parsed.{got, andThen, repeat}
 use Rattle.scope.specs.Number.{limited}
 use Rattle.scope.specs.Instance.{eventAt, groupsAt, sizesAt}
-use Rattle.number.specs.Parsing.{andThen-got}
-use Rattle.number.specs.Each.{Each}
-use Rattle.number.specs.Laws.{Ascending, limited-got}
+use Rattle.parsing.specs.Parsing.{andThen-got}
+use Rattle.parsing.specs.Each.{Each}
+use Rattle.parsing.specs.Numbers.{Ascending, limited-got}
 use Rattle.tables.specs.Reading.{EventIn, events-got, groups-got}
 use Rattle.instance.specs.declared.reader.Sizes.{Sizes}
 use Rattle.instance.specs.declared.reader.SizesRead.{SizesRead}

@@ -5,7 +5,7 @@ use Prim.Native.Nat.{ℕ, _≤_, _<_}
 use native.Mathlib.Omega.{arith}
 use lib.ListN.{length, take, getD}
 use lib.Seq.{getD-take}
-use Rattle.number.specs.Each.{Each, each-at}
+use Rattle.parsing.specs.Each.{Each, each-at}
 use Rattle.literals.specs.Words.{Holds}
 use Rattle.literals.specs.Proper.{Proper}
 use Rattle.counters.specs.Literals.{LiteralsTo, Literals, literals-take}

@@ -7,7 +7,7 @@ use lib.ListN.{length, length-append, length-map}
 use Rattle.scope.specs.Cnf.{Gate, or}
 use Rattle.scope.specs.Formula.{refLiteral, nodeGate}
 use Rattle.scope.specs.Kinds.{Kind, clash, spread, cluster, idle, Atom, Y, Entry, atom, entries, entriesNodes, entriesMembers, from, upTo, countedOf}
-use Rattle.number.specs.Each.{each-head}
+use Rattle.parsing.specs.Each.{each-head}
 use Rattle.number.specs.Lists.{leading, length-leading}
 use Rattle.tables.specs.Rows.{rowAt}
 use Rattle.constraint.specs.declared.kinds.Head.{Head}

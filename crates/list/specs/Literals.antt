@@ -7,7 +7,7 @@ use lib.ListN.{length, getD, take, drop, length-map}
 use Rattle.scope.specs.Cnf.{pos, opp, Gate, or, and}
 use Rattle.scope.specs.Formula.{refLiteral, nodeGate}
 use Rattle.scope.specs.Kinds.{Kind, clash, unavailable, preferred, split, spread, busy, cluster, idle, Atom, Y, Entry, atom, entries, Listed, upTo, outside, countedOf}
-use Rattle.number.specs.Each.{Each, each-none, each-more, each-at, each-drop}
+use Rattle.parsing.specs.Each.{Each, each-none, each-more, each-at, each-drop}
 use Rattle.constraint.specs.declared.kinds.Head.{Head}
 use Rattle.constraint.specs.Valid.{OneOf}
 use Rattle.literals.specs.Variables.{xAt}

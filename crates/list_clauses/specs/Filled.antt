@@ -6,7 +6,7 @@ use native.Mathlib.Omega.{arith}
 use lib.ListN.{length, take, drop, length-append, length-map, length-take, take-append-drop}
 use lib.Seq.{take-at, drop-at}
 use Rattle.scope.specs.Cnf.{pos, neg, opp, Gate, or, and, cell, Item, gate, gates, gateClauses}
-use Rattle.number.specs.Each.{Each, each-more, each-at}
+use Rattle.parsing.specs.Each.{Each, each-more, each-at}
 use Rattle.sink.specs.Run.{Ran, then}
 use Rattle.sink.specs.Lines.{Line, clauseLine, lines, lines-append, map-append}
 use Rattle.sink.specs.World.{World}

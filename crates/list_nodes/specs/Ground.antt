@@ -6,8 +6,8 @@ use lib.ListN.{length, getD}
 use native.Mathlib.Omega.{arith}
 use Rattle.scope.specs.declared.Layout.{Layout}
 use Rattle.scope.specs.Score.{layoutAt}
-use Rattle.number.specs.Each.{Each, each-none, each-more, each-at, each-map}
-use Rattle.number.specs.Laws.{Ascending, none, more, ascending-length}
+use Rattle.parsing.specs.Each.{Each, each-none, each-more, each-at, each-map}
+use Rattle.parsing.specs.Numbers.{Ascending, none, more, ascending-length}
 use Rattle.number.specs.Lists.{leading, length-leading, getD-leading}
 use Rattle.tables.specs.Rows.{rowAt, RowsIn}
 use Rattle.constraint.specs.declared.kinds.Head.{Head}

@@ -6,7 +6,7 @@ use lib.ListN.{length, getD}
 use Rattle.scope.specs.Kinds.{Kind, Atom, Listed, Entry, entries, Counted, countedOf}
 use Rattle.scope.specs.Cnf.{Gate}
 use Rattle.scope.specs.Formula.{refLiteral, nodeGate}
-use Rattle.number.specs.Each.{Each}
+use Rattle.parsing.specs.Each.{Each}
 use Rattle.constraint.specs.declared.kinds.Head.{Head}
 use Rattle.constraint.specs.Answers.{countsIn}
 use Rattle.constraint.specs.Valid.{InRange}

@@ -12,7 +12,7 @@ use lib.Dec.{eqb, leb}
 use lib.ListN.{length, getD, take, drop, set, length-set, length-append, length-drop}
 use lib.Seq.{take-suc, take-all, take-set-le, drop-set-lt, drop-set-add, getD-set-same, getD-set-other}
 use Rattle.scope.specs.Kinds.{member}
-use Rattle.number.specs.Laws.{Ascending, more}
+use Rattle.parsing.specs.Numbers.{Ascending, more}
 use Rattle.tables.specs.Rows.{rowAt}
 use Rattle.literals.specs.Words.{Holds, holds-none, holds-as, holds-more}
 use Rattle.literals.specs.Users.{usersIn, users-most}

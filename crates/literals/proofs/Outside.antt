@@ -9,7 +9,7 @@ use lib.Dec.{eqb}
 use lib.ListN.{length, drop, set}
 use lib.Seq.{drop-drop}
 use Rattle.scope.specs.Kinds.{from, member, outside}
-use Rattle.number.specs.Laws.{Ascending, none, more}
+use Rattle.parsing.specs.Numbers.{Ascending, none, more}
 use Rattle.literals.specs.Words.{Holds, Indicator, holds-as, holds-unless, startsWith, cond-append}
 use Rattle.literals.proofs.Turns.{times-more}
 

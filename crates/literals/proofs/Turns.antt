@@ -8,7 +8,7 @@ use native.Mathlib.Nat.{add-zero}
 use lib.ListN.{length, getD, take, set, length-append}
 use lib.Seq.{take-suc, take-all, getD-take, length-take-le}
 use Rattle.scope.specs.Kinds.{from}
-use Rattle.number.specs.Each.{Each, each-at}
+use Rattle.parsing.specs.Each.{Each, each-at}
 use Rattle.literals.specs.Variables.{Within}
 use Rattle.literals.specs.Outputs.{every, every-both}
 use Rattle.literals.specs.Words.{Holds, holds-none, holds-as, holds-more}

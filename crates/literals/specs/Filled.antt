@@ -6,8 +6,8 @@ use mathlib.Core.List.{List}
 use native.Mathlib.Omega.{arith}
 use lib.ListN.{length, getD, take, drop, set, length-drop}
 use lib.Seq.{take-all, length-take-le}
-use Rattle.number.specs.Each.{Each}
-use Rattle.number.specs.Laws.{Ascending}
+use Rattle.parsing.specs.Each.{Each}
+use Rattle.parsing.specs.Numbers.{Ascending}
 use Rattle.tables.specs.Rows.{rowAt, RowsIn}
 use Rattle.literals.specs.Variables.{Within}
 use Rattle.literals.specs.Words.{Holds}

@@ -6,7 +6,7 @@ use native.Mathlib.Omega.{arith}
 use Prim.Native.Nat.{ℕ, suc, _+_}
 use lib.ListN.{length}
 use Rattle.scope.specs.Cnf.{pos, neg, opp, Gate, or, and, cell}
-use Rattle.number.specs.Each.{Each}
+use Rattle.parsing.specs.Each.{Each}
 use Rattle.literals.specs.Proper.{Proper}
 
 -- the inputs of a gate

@@ -4,8 +4,8 @@ use mathlib.Core.Bool.{Bool, true, false, cond}
 use mathlib.Core.List.{List, _∷_, map, flatMap}
 use native.Mathlib.Omega.{arith}
 use Rattle.scope.specs.Kinds.{from, upTo, member, outside}
-use Rattle.number.specs.Each.{Each, each-none, each-more}
-use Rattle.number.specs.Laws.{Ascending, none, more}
+use Rattle.parsing.specs.Each.{Each, each-none, each-more}
+use Rattle.parsing.specs.Numbers.{Ascending, none, more}
 use Rattle.literals.specs.Variables.{baseOf, literalAt, yAt, Within, row-small}
 use Rattle.literals.specs.Users.{each-both}
 use Rattle.literals.specs.Outputs.{every}

@@ -10,7 +10,7 @@ use Rattle.scope.specs.Kinds.{Event, Kind, clash, unavailable, preferred, split
 use Rattle.scope.specs.Instance.{Instance}
 use Rattle.scope.specs.Score.{layoutAt}
 use Rattle.scope.specs.Formula.{formula}
-use Rattle.number.specs.Each.{Each, each-none, each-more, each-map}
+use Rattle.parsing.specs.Each.{Each, each-none, each-more, each-map}
 use Rattle.tables.specs.Rows.{rowAt, rows, eventsOf}
 use Rattle.tables.specs.Laws.{length-events, group-row}
 use Rattle.literals.specs.Variables.{Within}

@@ -7,7 +7,7 @@ use lib.ListN.{length, getD, length-append}
 use native.Mathlib.Omega.{arith}
 use native.Mathlib.Nat.{add-zero}
 use Rattle.scope.specs.Kinds.{Event, member, usersFrom, users}
-use Rattle.number.specs.Each.{Each, each-none, each-more}
+use Rattle.parsing.specs.Each.{Each, each-none, each-more}
 use Rattle.tables.specs.Rows.{rowAt, eventsOf}
 use Rattle.tables.specs.Laws.{length-events}
 use Rattle.literals.specs.Words.{cond-append}

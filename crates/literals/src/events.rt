@@ -5,7 +5,7 @@ use crate::variable::literal;
 ghost use Prim.Native.Nat.{_-_, _*_, _≤_, _<_};
 ghost use mathlib.Core.List.{map, flatMap};
 ghost use lib.ListN.{length, take};
-ghost use Rattle.number.specs.Each.{Each};
+ghost use Rattle.parsing.specs.Each.{Each};
 ghost use Rattle.tables.specs.Rows.{rowAt};
 ghost use Rattle.literals.specs.Variables.{yAt, inBlock, Block, Within, GroupIn};
 ghost use Rattle.literals.specs.Words.{Holds};

@@ -7,7 +7,7 @@ ghost use Prim.Native.Nat.{_+_, _-_, _*_, _≤_, _<_};
 ghost use mathlib.Core.List.{_++_, map};
 ghost use lib.ListN.{length, take, drop};
 ghost use Rattle.scope.specs.Kinds.{upTo, outside};
-ghost use Rattle.number.specs.Laws.{Ascending};
+ghost use Rattle.parsing.specs.Numbers.{Ascending};
 ghost use Rattle.tables.specs.Rows.{rowAt, RowIn};
 ghost use Rattle.literals.specs.Variables.{literalAt, yAt, inBlock, Block, Within, GroupIn};
 ghost use Rattle.literals.specs.Words.{Holds, Indicator, startsWith};

@@ -9,7 +9,7 @@ use lib.ListN.{length, getD, take, drop, length-map}
 use lib.Seq.{take-take, getD-take}
 use Rattle.scope.specs.Cnf.{pos, opp, or, and}
 use Rattle.scope.specs.Kinds.{idle, countedOf}
-use Rattle.number.specs.Each.{Each}
+use Rattle.parsing.specs.Each.{Each}
 use Rattle.number.specs.Lists.{leading}
 use Rattle.constraint.specs.declared.kinds.Head.{Head}
 use Rattle.literals.specs.Variables.{inBlock}

@@ -14,7 +14,7 @@ use Rattle.scope.specs.declared.Refusal.{Refusal}
 use Rattle.number.specs.declared.Number.{Number}
 use Rattle.number.specs.declared.Number.the-variants.{Value, Refused}
 use Rattle.number.specs.Answers.{said, refusedBy}
-use Rattle.number.specs.Parsing.{before, before-cons, before-nil, before-end}
+use Rattle.parsing.specs.Parsing.{before, before-cons, before-nil, before-end}
 
 -- n elements from the front of a store, 0 past its end
 unfoldable pub leading : ℕ → List ℕ → List ℕ

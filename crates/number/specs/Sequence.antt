@@ -9,7 +9,7 @@ use Rattle.scope.specs.declared.Refusal.{Refusal}
 use Rattle.number.specs.declared.Number.{Number}
 use Rattle.number.specs.declared.Number.the-variants.{Value, Refused}
 use Rattle.number.specs.Answers.{said, refusalOf}
-use Rattle.number.specs.Laws.{LimitedAt, ReferenceAt, limited-got, reference-got}
+use Rattle.parsing.specs.Numbers.{LimitedAt, ReferenceAt, limited-got, reference-got}
 use Rattle.scope.specs.Number.{number, limited, reference}
 use mathlib.Core.List.{List}
 

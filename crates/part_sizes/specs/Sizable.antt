@@ -6,7 +6,7 @@ use native.Mathlib.Nat.{mul-le-mul}
 use native.Mathlib.Omega.{arith}
 use lib.ListN.{length}
 use Rattle.scope.specs.Kinds.{Constraint, Node, Listed, Counted, rule}
-use Rattle.number.specs.Each.{Each, each-none, each-more, each-at}
+use Rattle.parsing.specs.Each.{Each, each-none, each-more, each-at}
 use Rattle.constraint.specs.declared.kinds.Head.{Head}
 use Rattle.constraint.specs.declared.kinds.Bounds.{Bounds}
 use Rattle.constraint.specs.Bounds.{lowOf, highOf, freeOf, bounds-right}

@@ -11,7 +11,7 @@ use native.Mathlib.Omega.{arith}
 use native.Mathlib.Nat.{add-zero, zero-add, add-assoc, eq-or-lt-of-le, mul-le-mul, mul-le-mul-right, min-le-right}
 use native.Mathlib.Numerals.{add-one}
 use borrow.Author.Tests.{ltb-true, ltb-false, eq-eqb, ne-eqb}
-use Rattle.number.specs.Laws.{Ascending, none, more}
+use Rattle.parsing.specs.Numbers.{Ascending, none, more}
 use Rattle.tables.specs.Rows.{rowAt, RowIn}
 use Rattle.tables.specs.Occurrences.{occurrences, occurrences-once}
 use Rattle.resource_uses.specs.Bits.{bit-next}

@@ -11,7 +11,7 @@ use Rattle.scope.specs.Parsed.{Parsed, got, refused}
 use Rattle.scope.specs.Number.{number}
 use Rattle.theory.specs.StepTokens.{StepRead}
 use Rattle.theory.specs.Marked.{Standing, falsified, oneOpen, other}
-use Rattle.number.specs.Laws.{number-got}
+use Rattle.parsing.specs.Numbers.{number-got}
 use Rattle.directory.specs.declared.Row.{Row}
 use Rattle.hints.specs.declared.machine.Phase.{Phase}
 use Rattle.hints.specs.declared.machine.Phase.the-variants.{Next, Walk, Followed, Keep, Wipe, Delete, Proved, Refused}

@@ -15,7 +15,7 @@ use Rattle.theory.specs.Marked as steps
 use Rattle.theory.specs.Marked.{allOpen, allFalse, Marks, makeTrue, Standing, standing, byStanding, hintsShow}
 use Rattle.scope.specs.PlainRun.{Limits}
 use Rattle.theory.specs.MarkedRun.{byShown}
-use Rattle.number.specs.Laws.{number-got}
+use Rattle.parsing.specs.Numbers.{number-got}
 use Rattle.directory.specs.declared.Row.{Row}
 use Rattle.marks.specs.Marks.{marksOf, putMark, mark-put, put-length}
 use Rattle.standing.specs.Clauses.{part, inClause, Wiped}

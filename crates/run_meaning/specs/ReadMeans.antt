@@ -16,7 +16,7 @@ use Rattle.theory.specs.StepTokens.{Tokens, byFront, tokensAfter, StepRead, rea
 use Rattle.theory.specs.Marked.{wellFormed, allOpen, hintsShow}
 use Rattle.scope.specs.PlainRun.{State, Limits}
 use Rattle.theory.specs.MarkedRun.{perform, byShown, byDeleted, byRead, run}
-use Rattle.number.specs.Laws.{number-got}
+use Rattle.parsing.specs.Numbers.{number-got}
 use Rattle.directory.specs.declared.Row.{Row}
 use Rattle.marks.specs.Marks.{marksOf}
 use Rattle.laws.specs.Booleans.{impossible, and-true}

@@ -18,7 +18,7 @@ use Rattle.theory.specs.Marked.{allOpen}
 use Rattle.theory.specs.MarkedRun as plain
 use Rattle.scope.specs.PlainRun.{State, Limits, withClause, fits}
 use Rattle.theory.specs.MarkedRun.{byShown, byDeleted, atEnd, run}
-use Rattle.number.specs.Laws.{number-got}
+use Rattle.parsing.specs.Numbers.{number-got}
 use Rattle.directory.specs.declared.Row.{Row}
 use Rattle.marks.specs.Marks.{marksOf}
 use Rattle.standing.specs.Clauses.{part, inClause, wiped, wiped-opens}

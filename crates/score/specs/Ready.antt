@@ -10,7 +10,7 @@ use native.Mathlib.Nat.{sub-zero, le-of-suc-le-suc, eq-or-lt-of-le, not-suc-le-z
 use Rattle.scope.specs.Parsed.{got, repeat}
 use Rattle.scope.specs.Kinds.{Event}
 use Rattle.scope.specs.Instance.{Instance}
-use Rattle.number.specs.Laws.{Ascending, none, more}
+use Rattle.parsing.specs.Numbers.{Ascending, none, more}
 use Rattle.tables.specs.Rows.{rowAt, rows, eventsOf, RowsIn}
 use Rattle.tables.specs.Laws.{length-events}
 use Rattle.tables.specs.Reading.{event-row, group-ascends}

@@ -8,7 +8,7 @@ use Rattle.scope.specs.Parsed.{got, repeat}
 use Rattle.scope.specs.Kinds.{Kind, Constraint, Atom, users, groupAt, rulesOf}
 use Rattle.scope.specs.Instance.{Instance, Counts}
 use Rattle.scope.specs.Score.{deviations, infeasibilityOf, objectiveOf}
-use Rattle.number.specs.Each.{Each, each-none, each-more, repeat-each}
+use Rattle.parsing.specs.Each.{Each, each-none, each-more, repeat-each}
 use Rattle.constraint.specs.Decoded.{decodedAt}
 use Rattle.constraint.specs.Valid.{InRange, decoded-got}
 use Rattle.score.specs.Amounts.{hardSum, softSum}

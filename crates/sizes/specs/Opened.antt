@@ -7,7 +7,7 @@ use native.Mathlib.Nat.{not-suc-le-zero, le-of-suc-le-suc, eq-or-lt-of-le}
 use native.Mathlib.Omega.{arith}
 use lib.ListN.{length, getD}
 use Rattle.theory.specs.Accepted.{ValidInstance, gives-instance}
-use Rattle.number.specs.Each.{Each, each-front, each-last}
+use Rattle.parsing.specs.Each.{Each, each-front, each-last}
 use Rattle.tables.specs.Rows.{rowAt, eventsOf}
 use Rattle.tables.specs.Laws.{length-events}
 use Rattle.tables.specs.Reading.{EventIn}

@@ -8,7 +8,7 @@ use borrow.Author.Tests.{ne-eqb, eqb-true}
 use lib.Dec.{eqb}
 use lib.ListN.{length, getD, length-append}
 use Rattle.scope.specs.Kinds.{Event, member, usersFrom, users}
-use Rattle.number.specs.Laws.{Ascending, none, more}
+use Rattle.parsing.specs.Numbers.{Ascending, none, more}
 use Rattle.tables.specs.Rows.{rowAt, rows, eventOf, eventsOf}
 use Rattle.tables.specs.Laws.{length-events}
 

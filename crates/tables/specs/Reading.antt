@@ -10,9 +10,9 @@ use Rattle.scope.specs.Parsed.{got, andThen, repeat}
 use Rattle.scope.specs.Number.{limited, listed}
 use Rattle.scope.specs.Kinds.{Event}
 use Rattle.scope.specs.Instance.{eventAt, groupsAt}
-use Rattle.number.specs.Parsing.{andThen-got, repeat-length}
-use Rattle.number.specs.Each.{Each, each-front, each-last, repeat-each}
-use Rattle.number.specs.Laws.{Ascending, ascending-length, limited-got, listed-got, repeat-got}
+use Rattle.parsing.specs.Parsing.{andThen-got, repeat-length}
+use Rattle.parsing.specs.Each.{Each, each-front, each-last, repeat-each}
+use Rattle.parsing.specs.Numbers.{Ascending, ascending-length, limited-got, listed-got, repeat-got}
 use Rattle.tables.specs.Rows.{rowAt, rows, eventOf, eventsOf, RowIn, RowsIn}
 
 -- an event of an instance with T times and R resources

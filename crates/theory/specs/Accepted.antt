@@ -11,9 +11,9 @@ use Rattle.scope.specs.Number.{limited, listed}
 use Rattle.scope.specs.Kinds.{Event, Kind, Constraint, Counted, users, groupAt, countedOf, longest}
 use Rattle.scope.specs.Instance.{Instance, Counts, countsOf, eventAt, fieldsRead, fieldsOf, ended, constraintAt, sizesAt, groupsAt, constraintsAt, parse}
 use Rattle.scope.specs.Demands.{Accepted}
-use Rattle.number.specs.Laws.{Ascending, none, more, limited-got, listed-got}
-use Rattle.fields.proofs.ValidRows.{kind-read}
-pub use Rattle.fields.specs.Valid.{Within, InRange}
+use Rattle.parsing.specs.Numbers.{Ascending, none, more, limited-got, listed-got}
+use Rattle.parsing.specs.ValidRows.{kind-read}
+pub use Rattle.parsing.specs.Valid.{Within, InRange}
 use Rattle.theory.specs.Readings.{Gives, gives-value, gives-andThen, gives-unless, gives-repeat}
 
 pub record ValidEvent (T R : ℕ) (v : Event) : Type 0 where

@@ -7,7 +7,7 @@ use native.Mathlib.Omega.{arith}
 use lib.ListN.{length, length-set, length-take, length-drop}
 use Rattle.scope.specs.Parsed.{repeat}
 use Rattle.scope.specs.Instance.{eventAt}
-use Rattle.number.specs.Parsing.{before, before-nil, repeat-more, repeat-refused, repeat-end}
+use Rattle.parsing.specs.Parsing.{before, before-nil, repeat-more, repeat-refused, repeat-end}
 use Rattle.table_lists.specs.Sequence.{event-value, event-refused}
 use Rattle.tables.specs.Rows.{eventsOf}
 use Rattle.tables.specs.Reading.{event-got}

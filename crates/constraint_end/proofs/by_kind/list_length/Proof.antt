@@ -4,7 +4,7 @@ use borrow.Author.Tests.{ne-eqb}
 use Prim.Native.Nat.{_≤_}
 use mathlib.Core.Path.{_∙_}
 use native.Mathlib.Omega.{arith}
-use Rattle.number.specs.Laws.{ascending-length}
+use Rattle.parsing.specs.Numbers.{ascending-length}
 use Rattle.number.specs.Lists.{length-leading}
 use Rattle.tables.specs.Laws.{group-row}
 use Rattle.fields.specs.Made.{kindFrom}

@@ -8,9 +8,9 @@ use Rattle.scope.specs.Parsed.{Parsed, got, andThen}
 use Rattle.scope.specs.Number.{limited, reference, listed}
 use Rattle.scope.specs.Kinds.{Kind}
 use Rattle.scope.specs.Instance.{Counts, Fields, aReference, aList, aNumber, theKind, fieldsRead, fieldsTable, fieldsOf}
-use Rattle.number.specs.Parsing.{andThen-got}
-use Rattle.number.specs.Laws.{Ascending, limited-got, reference-got, listed-got}
-use Rattle.fields.specs.Valid.{Within, OneOf, InRange}
+use Rattle.parsing.specs.Parsing.{andThen-got}
+use Rattle.parsing.specs.Numbers.{Ascending, limited-got, reference-got, listed-got}
+use Rattle.parsing.specs.Valid.{Within, OneOf, InRange}
 
 -- what was read of a kind P, and where it ends
 record ReadAt {A : Type 0} (P : A → Type 0) (s : List ℕ) (at : ℕ) (a : A) (end : ℕ) : Type 0 where

@@ -2,7 +2,7 @@
 use Prim.Native.Nat.{ℕ, _≤_}
 use Rattle.scope.specs.Kinds.{Kind, clash, unavailable, preferred, split, spread, busy, cluster, idle}
 use Rattle.scope.specs.Instance.{Counts}
-use Rattle.number.specs.Laws.{Ascending}
+use Rattle.parsing.specs.Numbers.{Ascending}
 
 -- a number within its limits
 pub record Within (lo hi v : ℕ) : Type 0 where

@@ -5,7 +5,7 @@ use mathlib.Core.List.{List, [], _∷_, _++_}
 use lib.ListN.{length, getD, drop}
 use native.Mathlib.Nat.{not-suc-le-zero, le-of-suc-le-suc}
 use Rattle.scope.specs.Parsed.{Parsed, got, cons, repeat}
-use Rattle.number.specs.Parsing.{andThen-got, cons-got}
+use Rattle.parsing.specs.Parsing.{andThen-got, cons-got}
 
 -- P holds of each
 pub data Each {A : Type 0} (P : A → Type 0) : List A → Type 0 where

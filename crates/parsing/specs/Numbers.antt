@@ -9,7 +9,7 @@ use native.Mathlib.Omega.{arith}
 use borrow.Author.Tests.{ltb-true, leb-true}
 use Rattle.scope.specs.Parsed.{Parsed, got, unless, cons, repeat}
 use Rattle.scope.specs.Number.{Front, broken, whole, group, front, within, most, numberFrom, number, limited, reference, references, listed}
-use Rattle.number.specs.Parsing.{andThen-got, unless-got, cons-got, refused-got, cond-case}
+use Rattle.parsing.specs.Parsing.{andThen-got, unless-got, cons-got, refused-got, cond-case}
 
 -- a broken number is no whole one
 broken-whole : (Q : Type 0) {v n : ℕ} → broken ≡ whole v n → Q

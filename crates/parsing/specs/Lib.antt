@@ -1,0 +1,5 @@
+pub mod Parsing
+pub mod Each
+pub mod Numbers
+pub mod Valid
+pub mod ValidRows
