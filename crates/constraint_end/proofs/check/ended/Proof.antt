@@ -7,23 +7,23 @@ use Rattle.constraint_end.proofs.check.ended.Tie as tie
 
 returns : tie.Need-returns
 unfolding ended
-returns c = λ weight k. rw (lt-leb _ _ (c .if1 .taken))
+returns c = λ weight k. rw (lt-leb (c .before .args .n) 255 (omega arith))
 
 returns-2 : tie.Need-returns-2
 unfolding ended
-returns-2 c = λ weight k. rw (le-leb _ _ (c .before .if1 .left), lt-leb _ _ (c .if2 .taken))
+returns-2 c = λ weight k. rw (le-leb (c .before .before .args .n) 255 (omega arith), lt-leb _ _ (c .if2 .taken))
 
 returns-3 : tie.Need-returns-3
 unfolding ended
 returns-3 c =
     λ weight k.
-    rw (le-leb _ _ (c .before .before .if1 .left), le-leb _ _ (c .before .if2 .left), le-leb _ _ (c .if3 .taken))
+    rw (le-leb (c .before .before .before .args .n) 255 (omega arith), le-leb _ _ (c .before .if2 .left), le-leb _ _ (c .if3 .taken))
 
 returns-4 : tie.Need-returns-4
 unfolding ended
 returns-4 c =
     λ weight k.
-    rw (le-leb _ _ (c .before .before .if1 .left), le-leb _ _ (c .before .if2 .left), lt-leb _ _ (c .if3 .left))
+    rw (le-leb (c .before .before .before .args .n) 255 (omega arith), le-leb _ _ (c .before .if2 .left), lt-leb _ _ (c .if3 .left))
 
 pub ended-spec : {M : Type 1} → statement M
 ended-spec = tie.close (tie.spec returns returns-2 returns-3 returns-4)
