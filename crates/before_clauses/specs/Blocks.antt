@@ -13,7 +13,7 @@ use Rattle.literals.specs.Numbered.{allNumbered, durationLists}
 use Rattle.list_nodes.specs.Ground.{layoutOf}
 use Rattle.items.specs.Written.{Room}
 use Rattle.blocks.specs.Durations.{Durations}
-use Rattle.clauses.specs.Before.{blockItems, blocks-room}
+use Rattle.before_clauses.specs.Before.{blockItems, blocks-room}
 
 -- the items of the blocks, by the tables
 abbrev pub beforeItems : (durations users : List ℕ) → Head → List Item

@@ -6,10 +6,10 @@ use lib.ListN.{take}
 use Rattle.scope.specs.declared.Layout.{Layout}
 use Rattle.literals.specs.Variables.{starts-block}
 use Rattle.literals.specs.Filled.{usersAt}
-use Rattle.clauses.specs.Before.{blocks-wrote}
-use Rattle.clauses.specs.Blocks.{begun-sizes, begun-uses, begun-durations}
-use Rattle.clauses.proofs.before.write_before.Statement.{statement}
-use Rattle.clauses.proofs.before.write_before.Tie as tie
+use Rattle.before_clauses.specs.Before.{blocks-wrote}
+use Rattle.before_clauses.specs.Blocks.{begun-sizes, begun-uses, begun-durations}
+use Rattle.before_clauses.proofs.before.write_before.Statement.{statement}
+use Rattle.before_clauses.proofs.before.write_before.Tie as tie
 
 numbering-requires : tie.Need-numbering-requires
 numbering-requires c κs = let p = c .before .before .before .before .before .pre in (p .durations .times, (p .durations .events, omega (arith, p .resources)))

@@ -7,7 +7,7 @@ ghost use Prim.Native.Nat.{_+_};
 ghost use Rattle.sink.specs.World.{world, step};
 ghost use Rattle.list_nodes.specs.Ground.{layoutOf};
 ghost use Rattle.items.specs.Written.{Wrote};
-ghost use Rattle.clauses.specs.Blocks.{Begun, beforeItems};
+ghost use Rattle.before_clauses.specs.Blocks.{Begun, beforeItems};
 
 // Starts, uses and durations.
 pub fn write_before(

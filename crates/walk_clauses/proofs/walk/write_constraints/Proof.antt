@@ -6,11 +6,11 @@ use native.Mathlib.Omega.{arith}
 use lib.ListN.{length}
 use Rattle.constraint.specs.Walk.{walk-refused}
 use Rattle.sink.specs.World.{world, step}
-use Rattle.clauses.specs.Position.{ran-placed}
-use Rattle.clauses.specs.Walked.{Walkable, walkable-kept, Part, part-start, part-read, part-fits, part-room, part-next, part-end}
+use Rattle.walk_clauses.specs.Position.{ran-placed}
+use Rattle.walk_clauses.specs.Walked.{Walkable, walkable-kept, Part, part-start, part-read, part-fits, part-room, part-next, part-end}
 use borrow.Author.Needs.{needs}
-use Rattle.clauses.proofs.walk.write_constraints.Statement.{statement}
-use Rattle.clauses.proofs.walk.write_constraints.Tie as tie
+use Rattle.walk_clauses.proofs.walk.write_constraints.Statement.{statement}
+use Rattle.walk_clauses.proofs.walk.write_constraints.Tie as tie
 
 abbrev Inv-loop : tie.InvT-loop
 Inv-loop job model text₀ words₀ file head users groups list₀ first store₀ z₀ v₀ next₀ i₀ text words list store z v next i =

@@ -10,7 +10,7 @@ ghost use Rattle.constraint.specs.Walk.{constraintsIn};
 ghost use Rattle.sink.specs.Run.{Ran};
 ghost use Rattle.sink.specs.Lines.{lines};
 ghost use Rattle.sink.specs.World.{world, step};
-ghost use Rattle.clauses.specs.Walked.{Walkable, itemsOf};
+ghost use Rattle.walk_clauses.specs.Walked.{Walkable, itemsOf};
 
 // All constraints in file order, from the variable first on.
 pub fn write_constraints(

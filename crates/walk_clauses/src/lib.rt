@@ -1,0 +1,4 @@
+// The clauses of all constraints, in file order.
+mod walk;
+
+pub use walk::write_constraints;
