@@ -8,7 +8,7 @@ use lib.ListN.{take}
 use Rattle.scope.specs.Cnf.{Item}
 use Rattle.constraint.specs.declared.kinds.Head.{Head}
 use Rattle.literals.specs.Variables.{Sizes, layout-sizes}
-use Rattle.literals.specs.Filled.{usersAt, UserRows}
+use Rattle.user_table.specs.Filled.{usersAt, UserRows}
 use Rattle.literals.specs.Numbered.{allNumbered, durationLists}
 use Rattle.list_nodes.specs.Ground.{layoutOf}
 use Rattle.items.specs.Written.{Room}

@@ -11,7 +11,7 @@ ghost use Rattle.sink.specs.Run.{Ran};
 ghost use Rattle.sink.specs.Lines.{lines};
 ghost use Rattle.sink.specs.World.{world, step};
 ghost use Rattle.literals.specs.Variables.{Within};
-ghost use Rattle.literals.specs.Filled.{usersAt, UserRows};
+ghost use Rattle.user_table.specs.Filled.{usersAt, UserRows};
 ghost use Rattle.literals.specs.Numbered.{useGates};
 
 // Those of one resource, whose events are the first n of a list, from the variable v on.

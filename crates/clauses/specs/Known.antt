@@ -5,16 +5,15 @@ use Prim.Native.Nat.{ℕ}
 use native.Mathlib.Omega.{arith}
 use lib.ListN.{length, take}
 use Rattle.scope.specs.Formula.{formula}
-use Rattle.parsing.specs.Each.{each-map}
 use Rattle.tables.specs.Reading.{event-in}
 use Rattle.constraint.specs.declared.kinds.Head.{Head}
 use Rattle.constraint.specs.Walk.{constraintsIn}
 use Rattle.instance.specs.Answers.{instanceOf}
 use Rattle.instance.specs.Laws.{Accepted}
-use Rattle.literals.specs.Users.{usersIn}
+use Rattle.user_table.specs.Users.{usersIn}
 use Rattle.literals.specs.Numbered.{numberedFormula}
-use Rattle.literals.specs.Tables.{groupIn, Held, formula-tables}
-use Rattle.fitting.specs.Known.{groups-within}
+use Rattle.literals.specs.Tables.{groupIn}
+use Rattle.user_table.specs.Held.{Held, formula-tables}
 use Rattle.blocks.specs.Durations.{Durations}
 
 module _ {s d te tg : List ℕ} {h : Head} (a : Accepted s d te tg h) where
@@ -36,11 +35,10 @@ module _ {s d te tg : List ℕ} {h : Head} (a : Accepted s d te tg h) where
         events = refl;
         groups = refl;
         room = known-durations l .room;
-        refers = rw (a .constraints) (each-map (λ c v. groups-within _ (c .kind) (v .fields)) (a .valid));
       }
 
   pub known-formula : length d ≡ 1024
       → formula (instanceOf s d te tg h)
-      ≡ numberedFormula (h .times) (usersIn te (h .events)) (groupIn tg) (h .events) (h .resources) (take (h .events) d)
+      ≡ numberedFormula (h .times) (usersIn te (h .events)) (groupIn (h .groups) tg) (h .events) (h .resources) (take (h .events) d)
       (constraintsIn h s)
   known-formula l = formula-tables (known-held l) ∙ rw (a .constraints)

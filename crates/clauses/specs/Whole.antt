@@ -13,8 +13,8 @@ use Rattle.instance.specs.Answers.{instanceOf}
 use Rattle.sink.specs.Run.{Ran, then}
 use Rattle.sink.specs.Lines.{Line, lines, lines-append}
 use Rattle.sink.specs.World.{World}
-use Rattle.literals.specs.Users.{usersIn}
-use Rattle.literals.specs.Filled.{Filled, usersAt, filled-users, filled-rows}
+use Rattle.user_table.specs.Users.{usersIn}
+use Rattle.user_table.specs.Filled.{Filled, usersAt, filled-users, filled-rows}
 use Rattle.literals.specs.Tables.{groupIn}
 use Rattle.list_nodes.specs.Ground.{layoutOf}
 use Rattle.items.specs.Written.{Room, Wrote, room-first, room-rest}
@@ -38,7 +38,7 @@ module _ {s d te tg list us : List ℕ} {h : Head} (w : Writable s d te tg list 
   whole-items : formula (instanceOf s d te tg h) ≡ beforeItems d us h ++ constraintsFrom (start + gates (beforeItems d us h))
   whole-items =
       (rw (← whole-users) at (known-formula (w .accepted) (w .stores .tables .durations-long)))
-      ∙ formula-parts (h .times) (usersAt us) (h .events) (h .resources) (take (h .events) d) (groupIn tg) (constraintsIn h s)
+      ∙ formula-parts (h .times) (usersAt us) (h .events) (h .resources) (take (h .events) d) (groupIn (h .groups) tg) (constraintsIn h s)
 
   whole-start : primary (instanceOf s d te tg h) + 1 ≡ start
   whole-start = rw (length-events d te (h .events))

@@ -31,7 +31,7 @@ pub fn write_formula(
         (world s (now (text .entry)) (now (words .entry))) (world r (now (text .exit)) (now (words .exit))) ⌝ }
 {
     let mut users = [0u16; 102500];
-    literals::fill_users(resources, head.events, &mut users);
+    user_table::fill_users(resources, head.events, &mut users);
     let b = write_before(job, model, text, words, s, head, durations, &users);
     let z = b.sink;
     let v = b.next;

@@ -1,7 +1,7 @@
 // A constraint as a part of the formula.
-use crate::lists::write_lists;
 use constraint::Constraint;
 use constraint::Head;
+use constraint_lists::write_lists;
 use items::Written;
 use sink::Job;
 use sink::Sink;
@@ -12,7 +12,7 @@ ghost use Rattle.constraint.specs.Answers.{kindOf};
 ghost use Rattle.sink.specs.World.{world, step};
 ghost use Rattle.sink.specs.Lend.{partBase, Before};
 ghost use Rattle.items.specs.Written.{Room, Wrote};
-ghost use Rattle.constraint_clauses.specs.Fits.{Fits, constraintPart};
+ghost use Rattle.constraint_lists.specs.Fits.{Fits, constraintPart};
 
 // Its writer is lent the outputs from its own start on, and what stands before it is as it was; store takes one list at a time.
 pub fn write_constraint(

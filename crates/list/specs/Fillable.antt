@@ -13,13 +13,15 @@ use Rattle.tables.specs.Rows.{rowAt}
 use Rattle.constraint.specs.declared.kinds.Head.{Head}
 use Rattle.literals.specs.Outputs.{every}
 use Rattle.literals.specs.Variables.{sAt, xAt, Within}
-use Rattle.literals.specs.Filled.{usersAt}
+use Rattle.user_table.specs.Filled.{usersAt}
 use Rattle.literals.specs.Tables.{groupIn}
 use Rattle.literals.specs.Entries.{Adds}
-use Rattle.list_nodes.specs.Ground.{layoutOf}
+use Rattle.list_nodes.specs.Ground.{layoutOf, ground-groups}
+use Rattle.list_nodes.proofs.GroupRows.{known-row}
 use Rattle.list_nodes.specs.Stored.{countedIn, listIn, Fits}
 use Rattle.plain_lists.specs.Atoms.{spread-add}
-use Rattle.node_lists.specs.Cluster.{xsOf, cluster-adds}
+use Rattle.node_lists.specs.Cluster.{rowIn, xsOf, cluster-adds}
+use Rattle.node_lists.proofs.XsRows.{xs-rows}
 use Rattle.node_lists.specs.Idle.{innerCount, length-idle, idle-adds}
 
 -- list number t of a constraint that fits, its nodes the variables from v on, and the store
@@ -82,25 +84,26 @@ module _ (users groups list : List ℕ) (h : Head) where
   unfolding countedOf
   spread-short n g lo hi f =
       let s = each-head (f .short) .most in
-      let a = spread-add (h .times) (layoutOf h) (groupIn groups g) (leading n list) 0 0 in
-      let c = rw (length-leading n list) at (length-each (sAt (h .times) (layoutOf h)) (groupIn groups g) (leading n list)) in
-      omega (arith, s, members-length a, c)
+      let a = spread-add (h .times) (layoutOf h) (groupIn (h .groups) groups g) (leading n list) 0 0 in
+      let c = rw (length-leading n list) at (length-each (sAt (h .times) (layoutOf h)) (groupIn (h .groups) groups g) (leading n list)) in
+      rw (← (known-row groups h g (f .range .1))) (omega (arith, s, members-length a, c))
 
   pub cluster-short : (r n lo hi : ℕ) → Fits users groups list h (cluster r (leading n list) lo hi) → n ≤ 255
   unfolding countedOf
   cluster-short r n lo hi f =
       let s = each-head (f .short) .most in
-      let a = cluster-adds (h .times) (layoutOf h) (groupIn groups) r (leading n list) 0 in
+      let a = cluster-adds (h .times) (layoutOf h) (groupIn (h .groups) groups) r (leading n list) 0 in
       omega (arith, s, members-length a, length-every 1 0 (length (leading n list)), length-leading n list)
 
   pub idle-short : (r n lo hi : ℕ) → Fits users groups list h (idle r (leading n list) lo hi)
-      → innerCount (xsOf (h .times) (layoutOf h .uses) (groupIn groups) r (leading n list)) ≤ 255
+      → innerCount (xsOf (h .times) (layoutOf h .uses) (rowIn groups) r (leading n list)) ≤ 255
   unfolding countedOf
   idle-short r n lo hi f =
-      let xss = xsOf (h .times) (layoutOf h .uses) (groupIn groups) r (leading n list) in
+      let xss = xsOf (h .times) (layoutOf h .uses) (groupIn (h .groups) groups) r (leading n list) in
       let s = each-head (f .short) .most in
-      let a = idle-adds (h .times) (layoutOf h) (groupIn groups) r (leading n list) 0 in
-      omega (arith, s, members-length a, length-every 3 2 (innerCount xss))
+      let a = idle-adds (h .times) (layoutOf h) (groupIn (h .groups) groups) r (leading n list) 0 in
+      let os = ground-groups (f .ground) (f .range .1) in
+      rw (← (xs-rows (h .times) (layoutOf h .uses) groups h r os)) (omega (arith, s, members-length a, length-every 3 2 (innerCount xss)))
 
   -- the variables of their nodes
   module _ (r n lo hi t v : ℕ) (words : List ℕ) where
@@ -109,21 +112,22 @@ module _ (users groups list : List ℕ) (h : Head) where
     cluster-small f =
         let s = rw (only-one f refl) at (f .small) in
         let hs = leading n list in
-        let xss = xsOf (h .times) (layoutOf h .uses) (groupIn groups) r hs in
-        let a = cluster-adds (h .times) (layoutOf h) (groupIn groups) r hs v in
+        let xss = xsOf (h .times) (layoutOf h .uses) (groupIn (h .groups) groups) r hs in
+        let a = cluster-adds (h .times) (layoutOf h) (groupIn (h .groups) groups) r hs v in
         omega (
           arith,
           nodes-length a,
           length-map xss or,
-          length-map hs (λ g. map (xAt (h .times) (layoutOf h) r) (groupIn groups g)),
+          length-map hs (λ g. map (xAt (h .times) (layoutOf h) r) (groupIn (h .groups) groups g)),
           length-leading n list,
         )
 
     pub idle-small : Fillable users groups list h (idle r (leading n list) lo hi) t v words
-        → v + 3 * innerCount (xsOf (h .times) (layoutOf h .uses) (groupIn groups) r (leading n list)) ≤ 8000001
+        → v + 3 * innerCount (xsOf (h .times) (layoutOf h .uses) (rowIn groups) r (leading n list)) ≤ 8000001
     unfolding countedOf
     idle-small f =
         let s = rw (only-one f refl) at (f .small) in
-        let xss = xsOf (h .times) (layoutOf h .uses) (groupIn groups) r (leading n list) in
-        let a = idle-adds (h .times) (layoutOf h) (groupIn groups) r (leading n list) v in
-        omega (arith, nodes-length a, length-idle xss v)
+        let xss = xsOf (h .times) (layoutOf h .uses) (groupIn (h .groups) groups) r (leading n list) in
+        let a = idle-adds (h .times) (layoutOf h) (groupIn (h .groups) groups) r (leading n list) v in
+        let os = ground-groups (f .fits .ground) (f .fits .range .1) in
+        rw (← (xs-rows (h .times) (layoutOf h .uses) groups h r os)) (omega (arith, nodes-length a, length-idle xss v))

@@ -10,10 +10,9 @@ use Rattle.scope.specs.Kinds.{Kind, clash, unavailable, preferred, split, sprea
 use Rattle.parsing.specs.Each.{Each, each-none, each-more, each-at, each-drop}
 use Rattle.constraint.specs.declared.kinds.Head.{Head}
 use Rattle.constraint.specs.Valid.{OneOf}
-use Rattle.literals.specs.Variables.{xAt}
-use Rattle.literals.specs.Filled.{usersAt}
-use Rattle.literals.specs.Users.{each-both}
-use Rattle.literals.specs.Proper.{Proper, times-proper, events-proper, spread-proper, every-proper, upTo-within, outside-within, ascending-within}
+use Rattle.literals.specs.Variables.{xAt, Within}
+use Rattle.user_table.specs.Filled.{usersAt}
+use Rattle.literals.specs.Proper.{Proper, each-both, times-proper, events-proper, spread-proper, every-proper, upTo-within, outside-within, ascending-within}
 use Rattle.literals.specs.Tables.{groupIn}
 use Rattle.literals.specs.Numbered.{noList}
 use Rattle.literals.specs.NodeWords.{IsNode}
@@ -21,6 +20,7 @@ use Rattle.literals.specs.Entries.{Adds}
 use Rattle.literals.specs.Laws.{takes-add}
 use Rattle.list_nodes.specs.Ground.{Ground, layoutOf, ground-sizes, ground-event, ground-resource, ground-ascends, ground-groups, ground-events}
 use Rattle.list_nodes.specs.Stored.{countedIn, listIn, numOf, Short}
+use Rattle.list_nodes.proofs.GroupRows.{known-row}
 use Rattle.plain_lists.specs.Plain.{list-of-time}
 use Rattle.plain_lists.specs.Atoms.{events-add, starts-add, uses-add, spread-add}
 use Rattle.node_lists.specs.Cluster.{xsOf, cluster-adds}
@@ -41,12 +41,13 @@ adds-literals a p q = record { nodes = rw (a .gates) p; members = rw (a .literal
 
 -- X of resource r in a group, and in each of some groups
 module _ {groups : List ℕ} {h : Head} (g : Ground groups h) {r : ℕ} (x : OneOf (h .resources) r) where
-  uses-proper : {n : ℕ} → OneOf (h .groups) n → Each Proper (map (xAt (h .times) (layoutOf h) r) (groupIn groups n))
-  uses-proper o =
-      times-proper (layoutOf h .uses) (h .times) r (ground-sizes g .uses) (g .times) (ground-resource g x)
-      (ascending-within 125 (g .times) (ground-ascends g o))
+  uses-proper : {n : ℕ} → OneOf (h .groups) n → Each Proper (map (xAt (h .times) (layoutOf h) r) (groupIn (h .groups) groups n))
+  uses-proper {n} o =
+      rw (known-row groups h n o)
+      (times-proper (layoutOf h .uses) (h .times) r (ground-sizes g .uses) (g .times) (ground-resource g x)
+      (ascending-within 125 (g .times) (ground-ascends g o)))
 
-  groups-proper : {hs : List ℕ} → Each (OneOf (h .groups)) hs → Each (Each Proper) (xsOf (h .times) (layoutOf h .uses) (groupIn groups) r hs)
+  groups-proper : {hs : List ℕ} → Each (OneOf (h .groups)) hs → Each (Each Proper) (xsOf (h .times) (layoutOf h .uses) (groupIn (h .groups) groups) r hs)
   groups-proper each-none = each-none
   groups-proper (each-more o os) = each-more (uses-proper o) (groups-proper os)
 
@@ -98,14 +99,14 @@ module _ (users groups list : List ℕ) (h : Head) (t v : ℕ) (words : List ℕ
       (events-proper (h .times) t (g .times) (record { low = w .low; high = omega (arith, w .high, g .times) }) (f .fits .rows .within r)))
   list-literals (unavailable r m) f =
       rw (only-one f refl)
-      (adds-literals (uses-add (h .times) (layoutOf h) r (groupIn groups m) v 0) each-none
+      (adds-literals (uses-add (h .times) (layoutOf h) r (groupIn (h .groups) groups m) v 0) each-none
       (uses-proper (f .fits .ground) (f .fits .range .0) (f .fits .range .1)))
   list-literals (preferred e m) f =
       let g = f .fits .ground in
       rw (only-one f refl)
-      (adds-literals (takes-add (h .times) (layoutOf h) e (outside (groupIn groups m) (upTo (h .times))) v 0) each-none
+      (adds-literals (takes-add (h .times) (layoutOf h) e (outside (groupIn (h .groups) groups m) (upTo (h .times))) v 0) each-none
       (times-proper 0 (h .times) e (omega arith) (g .times) (ground-event g (f .fits .range .0))
-      (outside-within (groupIn groups m) (upTo-within 125 (h .times) (g .times)))))
+      (outside-within (groupIn (h .groups) groups m) (upTo-within 125 (h .times) (g .times)))))
   list-literals (split e lo hi) f =
       let g = f .fits .ground in
       rw (only-one f refl)
@@ -114,28 +115,29 @@ module _ (users groups list : List ℕ) (h : Head) (t v : ℕ) (words : List ℕ
       (upTo-within 125 (h .times) (g .times))))
   list-literals (spread es m lo hi) f =
       let g = f .fits .ground in
+      let ts : Each (Within 125) (groupIn (h .groups) groups m) =
+      rw (known-row groups h m (f .fits .range .1)) (ascending-within 125 (g .times) (ground-ascends g (f .fits .range .1))) in
       rw (only-one f refl)
-      (adds-literals (spread-add (h .times) (layoutOf h) (groupIn groups m) es v 0) each-none
-      (spread-proper (layoutOf h .starts) (h .times) (omega (arith, ground-sizes g .starts)) (g .times) (ground-events g (f .fits .range .0))
-      (ascending-within 125 (g .times) (ground-ascends g (f .fits .range .1)))))
+      (adds-literals (spread-add (h .times) (layoutOf h) (groupIn (h .groups) groups m) es v 0) each-none
+      (spread-proper (layoutOf h .starts) (h .times) (omega (arith, ground-sizes g .starts)) (g .times) (ground-events g (f .fits .range .0)) ts))
   list-literals (busy r m lo hi) f =
       rw (only-one f refl)
-      (adds-literals (uses-add (h .times) (layoutOf h) r (groupIn groups m) v 0) each-none
+      (adds-literals (uses-add (h .times) (layoutOf h) r (groupIn (h .groups) groups m) v 0) each-none
       (uses-proper (f .fits .ground) (f .fits .range .0) (f .fits .range .1)))
   list-literals (cluster r hs lo hi) f =
       let g = f .fits .ground in
-      let xss = xsOf (h .times) (layoutOf h .uses) (groupIn groups) r hs in
-      let a = cluster-adds (h .times) (layoutOf h) (groupIn groups) r hs v in
+      let xss = xsOf (h .times) (layoutOf h .uses) (groupIn (h .groups) groups) r hs in
+      let a = cluster-adds (h .times) (layoutOf h) (groupIn (h .groups) groups) r hs v in
       let b = rw (only-one f refl) at (f .small) in
       let c = length-map xss or in
-      let d = length-map hs (λ g. map (xAt (h .times) (layoutOf h) r) (groupIn groups g)) in
+      let d = length-map hs (λ g. map (xAt (h .times) (layoutOf h) r) (groupIn (h .groups) groups g)) in
       rw (only-one f refl)
       (adds-literals a (ors-nodes (groups-proper g (f .fits .range .0) (ground-groups g (f .fits .range .1))))
       (every-proper 1 v (length hs) s (omega (arith, nodes-length a))))
   list-literals (idle r hs lo hi) f =
       let g = f .fits .ground in
-      let xss = xsOf (h .times) (layoutOf h .uses) (groupIn groups) r hs in
-      let a = idle-adds (h .times) (layoutOf h) (groupIn groups) r hs v in
+      let xss = xsOf (h .times) (layoutOf h .uses) (groupIn (h .groups) groups) r hs in
+      let a = idle-adds (h .times) (layoutOf h) (groupIn (h .groups) groups) r hs v in
       let b = rw (only-one f refl) at (f .small) in
       let c = length-idle xss v in
       rw (only-one f refl)

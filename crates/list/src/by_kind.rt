@@ -11,7 +11,7 @@ use plain_lists::fill_split;
 use plain_lists::fill_spread;
 use plain_lists::fill_unavailable;
 ghost use Rattle.constraint.specs.Answers.{kindOf};
-ghost use Rattle.literals.specs.Filled.{usersAt};
+ghost use Rattle.user_table.specs.Filled.{usersAt};
 ghost use Rattle.list.specs.Fillable.{Fillable};
 ghost use Rattle.list_nodes.specs.Stored.{listIn, numOf, Stored};
 ghost use Rattle.list.specs.ListsOf.{ListsOf};

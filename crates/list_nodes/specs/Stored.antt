@@ -11,7 +11,7 @@ use Rattle.constraint.specs.declared.kinds.Head.{Head}
 use Rattle.constraint.specs.Answers.{countsIn}
 use Rattle.constraint.specs.Valid.{InRange}
 use Rattle.literals.specs.Words.{Holds}
-use Rattle.literals.specs.Filled.{usersAt, UserRows}
+use Rattle.user_table.specs.Filled.{usersAt, UserRows}
 use Rattle.literals.specs.Tables.{groupIn}
 use Rattle.literals.specs.Numbered.{noList, numAt}
 use Rattle.literals.specs.NodeWords.{nodesWords}
@@ -25,7 +25,7 @@ listAt ls t = getD ls (t - 1) noList
 
 -- what a constraint counts, by the users of the resources and the rows of the groups
 abbrev pub countedIn : (us : ℕ → List ℕ) (groups : List ℕ) → Head → Kind → Counted
-countedIn us groups h k = countedOf (h .times) us (groupIn groups) k
+countedIn us groups h k = countedOf (h .times) us (groupIn (h .groups) groups) k
 
 -- list number t of it
 abbrev pub listIn : (us : ℕ → List ℕ) (groups : List ℕ) → Head → Kind → ℕ → Listed

@@ -1,7 +1,5 @@
 pub mod Words
 pub mod Variables
-pub mod Users
-pub mod Filled
 pub mod Outputs
 pub mod Proper
 pub mod NodeWords

@@ -1,14 +1,18 @@
 -- The gathered literals are literals of variables, and fit a word with a bit to spare.
 use Prim.Native.Nat.{ℕ, zero, suc, _+_, _-_, _*_, _≤_, _<_}
 use mathlib.Core.Bool.{Bool, true, false, cond}
-use mathlib.Core.List.{List, _∷_, map, flatMap}
+use mathlib.Core.List.{List, _∷_, _++_, map, flatMap}
 use native.Mathlib.Omega.{arith}
 use Rattle.scope.specs.Kinds.{from, upTo, member, outside}
 use Rattle.parsing.specs.Each.{Each, each-none, each-more}
 use Rattle.parsing.specs.Numbers.{Ascending, none, more}
 use Rattle.literals.specs.Variables.{baseOf, literalAt, yAt, Within, row-small}
-use Rattle.literals.specs.Users.{each-both}
 use Rattle.literals.specs.Outputs.{every}
+
+-- of each of two lists, one after the other
+pub each-both : {A : Type 0} {P : A → Type 0} {xs ys : List A} → Each P xs → Each P ys → Each P (xs ++ ys)
+each-both each-none q = q
+each-both (each-more p ps) q = each-more p (each-both ps q)
 
 -- a literal of a variable
 pub record Proper (l : ℕ) : Type 0 where

@@ -3,7 +3,6 @@
 mod events;
 mod gate;
 mod times;
-mod users;
 mod variable;
 
 pub use events::s_spread;
@@ -14,6 +13,5 @@ pub use times::s_of_event;
 pub use times::x_of_group;
 pub use times::y_of_event;
 pub use times::y_outside;
-pub use users::fill_users;
 pub use variable::base;
 pub use variable::numbering;

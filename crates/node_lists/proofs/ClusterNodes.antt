@@ -6,8 +6,10 @@ use native.Mathlib.Numerals.{add-one}
 use lib.ListN.{length, getD, take, length-map}
 use Rattle.scope.specs.Cnf.{or}
 use Rattle.scope.specs.Kinds.{cluster, countedOf}
+use Rattle.parsing.specs.Each.{Each}
 use Rattle.number.specs.Lists.{leading, length-leading}
 use Rattle.constraint.specs.declared.kinds.Head.{Head}
+use Rattle.constraint.specs.Valid.{OneOf}
 use Rattle.literals.specs.Variables.{inBlock}
 use Rattle.literals.specs.Words.{Holds, holds-as, holds-none}
 use Rattle.literals.specs.Outputs.{every}
@@ -15,8 +17,9 @@ use Rattle.literals.specs.NodeWords.{nodeWords, nodesWords, nodes-words-both}
 use Rattle.literals.specs.Tables.{groupIn}
 use Rattle.list_nodes.specs.Ground.{layoutOf}
 use Rattle.list_nodes.specs.Stored.{onlyIn, numOf, Stored, adds-stored}
-use Rattle.node_lists.specs.Cluster.{xsOf, cluster-adds}
+use Rattle.node_lists.specs.Cluster.{rowIn, xsOf, cluster-adds}
 use Rattle.list_nodes.proofs.Nodes.{holds-then}
+use Rattle.node_lists.proofs.XsRows.{xs-rows}
 
 -- one member more of a list in a store
 pub leading-more : (n : ℕ) (l : List ℕ) → leading (n + 1) l ≡ leading n l ++ (getD l n 0 ∷ [])
@@ -66,14 +69,16 @@ module _ (T uses : ℕ) (group : ℕ → List ℕ) (r : ℕ) (l : List ℕ) wher
 
 -- the whole list
 pub cluster-stored : (h : Head) (groups : List ℕ) (r : ℕ) (list : List ℕ) (count lo hi v : ℕ) {words out : List ℕ} {at end : ℕ}
-    → OrsTo (h .times) (layoutOf h .uses) (groupIn groups) r list v words at count
+    → Each (OneOf (h .groups)) (leading count list)
+    → OrsTo (h .times) (layoutOf h .uses) (rowIn groups) r list v words at count
     → Holds out end (take at words ++ every 1 v count)
     → Stored (numOf h) (onlyIn groups h (cluster r (leading count list) lo hi)) v out (record { nodes = count; at = at; end = end })
 unfolding countedOf
-cluster-stored h groups r list count lo hi v p q =
+cluster-stored h groups r list count lo hi v os p q =
     let hs = leading count list in
     let e : length hs ≡ count = length-leading count list in
-    adds-stored (cluster-adds (h .times) (layoutOf h) (groupIn groups) r hs v)
+    let xs = xs-rows (h .times) (layoutOf h .uses) groups h r os in
+    adds-stored (rw xs at (cluster-adds (h .times) (layoutOf h) (groupIn (h .groups) groups) r hs v))
     (rw e (holds-then (every 1 v count) (p .holds) q))
-    (sym (length-ors (h .times) (layoutOf h .uses) (groupIn groups) r list count))
+    (sym (length-ors (h .times) (layoutOf h .uses) (rowIn groups) r list count))
     (p .holds .count)

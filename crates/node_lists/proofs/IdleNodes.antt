@@ -12,6 +12,7 @@ use Rattle.scope.specs.Kinds.{idle, countedOf}
 use Rattle.parsing.specs.Each.{Each}
 use Rattle.number.specs.Lists.{leading}
 use Rattle.constraint.specs.declared.kinds.Head.{Head}
+use Rattle.constraint.specs.Valid.{OneOf}
 use Rattle.literals.specs.Variables.{inBlock}
 use Rattle.literals.specs.Words.{Holds, holds-as, holds-none}
 use Rattle.literals.specs.Outputs.{every}
@@ -19,9 +20,10 @@ use Rattle.literals.specs.NodeWords.{nodeWords, nodesWords, nodes-words-both}
 use Rattle.literals.specs.Tables.{groupIn}
 use Rattle.list_nodes.specs.Ground.{layoutOf, leading-at}
 use Rattle.list_nodes.specs.Stored.{onlyIn, numOf, Stored, adds-stored}
-use Rattle.node_lists.specs.Cluster.{xsOf}
+use Rattle.node_lists.specs.Cluster.{rowIn, xsOf}
 use Rattle.node_lists.specs.Idle.{gapGates, idleGates, innerCount, length-gaps, length-idle, idle-adds}
 use Rattle.list_nodes.proofs.Nodes.{holds-then, holds-kept}
+use Rattle.node_lists.proofs.XsRows.{xs-rows}
 use Rattle.node_lists.proofs.ClusterNodes.{xsTo, xs-more}
 
 -- G, H and I of member k
@@ -163,16 +165,18 @@ module _ (T uses : ℕ) (group : ℕ → List ℕ) (r : ℕ) where
 
 -- the whole list
 pub idle-stored : (h : Head) (groups : List ℕ) (r : ℕ) (list : List ℕ) (count lo hi v : ℕ) {words out : List ℕ} {at end found : ℕ}
-    → IdleTo (h .times) (layoutOf h .uses) (groupIn groups) r list v words at found count
+    → Each (OneOf (h .groups)) (leading count list)
+    → IdleTo (h .times) (layoutOf h .uses) (rowIn groups) r list v words at found count
     → Holds out end (take at words ++ every 3 (v + 2) found)
     → (nodes : ℕ)
     → nodes ≡ 3 * found
     → Stored (numOf h) (onlyIn groups h (idle r (leading count list) lo hi)) v out (record { nodes = nodes; at = at; end = end })
 unfolding countedOf
-idle-stored h groups r list count lo hi v {found = found} p q nodes e =
+idle-stored h groups r list count lo hi v {found = found} os p q nodes e =
     let hs = leading count list in
-    let xss = xsOf (h .times) (layoutOf h .uses) (groupIn groups) r hs in
-    adds-stored (idle-adds (h .times) (layoutOf h) (groupIn groups) r hs v)
+    let xss = xsOf (h .times) (layoutOf h .uses) (rowIn groups) r hs in
+    let xs = xs-rows (h .times) (layoutOf h .uses) groups h r os in
+    adds-stored (rw xs at (idle-adds (h .times) (layoutOf h) (groupIn (h .groups) groups) r hs v))
     (rw (← (p .count)) (holds-then (every 3 (v + 2) found) (p .holds) q))
     (omega (arith, length-idle xss v, p .count))
     (p .holds .count)

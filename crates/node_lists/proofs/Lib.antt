@@ -1,2 +1,3 @@
+pub mod XsRows
 mod ClusterNodes
 mod IdleNodes

@@ -1,5 +1,5 @@
 -- Kind 7's list: an OR for each group, whose output is counted.
-use Prim.Native.Nat.{ℕ, _+_}
+use Prim.Native.Nat.{ℕ, _+_, _-_}
 use mathlib.Core.Path.{_≡_, refl}
 use mathlib.Core.List.{List, [], _∷_, map}
 use native.Mathlib.Omega.{arith}
@@ -8,11 +8,16 @@ use lib.ListN.{length}
 use Rattle.scope.specs.declared.Layout.{Layout}
 use Rattle.scope.specs.Cnf.{or}
 use Rattle.scope.specs.Kinds.{Atom, anyOf, usesAt}
+use Rattle.tables.specs.Rows.{rowAt}
 use Rattle.literals.specs.Variables.{inBlock, xAt}
 use Rattle.literals.specs.Outputs.{every}
 use Rattle.literals.specs.Numbered.{numAt}
 use Rattle.literals.specs.Entries.{Adds, adds-none, adds-more, atoms-literals}
 use Rattle.literals.specs.Laws.{x-literal}
+
+-- the row of a group by its number
+abbrev pub rowIn : List ℕ → ℕ → List ℕ
+rowIn t g = rowAt t (g - 1)
 
 -- X of resource r in each of some groups, in the block after `uses` variables
 abbrev pub xsOf : (T uses : ℕ) (group : ℕ → List ℕ) (r : ℕ) → List ℕ → List (List ℕ)

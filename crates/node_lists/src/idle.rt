@@ -14,9 +14,8 @@ ghost use Rattle.constraint.specs.Answers.{countsIn};
 ghost use Rattle.constraint.specs.Valid.{InRange};
 ghost use Rattle.literals.specs.Words.{Holds};
 ghost use Rattle.literals.specs.NodeWords.{nodesWords};
-ghost use Rattle.literals.specs.Tables.{groupIn};
 ghost use Rattle.list_nodes.specs.Ground.{Ground, layoutOf};
-ghost use Rattle.node_lists.specs.Cluster.{xsOf};
+ghost use Rattle.node_lists.specs.Cluster.{rowIn, xsOf};
 ghost use Rattle.node_lists.specs.Idle.{gapGates, innerCount};
 ghost use Rattle.list_nodes.specs.Stored.{onlyIn, numOf, Stored};
 
@@ -66,8 +65,8 @@ pub fn fill_idle(
     out: &mut [u32],
 ) -> Filled
     requires { ⌜ Ground (now groups) head × (InRange (countsIn head) (idle (f .resource) (leading (f .groups) (now list)) (f .lo) (f .hi))
-        × ((length (now list) ≡ 2048) × ((innerCount (xsOf (head .times) (layoutOf head .uses) (groupIn (now groups)) (f .resource) (leading (f .groups) (now list))) ≤ 255)
-        × ((v + 3 * innerCount (xsOf (head .times) (layoutOf head .uses) (groupIn (now groups)) (f .resource) (leading (f .groups) (now list))) ≤ 8000001)
+        × ((length (now list) ≡ 2048) × ((innerCount (xsOf (head .times) (layoutOf head .uses) (rowIn (now groups)) (f .resource) (leading (f .groups) (now list))) ≤ 255)
+        × ((v + 3 * innerCount (xsOf (head .times) (layoutOf head .uses) (rowIn (now groups)) (f .resource) (leading (f .groups) (now list))) ≤ 8000001)
         × (length (now out) ≡ 34816))))) ⌝ }
     ensures { λ r. ⌜ Stored (numOf head) (onlyIn (now (groups .entry)) head (idle (f .resource) (leading (f .groups) (now (list .entry))) (f .lo) (f .hi))) v (now (out .exit)) r ⌝ }
 {

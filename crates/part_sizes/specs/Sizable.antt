@@ -10,7 +10,7 @@ use Rattle.parsing.specs.Each.{Each, each-none, each-more, each-at}
 use Rattle.constraint.specs.declared.kinds.Head.{Head}
 use Rattle.constraint.specs.declared.kinds.Bounds.{Bounds}
 use Rattle.constraint.specs.Bounds.{lowOf, highOf, freeOf, bounds-right}
-use Rattle.literals.specs.Filled.{usersAt}
+use Rattle.user_table.specs.Filled.{usersAt}
 use Rattle.literals.specs.Numbered.{noList}
 use Rattle.literals.specs.Tables.{groupIn}
 use Rattle.list_nodes.specs.Stored.{Fits, Short, listAt, countedIn, listIn}
@@ -46,16 +46,16 @@ module _ {users groups list : List ℕ} {h : Head} {c : Constraint} (s : Sizable
   pub sizable-bounds : {b : Bounds} → b ≡ record { lo = lowOf (c .kind); hi = highOf (c .kind); free = freeOf (c .kind) }
       → BoundsOf countedBy b
   sizable-bounds e =
-      let r = bounds-right (h .times) (usersAt users) (groupIn groups) (c .kind) in
+      let r = bounds-right (h .times) (usersAt users) (groupIn (h .groups) groups) (c .kind) in
       record { lo = rw (e, r .lo); hi = rw (e, r .hi); free = rw (e, r .free) }
 
   pub sizable-ordered : countedBy .lo ≤ countedBy .hi
   sizable-ordered =
-      let r = bounds-right (h .times) (usersAt users) (groupIn groups) (c .kind) in
+      let r = bounds-right (h .times) (usersAt users) (groupIn (h .groups) groups) (c .kind) in
       omega (arith, r .lo, r .hi, s .ordered)
 
   pub sizable-shape : Shape (h .times) countedBy
-  sizable-shape = lists-shape (h .times) (usersAt users) (groupIn groups) (c .kind)
+  sizable-shape = lists-shape (h .times) (usersAt users) (groupIn (h .groups) groups) (c .kind)
 
   -- its first list is short, and so its nodes have small numbers
   pub sizable-short : Short countedBy (listIn (usersAt users) groups h (c .kind) 1)

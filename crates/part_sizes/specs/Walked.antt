@@ -13,8 +13,8 @@ use Rattle.constraint.specs.Decoded.{decodedAt}
 use Rattle.constraint.specs.Walk.{Walk, constraintsIn, walk-end}
 use Rattle.instance.specs.Answers.{instanceOf}
 use Rattle.instance.specs.Laws.{Accepted, NextOf, accepted-next}
-use Rattle.literals.specs.Users.{usersIn}
-use Rattle.literals.specs.Filled.{Filled, usersAt}
+use Rattle.user_table.specs.Users.{usersIn}
+use Rattle.user_table.specs.Filled.{Filled, usersAt}
 use Rattle.list_nodes.specs.Stored.{countedIn}
 use Rattle.fitting.specs.Fitting.{known-counted, known-fits, known-few, known-some}
 use Rattle.sizing.specs.declared.Size.{Size}
@@ -138,7 +138,7 @@ module _ {s d te us tg : List ℕ} {h : Head} (a : Tabled s d te us tg h) {cols 
       -- and was
       module _ {one : Size} (z : CountedSized (c .weight) (countedIn (usersAt us) tg h (c .kind)) one) where
         sized : one ≡ constraintSize (instanceOf s d te tg h) c
-        sized = rw (known-counted (a .accepted) (a .filled) (c .kind) (n .valid .fields)) (z .eq)
+        sized = rw (known-counted (a .accepted) (a .filled) (c .kind)) (z .eq)
 
         pub part-next : {r : Total} → r ≡ added cols t one (c .weight) → Part s d te tg h cols before (k + 1) next r
         unfolding constraintsSize tailAfter

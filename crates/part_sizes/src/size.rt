@@ -14,7 +14,7 @@ use sizing::sums::plus;
 ghost use mathlib.Core.Path.{_≡_};
 ghost use lib.ListN.{length};
 ghost use Rattle.constraint.specs.Answers.{constraintOf};
-ghost use Rattle.literals.specs.Filled.{usersAt};
+ghost use Rattle.user_table.specs.Filled.{usersAt};
 ghost use Rattle.list_nodes.specs.Stored.{countedIn, listIn};
 ghost use Rattle.part_sizes.specs.Listed.{filledSize, Measurable, ListSized};
 ghost use Rattle.part_sizes.specs.Sizable.{Sizable, CountedSized};

@@ -43,16 +43,16 @@ module _ (h : Head) {words : List ℕ} {n : ℕ} where
       (adds-plain (λ v. events-add (h .times) (layoutOf h) t (us r) v 0) p)
 
   module _ (groups : List ℕ) where
-    pub unavailable-plain : (r g : ℕ) → Holds words n (map (xAt (h .times) (layoutOf h) r) (groupIn groups g))
+    pub unavailable-plain : (r g : ℕ) → Holds words n (map (xAt (h .times) (layoutOf h) r) (groupIn (h .groups) groups g))
         → Plain (numOf h) (onlyIn groups h (unavailable r g)) words (plainOf n)
     unfolding countedOf
-    unavailable-plain r g p = adds-plain (λ v. uses-add (h .times) (layoutOf h) r (groupIn groups g) v 0) p
+    unavailable-plain r g p = adds-plain (λ v. uses-add (h .times) (layoutOf h) r (groupIn (h .groups) groups g) v 0) p
 
-    pub preferred-plain : (e g : ℕ) → Holds words n (map (yAt (h .times) e) (outside (groupIn groups g) (upTo (h .times))))
+    pub preferred-plain : (e g : ℕ) → Holds words n (map (yAt (h .times) e) (outside (groupIn (h .groups) groups g) (upTo (h .times))))
         → Plain (numOf h) (onlyIn groups h (preferred e g)) words (plainOf n)
     unfolding countedOf
     preferred-plain e g p =
-        adds-plain (λ v. takes-add (h .times) (layoutOf h) e (outside (groupIn groups g) (upTo (h .times))) v 0) p
+        adds-plain (λ v. takes-add (h .times) (layoutOf h) e (outside (groupIn (h .groups) groups g) (upTo (h .times))) v 0) p
 
     pub split-plain : (e lo hi : ℕ) → Holds words n (map (sAt (h .times) (layoutOf h) e) (upTo (h .times)))
         → Plain (numOf h) (onlyIn groups h (split e lo hi)) words (plainOf n)
@@ -60,12 +60,12 @@ module _ (h : Head) {words : List ℕ} {n : ℕ} where
     split-plain e lo hi p = adds-plain (λ v. starts-add (h .times) (layoutOf h) e (upTo (h .times)) v 0) p
 
     pub spread-plain : (vs : List ℕ) (g lo hi : ℕ)
-        → Holds words n (flatMap (λ e. map (sAt (h .times) (layoutOf h) e) (groupIn groups g)) vs)
+        → Holds words n (flatMap (λ e. map (sAt (h .times) (layoutOf h) e) (groupIn (h .groups) groups g)) vs)
         → Plain (numOf h) (onlyIn groups h (spread vs g lo hi)) words (plainOf n)
     unfolding countedOf
-    spread-plain vs g lo hi p = adds-plain (λ v. spread-add (h .times) (layoutOf h) (groupIn groups g) vs v 0) p
+    spread-plain vs g lo hi p = adds-plain (λ v. spread-add (h .times) (layoutOf h) (groupIn (h .groups) groups g) vs v 0) p
 
-    pub busy-plain : (r g lo hi : ℕ) → Holds words n (map (xAt (h .times) (layoutOf h) r) (groupIn groups g))
+    pub busy-plain : (r g lo hi : ℕ) → Holds words n (map (xAt (h .times) (layoutOf h) r) (groupIn (h .groups) groups g))
         → Plain (numOf h) (onlyIn groups h (busy r g lo hi)) words (plainOf n)
     unfolding countedOf
-    busy-plain r g lo hi p = adds-plain (λ v. uses-add (h .times) (layoutOf h) r (groupIn groups g) v 0) p
+    busy-plain r g lo hi p = adds-plain (λ v. uses-add (h .times) (layoutOf h) r (groupIn (h .groups) groups g) v 0) p

@@ -9,7 +9,7 @@ ghost use Prim.Native.Nat.{_≤_};
 ghost use lib.ListN.{length};
 ghost use Rattle.scope.specs.Kinds.{clash};
 ghost use Rattle.literals.specs.Variables.{Within};
-ghost use Rattle.literals.specs.Filled.{usersAt, UserRows};
+ghost use Rattle.user_table.specs.Filled.{usersAt, UserRows};
 ghost use Rattle.list_nodes.specs.Stored.{listIn, numOf, Plain};
 
 // The list of time t.

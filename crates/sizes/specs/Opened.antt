@@ -15,8 +15,8 @@ use Rattle.constraint.specs.declared.kinds.Head.{Head}
 use Rattle.instance.specs.Answers.{instanceOf}
 use Rattle.instance.specs.Laws.{Accepted}
 use Rattle.instance.specs.Stores.{Stores}
-use Rattle.literals.specs.Users.{usersIn, users-in}
-use Rattle.literals.specs.Filled.{Filled, EventRows, filled-rows}
+use Rattle.user_table.specs.Users.{usersIn, users-in}
+use Rattle.user_table.specs.Filled.{Filled, EventRows, filled-rows}
 use Rattle.fitting.specs.Known.{known-rows}
 use Rattle.sizing.specs.declared.Size.{Size}
 use Rattle.sizing.specs.Sums.{Within, within-more}

@@ -1,9 +1,9 @@
 // The sizes of the formula and of its tail, for a file that was accepted.
 use before_sizes::before_size;
 use constraint::Head;
-use literals::fill_users;
 use part_sizes::Total;
 use part_sizes::constraints_total;
+use user_table::fill_users;
 ghost use Rattle.instance.specs.Answers.{instanceOf};
 ghost use Rattle.sizes.specs.Opened.{Opened};
 ghost use Rattle.sizes.specs.Whole.{WholeOf};

@@ -2,7 +2,6 @@
 // sum of their weights. specs/ ties each size to the items that it stands for.
 pub mod blocks;
 pub mod counts;
-pub mod limits;
 pub mod nodes;
 pub mod rows;
 pub mod sums;

@@ -16,18 +16,18 @@ use Rattle.instance.specs.Laws.{Accepted, NextOf, accepted-next}
 use Rattle.sink.specs.Run.{Ran}
 use Rattle.sink.specs.Lines.{Line, lines}
 use Rattle.sink.specs.World.{World}
-use Rattle.literals.specs.Users.{usersIn}
-use Rattle.literals.specs.Filled.{Filled, usersAt}
+use Rattle.user_table.specs.Users.{usersIn}
+use Rattle.user_table.specs.Filled.{Filled, usersAt}
 use Rattle.literals.specs.Numbered.{constraintItems}
 use Rattle.literals.specs.Tables.{groupIn}
 use Rattle.list_nodes.specs.Ground.{layoutOf}
 use Rattle.fitting.specs.Fitting.{known-fits}
 use Rattle.items.specs.Written.{Room, Wrote, Left, room-first, room-same, left-start, left-turn, left-end, left-room}
-use Rattle.constraint_clauses.specs.Fits.{Fits, constraintPart}
+use Rattle.constraint_lists.specs.Fits.{Fits, constraintPart}
 
 -- the items of some constraints, from the variable v on
 abbrev pub itemsOf : (users groups : List ℕ) → Head → List Constraint → ℕ → List Item
-itemsOf us tg h cs v = constraintItems (h .times) (layoutOf h) (usersAt us) (groupIn tg) cs v
+itemsOf us tg h cs v = constraintItems (h .times) (layoutOf h) (usersAt us) (groupIn (h .groups) tg) cs v
 
 module _ (us tg : List ℕ) (h : Head) (v : ℕ) where
   -- those of the first constraint, and the others

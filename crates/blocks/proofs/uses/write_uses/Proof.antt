@@ -2,7 +2,7 @@
 use mathlib.Core.Path.{sym, _∙_}
 use mathlib.Core.List.{flatMap}
 use Rattle.scope.specs.Kinds.{upTo}
-use Rattle.literals.specs.Filled.{usersAt}
+use Rattle.user_table.specs.Filled.{usersAt}
 use Rattle.literals.specs.Numbered.{useGates}
 use Rattle.blocks.proofs.Passed.{gates-passed}
 use borrow.Author.Needs.{needs}

@@ -2,7 +2,7 @@
 use borrow.Author.Needs.{needs}
 use Rattle.node_lists.proofs.ClusterNodes.{OrsTo, ors-none, ors-more, cluster-stored}
 use Rattle.list_nodes.specs.Ground.{ground-sizes, ground-resource, ground-group, ground-groups, leading-at}
-use Rattle.literals.specs.Tables.{groupIn}
+use Rattle.node_lists.specs.Cluster.{rowIn}
 use Rattle.literals.specs.Variables.{literalAt}
 use Rattle.tables.specs.Rows.{rowAt}
 use lib.ListN.{length, getD}
@@ -15,7 +15,7 @@ use Rattle.node_lists.proofs.cluster.fill_cluster.Tie as tie
 
 abbrev Inv-loop : tie.InvT-loop
 Inv-loop groups list v out₀ times uses resource base count o₀ at₀ i₀ out o at i =
-    (i ≤ count) × (o ≡ v + i) × (at ≤ 127 * i) × (length out ≡ length out₀) × OrsTo times uses (groupIn groups) resource list v out at i
+    (i ≤ count) × (o ≡ v + i) × (at ≤ 127 * i) × (length out ≡ length out₀) × OrsTo times uses (rowIn groups) resource list v out at i
 
 abbrev μ-loop : tie.MeasureT-loop
 μ-loop groups list v out₀ times uses resource base count o₀ at₀ i₀ out o at i = count - i
@@ -77,9 +77,10 @@ same-length c = search needs
 returns : tie.Need-returns Inv-loop μ-loop
 returns c =
     let a = c .before .before .before .before .before .before .before .before .before .before .before .before .args in
+    let p = c .before .before .before .before .before .before .before .before .before .before .before .before .pre in
     let l = c .before .before .before .before .before .loop in
     let e : l .i ≡ a .f .groups = omega arith in
-    cluster-stored (a .head) (a .groups .now) (a .f .resource) (a .list .now) (a .f .groups) (a .f .lo) (a .f .hi) (a .v) (rw (c .before .before .before .before .before .before .before .before .numbering .ensures, e) at (l .inv .4)) (c .before .before .outputs .ensures)
+    cluster-stored (a .head) (a .groups .now) (a .f .resource) (a .list .now) (a .f .groups) (a .f .lo) (a .f .hi) (a .v) (ground-groups (p .0) (p .1 .0 .1)) (rw (c .before .before .before .before .before .before .before .before .numbering .ensures, e) at (l .inv .4)) (c .before .before .outputs .ensures)
 
 pub fill-cluster-spec : {M : Type 1} → statement M
 fill-cluster-spec =

@@ -2,7 +2,7 @@
 use borrow.Author.Needs.{needs}
 use Rattle.node_lists.proofs.IdleNodes.{IdleIn, IdleTo, idle-none, idle-next, idle-turn, idle-stored}
 use Rattle.list_nodes.specs.Ground.{ground-sizes, ground-resource, ground-group, ground-groups, groups-room, leading-at, rows-short}
-use Rattle.literals.specs.Tables.{groupIn}
+use Rattle.node_lists.specs.Cluster.{rowIn}
 use Rattle.literals.specs.Variables.{uses-block}
 use lib.ListN.{length}
 use native.Mathlib.Omega.{arith}
@@ -14,7 +14,7 @@ use Rattle.node_lists.proofs.idle.fill_idle.Tie as tie
 abbrev Inv-loop : tie.InvT-loop
 Inv-loop groups list v out₀ row₀ times uses resource count found₀ at₀ i₀ out row found at i =
     (i ≤ count) × (length out ≡ 34816) × (length row ≡ 125) × (found ≤ 255) × (v + 3 * found ≤ 8000001) × (at ≤ 134 * found)
-    × IdleIn times uses (groupIn groups) resource list v count × IdleTo times uses (groupIn groups) resource list v out at found i
+    × IdleIn times uses (rowIn groups) resource list v count × IdleTo times uses (rowIn groups) resource list v out at found i
 
 abbrev μ-loop : tie.MeasureT-loop
 μ-loop groups list v out₀ row₀ times uses resource count found₀ at₀ i₀ out row found at i = count - i
@@ -120,9 +120,10 @@ same-length c = search needs
 returns : tie.Need-returns Inv-loop μ-loop
 returns c =
     let a = c .before .before .before .before .before .before .before .before .before .before .before .args in
+    let p = c .before .before .before .before .before .before .before .before .before .before .before .pre in
     let l = c .before .before .before .before .before .loop in
     let e : l .i ≡ a .f .groups = omega arith in
-    idle-stored (a .head) (a .groups .now) (a .f .resource) (a .list .now) (a .f .groups) (a .f .lo) (a .f .hi) (a .v) (rw (c .before .before .before .before .before .before .before .numbering .ensures, e) at (l .inv .7)) (c .before .before .outputs .ensures) _ refl
+    idle-stored (a .head) (a .groups .now) (a .f .resource) (a .list .now) (a .f .groups) (a .f .lo) (a .f .hi) (a .v) (ground-groups (p .0) (p .1 .0 .1)) (rw (c .before .before .before .before .before .before .before .numbering .ensures, e) at (l .inv .7)) (c .before .before .outputs .ensures) _ refl
 
 pub fill-idle-spec : {M : Type 1} → statement M
 fill-idle-spec =

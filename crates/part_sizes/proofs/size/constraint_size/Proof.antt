@@ -4,7 +4,7 @@ use mathlib.Core.Path.{_≡_}
 use native.Mathlib.Omega.{arith}
 use lib.ListN.{length}
 use Rattle.constraint.specs.Answers.{kindOf}
-use Rattle.literals.specs.Filled.{usersAt}
+use Rattle.user_table.specs.Filled.{usersAt}
 use Rattle.literals.specs.Tables.{groupIn}
 use Rattle.list_nodes.specs.Stored.{countedIn}
 use Rattle.part_sizes.specs.Sizable.{sizable-shape, times-fits, times-sized}
@@ -25,7 +25,7 @@ multiply-requires c κs =
     let a = c .before .before .before .before .before .before .before .before .before .args in
     let p = c .before .before .before .before .before .before .before .before .before .pre in
     let k = countedIn (usersAt (a .users .now)) (a .groups .now) (a .head) (kindOf (a .list .now) (a .c .kind)) in
-    let n : c .before .before .before .before .lists .result ≡ length (k .lists) = c .before .before .before .before .lists .ensures .eq (usersAt (a .users .now)) (groupIn (a .groups .now)) (a .list .now) in
+    let n : c .before .before .before .before .lists .result ≡ length (k .lists) = c .before .before .before .before .lists .ensures .eq (usersAt (a .users .now)) (groupIn (a .head .groups) (a .groups .now)) (a .list .now) in
     times-fits (a .c .weight) k (c .before .before .first-size .ensures) (omega (arith, n, p .0 .few))
 
 same-length : tie.Need-same-length
@@ -36,7 +36,7 @@ returns c =
     let a = c .before .before .before .before .before .before .before .before .before .before .args in
     let p = c .before .before .before .before .before .before .before .before .before .before .pre in
     let k = countedIn (usersAt (a .users .now)) (a .groups .now) (a .head) (kindOf (a .list .now) (a .c .kind)) in
-    let n : c .before .before .before .before .before .lists .result ≡ length (k .lists) = c .before .before .before .before .before .lists .ensures .eq (usersAt (a .users .now)) (groupIn (a .groups .now)) (a .list .now) in
+    let n : c .before .before .before .before .before .lists .result ≡ length (k .lists) = c .before .before .before .before .before .lists .ensures .eq (usersAt (a .users .now)) (groupIn (a .head .groups) (a .groups .now)) (a .list .now) in
     times-sized (a .c .weight) k (c .before .before .before .first-size .ensures) (omega (arith, n, p .0 .few)) (sizable-shape (p .0)) n (omega (arith, n, p .0 .some)) (c .multiply .ensures)
 
 pub constraint-size-spec : {M : Type 1} → statement M

@@ -3,6 +3,7 @@ use borrow.Author.Needs.{needs}
 use native.Mathlib.Omega.{arith}
 use Rattle.sizing.specs.Sums.{within-more}
 use Rattle.sizing.specs.Limits.{listed-within}
+use Rattle.part_sizes.specs.Listed.{filledSize}
 use Rattle.part_sizes.proofs.size.filled_size.Statement.{statement}
 use Rattle.part_sizes.proofs.size.filled_size.Tie as tie
 
@@ -29,9 +30,10 @@ list-size-requires c κs = search needs
 
 plus-requires : tie.Need-plus-requires
 plus-requires c κs =
+    let a = c .before .before .before .before .before .before .before .args in
     let m = c .before .before .before .before .before .before .before .pre in
     rw (c .before .before .before .before .nodes-size .ensures, c .list-size .ensures)
-    (within-more (omega arith)
+    (within-more {a = filledSize (a .weight) (a .b) (a .f)} (omega arith)
     (listed-within _ _ _ _ _ _ _ (m .short) (m .reached) (m .weight) (omega (arith, m .nodes, m .ahead, m .room)) (omega (arith, m .ahead, m .room))))
 
 returns : tie.Need-returns

@@ -3,7 +3,7 @@ use borrow.Author.Needs.{needs}
 use mathlib.Core.Path.{_∙_}
 use native.Mathlib.Omega.{arith}
 use Rattle.constraint.specs.Answers.{kindOf}
-use Rattle.literals.specs.Filled.{usersAt}
+use Rattle.user_table.specs.Filled.{usersAt}
 use Rattle.list_nodes.specs.Stored.{listIn}
 use Rattle.part_sizes.specs.Listed.{stored-told, measurable, filled-sized}
 use Rattle.part_sizes.specs.Sizable.{sizable-bounds, sizable-ordered, sizable-short, sizable-small}

@@ -1,7 +1,7 @@
 -- `plain_lists::clash::fill_clash` meets its contract.
 use mathlib.Core.List.{[]}
 use Rattle.plain_lists.specs.Plain.{clash-plain}
-use Rattle.literals.specs.Filled.{usersAt, part-room, part-holds, part-within}
+use Rattle.user_table.specs.Filled.{usersAt, part-room, part-holds, part-within}
 use native.Mathlib.Omega.{arith}
 use borrow.Author.Needs.{needs}
 use Rattle.plain_lists.proofs.clash.fill_clash.Statement.{statement}

@@ -2,6 +2,7 @@
 use Rattle.plain_lists.specs.Plain.{preferred-plain}
 use Rattle.list_nodes.specs.Ground.{ground-event, ground-group, ground-ascends}
 use native.Mathlib.Omega.{arith}
+use Rattle.list_nodes.proofs.GroupRows.{known-row}
 use borrow.Author.Needs.{needs}
 use Rattle.plain_lists.proofs.preferred.fill_preferred.Statement.{statement}
 use Rattle.plain_lists.proofs.preferred.fill_preferred.Tie as tie
@@ -20,7 +21,8 @@ same-length c = search needs
 returns : tie.Need-returns
 returns c =
     let a = c .before .before .before .before .before .before .before .args in
-    rw (c .plain .ensures) (preferred-plain (a .head) (a .groups .now) (a .f .event) (a .f .group) (c .before .before .before .y-outside .ensures))
+    let e = known-row (a .groups .now) (a .head) (a .f .group) (c .before .before .before .before .before .before .before .pre .1 .0 .1) in
+    rw (c .plain .ensures) (preferred-plain (a .head) (a .groups .now) (a .f .event) (a .f .group) (rw e (c .before .before .before .y-outside .ensures)))
 
 pub fill-preferred-spec : {M : Type 1} → statement M
 fill-preferred-spec = tie.close (tie.spec y-outside-requires plain-requires same-length returns)

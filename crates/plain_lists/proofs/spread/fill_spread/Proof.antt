@@ -4,6 +4,7 @@ use Rattle.list_nodes.specs.Ground.{ground-sizes, ground-group, ground-events, 
 use Rattle.literals.specs.Variables.{starts-block}
 use Rattle.number.specs.Lists.{leading-take}
 use native.Mathlib.Omega.{arith}
+use Rattle.list_nodes.proofs.GroupRows.{known-row}
 use borrow.Author.Needs.{needs}
 use Rattle.plain_lists.proofs.spread.fill_spread.Statement.{statement}
 use Rattle.plain_lists.proofs.spread.fill_spread.Tie as tie
@@ -33,8 +34,9 @@ returns c =
     let p = c .before .before .before .before .before .before .before .before .before .before .pre in
     let e = events-room (p .0) (a .list .now) (a .f .events) (p .1 .1 .0) (p .1 .0 .0) in
     let k = leading-take (a .f .events) (a .list .now) e in
+    let g = known-row (a .groups .now) (a .head) (a .f .group) (p .1 .0 .1) in
     rw (c .plain .ensures)
-    (spread-plain (a .head) (a .groups .now) _ (a .f .group) (a .f .lo) (a .f .hi) (rw k (rw (c .before .before .before .before .before .before .numbering .ensures) at (c .before .before .before .s-spread .ensures))))
+    (spread-plain (a .head) (a .groups .now) _ (a .f .group) (a .f .lo) (a .f .hi) (rw (g, k) (rw (c .before .before .before .before .before .before .numbering .ensures) at (c .before .before .before .s-spread .ensures))))
 
 pub fill-spread-spec : {M : Type 1} → statement M
 fill-spread-spec =
