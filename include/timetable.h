@@ -173,14 +173,15 @@ uint32_t timetable_decode(const uint8_t *file, size_t file_length,
                           uint64_t *objective, uint64_t *value);
 
 /*
- * A row of timetable_check's directory of clauses: the clause's id, where its
- * first word stands, its length, and 1 as long as it is live.
+ * A row of timetable_check's directory of clauses, 16 bytes: the clause's id,
+ * where its first word stands in a block of 2^32 words, its length, and whether
+ * it is live: 0 if it is not, else 1 and the number of that block, from 0 on.
  */
 struct timetable_row {
-    size_t id;
-    size_t first;
-    size_t length;
-    size_t live;
+    uint32_t id;
+    uint32_t first;
+    uint32_t length;
+    uint32_t live;
 };
 
 /*

@@ -11,7 +11,7 @@ use Rattle.scope.specs.declared.CheckAnswer.{CheckAnswer}
 use Rattle.directory.specs.declared.Row.{Row}
 use Rattle.marks.specs.Marks.{marks-cleared}
 use Rattle.directory.specs.Directory.{rowsOf}
-use Rattle.directory.specs.Marked.{Built}
+use Rattle.building.specs.Marked.{Built}
 use Rattle.run.specs.Run.{Driven}
 use Rattle.run_meaning.specs.Meaning.{check-means}
 use Rattle.claims.specs.declared.claim.Claim.{Claim}
@@ -64,7 +64,8 @@ module _ (file : List ℕ) (c : Claim) (s ws : List ℕ) (cap : ℕ) (ms : List 
       let bytes : length ms ≡ b = ap length cleared ∙ length-replicate b 0 in
       let d : Driven s last (length (q .lent)) (q .count) (words (p .clauses)) (rowsOf (q .rows)) (q .words) ms r (q .rows-left) (q .words-left) (q .marks-left) =
       rw (q .room) (rw (p .size) at (q .driven)) in
-      let e = check-means s last (q .count) (q .lent) (q .rows) ws (q .words) ms r (p .clauses) (p .rest) (p .plain) (p .good)
+      let e = check-means s last (q .count) (q .lent) (q .rows) ws (q .words) ms r (p .clauses) (p .rest) (p .plain) (p .good) (p .narrow)
+      (omega (arith, p .few)) (omega (arith, p .short))
       (p .marked) (omega (arith, p .rows-fit, q .room)) (omega (arith, p .bytes-fit)) (rw cleared (marks-cleared b)) (rw (p .size) at (q .built)) d in
       rw (long, q .room) at e ∙ sym (p .answer s)
 

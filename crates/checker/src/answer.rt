@@ -1,9 +1,9 @@
 // The check of a proof, with lent stores.
+use building::build_directory;
 use claims::claim::Claim;
 use claims::prepare::Ready;
 use claims::prepare::prepare;
 use directory::Row;
-use directory::build_directory;
 use directory::clear_rows;
 use marks::clear_bytes;
 use run::drive::drive;

@@ -23,8 +23,8 @@ use Rattle.sizing.specs.Whole.{stored}
 use Rattle.sizes.specs.Measured.{sizedOf, size-then, boundedOf, bound-then, SizedBy, BoundedBy, RefusedBy}
 use Rattle.sink.specs.Run.{Ran, out, put}
 use Rattle.holding.specs.Holding.{Good}
-use Rattle.holding.specs.Built.{Each}
-use Rattle.directory.specs.Marked.{mark, Plain}
+use Rattle.holding.specs.Built.{Each, Narrow}
+use Rattle.building.specs.Marked.{mark, Plain}
 use Rattle.run_meaning.specs.Meaning.{limits}
 use Rattle.claims.specs.declared.claim.Claim.{Claim}
 use Rattle.claims.specs.declared.prepare.Ready.{Ready}
@@ -45,6 +45,9 @@ pub record FormulaIn (s : List ℕ) (c : Claim) (l : Lent) (ws : List ℕ) (used
   pub size : used ≡ words clauses
   pub plain : Plain clauses
   pub good : Each (Good last) clauses
+  pub narrow : Narrow clauses
+  pub few : last ≤ 8000000
+  pub short : l .words ≤ 9223372036854775807
   pub rows-fit : length clauses ≤ l .rows
   pub bytes-fit : last ≤ l .bytes
   pub answer : (proof : List ℕ) → asked s c l proof ≡ plainRun (limits last (l .words) (l .rows)) clauses proof
@@ -103,6 +106,9 @@ module _ (s : List ℕ) (c : Claim) (l : Lent) (last : ℕ) (f : List (List ℕ)
         size = ap (λ x. x .words) size;
         plain = g .plain;
         good = rw size (g .good);
+        narrow = g .narrow;
+        few = rw size (g .few);
+        short = omega arith;
         rows-fit = rw size at (leb-true (w .clauses) (l .rows) (u .1));
         bytes-fit = leb-true (w .variables) (l .bytes) (t .1);
         answer = λ proof. answer proof ∙ rw (fits-same, e, size);

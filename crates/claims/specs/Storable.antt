@@ -1,16 +1,19 @@
--- A formula, without and with its tail, can stand in the checker's stores: no clause is empty, and every literal is one of its variables.
+-- A formula, without and with its tail, can stand in the checker's stores: no clause is empty, every literal is one of its variables,
+-- and rows can say where its clauses stand.
 use mathlib.Core.List.{List, [], _∷_}
-use Prim.Native.Nat.{ℕ, _+_, _≤_}
+use Prim.Native.Nat.{ℕ, suc, _+_, _≤_}
 use native.Mathlib.Omega.{arith}
+use lib.ListN.{length}
 use Rattle.laws.specs.Lists as lists
 use Rattle.scope.specs.Instance.{Instance}
-use Rattle.scope.specs.Formula.{variables, hardOf, boundedVariables, boundedHard}
+use Rattle.scope.specs.Formula.{words, variables, hardOf, boundedVariables, boundedHard}
 use Rattle.theory.specs.Accepted.{ValidInstance}
 use Rattle.theory.specs.Order.{Proper}
 use Rattle.theory.specs.Literals.{formula-literals, bounded-literals}
 use Rattle.holding.specs.Holding.{All, Good}
-use Rattle.holding.specs.Built.{Each}
-use Rattle.directory.specs.Marked.{Small, Plain}
+use Rattle.holding.specs.Built.{Each, Narrow}
+use Rattle.formula_words.proofs.Words.{hard-words, bounded-words}
+use Rattle.building.specs.Marked.{Small, Plain}
 use Rattle.claims.specs.NonEmpty.{NonEmpty, formula-nonempty, bounded-nonempty}
 
 -- of variables before m, which is at most 2 ^ 30
@@ -41,15 +44,30 @@ module _ (last : ℕ) where
 pub record Storable (last : ℕ) (f : List (List ℕ)) : Type 0 where
   pub plain : Plain f
   pub good : Each (Good last) f
+  pub narrow : Narrow f
+  pub few : last ≤ 8000000
 
-storable : (last : ℕ) (f : List (List ℕ)) → last ≤ 8000000 → lists.All NonEmpty f → lists.All (lists.All (Proper (last + 1))) f
-    → Storable last f
-storable last f h n a = record { plain = plain (last + 1) (omega arith) f n a; good = each-good last f a }
+-- no more clauses than words
+clauses-few : (f : List (List ℕ)) → lists.All NonEmpty f → length f ≤ words f
+unfolding words
+clauses-few [] n = omega arith
+clauses-few ([] ∷ f) n = absurd (n .0)
+clauses-few ((l ∷ ls) ∷ f) n = omega (arith, clauses-few f (n .1))
+
+storable : (last : ℕ) (f : List (List ℕ)) → last ≤ 8000000 → words f ≤ 4294967295 → lists.All NonEmpty f
+    → lists.All (lists.All (Proper (last + 1))) f → Storable last f
+storable last f h k n a =
+    record {
+      plain = plain (last + 1) (omega arith) f n a;
+      good = each-good last f a;
+      narrow = record { few-clauses = omega (arith, clauses-few f n); few-words = k };
+      few = h;
+    }
 
 -- the formula of an accepted instance, without and with the tail for a bound
 module _ (i : Instance) (v : ValidInstance i) where
   pub hard-storable : variables i ≤ 8000000 → Storable (variables i) (hardOf i)
-  hard-storable h = storable (variables i) (hardOf i) h (formula-nonempty i) (formula-literals i v)
+  hard-storable h = storable (variables i) (hardOf i) h (hard-words i v h) (formula-nonempty i) (formula-literals i v)
 
   pub bounded-storable : (B : ℕ) → boundedVariables i B ≤ 8000000 → Storable (boundedVariables i B) (boundedHard i B)
-  bounded-storable B h = storable (boundedVariables i B) (boundedHard i B) h (bounded-nonempty i B) (bounded-literals i v B)
+  bounded-storable B h = storable (boundedVariables i B) (boundedHard i B) h (bounded-words i v B h) (bounded-nonempty i B) (bounded-literals i v B)

@@ -38,14 +38,14 @@ module _ {M : Type 1} {𝓤 : URA M} {H : Heap 𝓤} {A : Atoms 𝓤} where
   module _ {K : Type 0} {W : Given 𝓤 H A} {Γ : List (Item 𝓤)} {G : Goal 𝓤 H} where
     pub row-out : K → (q : Share) (ys : List Row) (i b o : ℕ) → i < length ys
         → (IsRow (getD ys i noRow) (R′.lowered (getD ys i noRow))
-        → Seq K W (‵ (cellAt q (R.the-row .mir) (R′.lowered (getD ys i noRow) ∷ []) b (place 32 o i)) ∷ ‵ (R.the-row .own (getD ys i noRow) (R′.lowered (getD ys i noRow) ∷ [])) ∷ ‵ (others (shares R.the-row) q ys i b o) ∷ Γ) G)
+        → Seq K W (‵ (cellAt q (R.the-row .mir) (R′.lowered (getD ys i noRow) ∷ []) b (place 16 o i)) ∷ ‵ (R.the-row .own (getD ys i noRow) (R′.lowered (getD ys i noRow) ∷ [])) ∷ ‵ (others (shares R.the-row) q ys i b o) ∷ Γ) G)
         → Seq K W (‵ (row R.the-row q ys b o) ∷ Γ) G
     row-out t q ys i b o h k =
         elem-out t R.the-row (Is R.the-row) (shows 𝓤 H A R.the-row) (LL.vals R.the-type R′.the-laws) (LL.tells R.the-type R′.the-laws) q ys i noRow b o h k
 
     pub row-in : K → (ys : List Row) (i : ℕ) (y : Row) (b o : ℕ) → i < length ys → IsRow y (R′.lowered y)
         → Step K W (‵ (row R.the-row fullShare (set ys i y) b o) ∷ Γ) G
-        (‵ (cellAt fullShare (R.the-row .mir) (R′.lowered y ∷ []) b (place 32 o i)) ∷ ‵ (R.the-row .own (getD ys i noRow) (R′.lowered (getD ys i noRow) ∷ [])) ∷ ‵ (others (shares R.the-row) fullShare ys i b o) ∷ Γ) G
+        (‵ (cellAt fullShare (R.the-row .mir) (R′.lowered y ∷ []) b (place 16 o i)) ∷ ‵ (R.the-row .own (getD ys i noRow) (R′.lowered (getD ys i noRow) ∷ [])) ∷ ‵ (others (shares R.the-row) fullShare ys i b o) ∷ Γ) G
     row-in t ys i y b o h is =
         step (λ s. move t (1 ∷ []) $ drop t $ owned t R.the-row (Is R.the-row) ((LL.makes R.the-type R′.the-plain) 𝓤 H A) y (R′.lowered y ∷ []) is $
         move t (1 ∷ 0 ∷ []) $

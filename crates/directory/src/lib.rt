@@ -1,21 +1,34 @@
 // The directory: a row for each clause, in ascending order of their ids. No other function but the loop that drives a check
 // takes the directory, and no other crate knows what stands in a row.
 ghost use mathlib.Core.Path.{_≡_};
-ghost use mathlib.Core.List.{_++_};
-ghost use Prim.Native.Nat.{_+_, _≤_, _<_, min};
-ghost use lib.ListN.{length, set, take, drop, replicate};
-ghost use lib.Seq.{slice, sets};
+ghost use Prim.Native.Nat.{_%_};
+ghost use lib.ListN.{length, set, replicate};
 ghost use Rattle.directory.specs.Rows.{noRow, newRow, firstWord, isDead};
 ghost use Rattle.directory.specs.Directory.{withDead};
-ghost use Rattle.directory.specs.Marked.{flat, parted, firstClause, rowsFor, rowBetween};
 
-// A clause's id, its first word, its length, and 1 as long as it is live.
+// A clause's id, its first word within a block of 2^32 words, its length, and 0 if it is dead, else 1 and the number of that block.
 #[repr(C)]
 pub struct Row {
-    pub id: usize,
-    pub first: usize,
-    pub len: usize,
-    pub live: usize,
+    pub id: u32,
+    pub first: u32,
+    pub len: u32,
+    pub live: u32,
+}
+
+// A block of words that a row's first counts in.
+const BLOCK: usize = 4294967296;
+
+// The lower half of a number.
+fn low(x: usize) -> u32
+    ensures { λ r. ⌜ r ≡ x % 4294967296 ⌝ }
+{
+    (x % BLOCK) as u32
+}
+
+fn wide(x: u32) -> usize
+    ensures { λ r. ⌜ r ≡ x ⌝ }
+{
+    x as usize
 }
 
 // A row of a clause that is live.
@@ -23,10 +36,10 @@ pub fn new_row(id: usize, first: usize, len: usize) -> Row
     ensures { λ r. ⌜ r ≡ newRow id first len ⌝ }
 {
     Row {
-        id,
-        first,
-        len,
-        live: 1,
+        id: low(id),
+        first: low(first),
+        len: low(len),
+        live: low(1 + first / BLOCK),
     }
 }
 
@@ -46,21 +59,24 @@ pub fn no_row() -> Row
 pub fn id_of(row: Row) -> usize
     ensures { λ r. ⌜ r ≡ row .id ⌝ }
 {
-    row.id
+    wide(row.id)
 }
 
 // The first word of a row's clause.
 pub fn first_word(row: Row) -> usize
     ensures { λ r. ⌜ r ≡ firstWord row ⌝ }
 {
-    row.first
+    if row.live == 0 {
+        return wide(row.first);
+    }
+    (wide(row.live) - 1) * BLOCK + wide(row.first)
 }
 
 // How many words it has.
 pub fn word_count(row: Row) -> usize
     ensures { λ r. ⌜ r ≡ row .len ⌝ }
 {
-    row.len
+    wide(row.len)
 }
 
 // Whether it was deleted, or there is none.
@@ -68,15 +84,6 @@ pub fn is_dead(row: Row) -> bool
     ensures { λ r. ⌜ r ≡ isDead row ⌝ }
 {
     row.live == 0
-}
-
-fn least(a: usize, b: usize) -> usize
-    ensures { λ r. ⌜ r ≡ min a b ⌝ }
-{
-    if a <= b {
-        return a;
-    }
-    b
 }
 
 // The row i is no longer live.
@@ -97,52 +104,6 @@ pub fn append(rows: &mut [Row], n: usize, row: Row)
         return;
     }
     rows[n] = row;
-}
-
-// The words from first on are passed up to one that is marked by 2^31, whose mark is taken off. Where what follows it stands.
-fn unmark(words: &mut [u32], first: usize, end: usize) -> usize
-    requires { ⌜ (first ≤ end) × (end ≤ length (now words)) ⌝ }
-    ensures { λ r. ⌜ r ≡ first + length (firstClause (slice first end (now (words .entry)))) ⌝ }
-    ensures { λ r. ⌜ now (words .exit) ≡ take first (now (words .entry)) ++ (firstClause (slice first end (now (words .entry))) ++ drop r (now (words .entry))) ⌝ }
-{
-    let mut i = first;
-    while i < end {
-        let w = words[i];
-        let next = i + 1;
-        if 2147483648 <= w {
-            words[i] = w - 2147483648;
-            return next;
-        }
-        i = next;
-    }
-    end
-}
-
-// The row of the clause that comes after n others, in the words from first to next.
-fn row_between(n: usize, first: usize, next: usize) -> Row
-    requires { ⌜ (n ≤ first) × (first < next) ⌝ }
-    ensures { λ r. ⌜ r ≡ rowBetween n first next ⌝ }
-{
-    new_row(n + 1, first, next - first)
-}
-
-// The rows of the clauses in the first total words, where each clause's last word is marked by 2^31; the words are then as
-// they were before they were marked. The clauses have the ids 1, 2, .. in turn. How many they are.
-pub fn build_directory(words: &mut [u32], rows: &mut [Row], total: usize) -> usize
-    ensures { λ r. ⌜ r ≡ length (parted (take total (now (words .entry)))) ⌝ }
-    ensures { λ _. ⌜ now (words .exit) ≡ flat (parted (take total (now (words .entry)))) ++ drop total (now (words .entry)) ⌝ }
-    ensures { λ _. ⌜ now (rows .exit) ≡ sets (now (rows .entry)) 0 (rowsFor 1 0 (parted (take total (now (words .entry))))) ⌝ }
-{
-    let end = least(total, words.len());
-    let mut n = 0;
-    let mut first = 0;
-    while first < end {
-        let next = unmark(words, first, end);
-        append(rows, n, row_between(n, first, next));
-        n += 1;
-        first = next;
-    }
-    n
 }
 
 // Every row is 0.

@@ -8,16 +8,17 @@ use native.Mathlib.Omega.{arith}
 use lib.Dec.{ltb}
 use lib.ListN.{length, getD, getElem?, set, take, drop, length-append, length-set, List·getD-append}
 use lib.Seq.{sets, take-at, drop-at, drop-append-add, getD-set-same, getD-set-other}
-use borrow.Author.Tests.{ltb-true, ltb-false, le-leb, lt-leb}
+use borrow.Author.Tests.{ne-eqb, ltb-true, ltb-false, le-leb, lt-leb}
 use Rattle.scope.specs.Formula.{words}
 use Rattle.scope.specs.PlainRun.{byId}
 use Rattle.directory.specs.declared.Row.{Row}
 use Rattle.standing.specs.Clauses.{part}
 use Rattle.directory.specs.Rows.{noRow, newRow, Rising}
+use Rattle.directory.proofs.Exact.{Exact, row-exact}
 use Rattle.directory.specs.Directory.{rowsOf}
 use Rattle.holding.specs.Live.{liveRows, row-found, row-missing}
 use Rattle.holding.specs.Holding.{All, all-at, Good, Holding}
-use Rattle.directory.specs.Marked.{mark, Small, Plain, length-marks, flat, parted, rowsFor, length-rows, length-flat, RowsAre, BuiltFor, Built}
+use Rattle.building.specs.Marked.{mark, Small, Plain, length-marks, flat, parted, rowsFor, length-rows, length-flat, RowsAre, BuiltFor, Built}
 
 -- P of every literal of some clauses
 abbrev pub Each : (ℕ → Type 0) → List (List ℕ) → Type 0
@@ -115,16 +116,28 @@ built-for {ws} {ys = ys} f rest b p e h =
       count = b .count ∙ rw t;
     }
 
--- of a directory with room for the formula, whose literals are good
-module _ (f : List (List ℕ)) (rest ws : List ℕ) (R : ℕ → Row) (n : ℕ) (b : BuiltFor f rest ws R n) where
+-- a formula whose rows are exact
+pub record Narrow (f : List (List ℕ)) : Type 0 where
+  pub few-clauses : length f ≤ 4294967295
+  pub few-words : words f ≤ 4294967295
+
+-- of a directory with room for such a formula, whose literals are good
+module _ (f : List (List ℕ)) (rest ws : List ℕ) (R : ℕ → Row) (n : ℕ) (b : BuiltFor f rest ws R n) (few : Narrow f) where
   the-row : (i : ℕ) → i < length f → R i ≡ newRow (1 + i) (wordsBefore f i) (length (clauseAt f i))
   the-row i l =
       let e : 0 + i ≡ i = omega arith in
       let g : 0 + wordsBefore f i ≡ wordsBefore f i = omega arith in
       rw (e, g) at (row-at R 0 1 0 f (b .rows) i l)
 
+  exact : (i : ℕ) → i < length f → Exact (1 + i) (wordsBefore f i) (length (clauseAt f i)) (R i)
+  exact i l =
+      let inside = words-within f i l in
+      rw (the-row i l)
+      (row-exact (1 + i) (wordsBefore f i) (length (clauseAt f i)) (omega (arith, few .few-clauses)) (omega (arith, few .few-words))
+      (omega (arith, few .few-words)))
+
   the-id : (i : ℕ) → i < length f → R i .id ≡ 1 + i
-  the-id i l = ap (λ r. r .id) (the-row i l)
+  the-id i l = exact i l .named
 
   rows-rise : Rising R (length f)
   rows-rise = record { up = λ i j l h. rw (the-id i (omega arith), the-id j h) (omega arith) }
@@ -134,7 +147,7 @@ module _ (f : List (List ℕ)) (rest ws : List ℕ) (R : ℕ → Row) (n : ℕ) 
       record {
         rising = rows-rise;
         below = λ i l. rw (the-id i l) (omega arith);
-        within = λ i l. rw (the-row i l) (words-within f i l);
+        within = λ i l. rw (exact i l .begins, exact i l .long) (words-within f i l);
         good = λ k l. rw (b .unmarked, List·getD-append (flat f) rest 0 k (rw (length-flat f) l))
             (all-at (Good last) (flat f) (all-flat (Good last) f good) k (rw (length-flat f) l));
         room = rw (b .unmarked, length-append, length-flat f) (omega arith);
@@ -152,7 +165,7 @@ module _ (f : List (List ℕ)) (rest ws : List ℕ) (R : ℕ → Row) (n : ℕ) 
       by i true t =
           let l = ltb-true i (length f) t in
           row-found R ws (length f) i (suc i) rows-rise l (the-id i l ∙ omega arith)
-          ∙ rw (the-row i l, b .unmarked, part-flat f rest i l, elem-at f i l)
+          ∙ rw (ne-eqb (R i .live) 0 (exact i l .alive), exact i l .begins, exact i l .long, b .unmarked, part-flat f rest i l, elem-at f i l)
       by i false t = let l = ltb-false i (length f) t in none-there i l ∙ sym (elem-past f i l)
 
       go : (j : ℕ) → liveRows R ws (length f) j ≡ byId f j

@@ -8,7 +8,7 @@ use native.Mathlib.Omega.{arith}
 use lib.Dec.{eqb, ltb}
 use lib.ListN.{length, getD, set, take, drop, List·getD-append}
 use lib.Seq.{sets, sets-eq, length-sets, length-take-le, drop-cons, take-at, drop-at, take-set-le, getD-set-other, getD-append-add}
-use borrow.Author.Tests.{eqb-true, eqb-false, ltb-true, ltb-false}
+use borrow.Author.Tests.{ne-eqb, eqb-true, eqb-false, ltb-true, ltb-false}
 use Rattle.theory.specs.Marked as steps
 use Rattle.scope.specs.Steps.{put}
 use Rattle.theory.specs.Marked.{Marks, Standing, alsoOpen, alsoLiteral, standing}
@@ -16,6 +16,7 @@ use Rattle.directory.specs.declared.Row.{Row}
 use Rattle.lookup.specs.declared.Probe.{Probe}
 use Rattle.standing.specs.Clauses.{part, drop-take}
 use Rattle.directory.specs.Rows.{firstWord, rowClause, dying, Rising}
+use Rattle.directory.proofs.Exact.{Exact, dying-begins}
 use Rattle.lookup.specs.Lookup.{Found, hit, miss}
 use Rattle.holding.specs.Live.{liveRows, rising-append, rising-dead, live-append, row-missing, same-id}
 
@@ -118,13 +119,14 @@ put-elim P R i k x f g = go (eqb k i) refl
 
 -- a clause is kept
 module _ (last cap : ℕ) (R : ℕ → Row) (ws : List ℕ) (n used highest : ℕ) (b : Holding last cap R ws n used highest) where
-  module _ (row : Row) (ls : List ℕ) (fresh : highest < row .id) (at : firstWord row ≡ used) (size : row .len ≡ length ls) where
-    kept-below : (i : ℕ) → i < suc n → put R n row i .id ≤ row .id
-    kept-below i h = put-elim (λ r. r .id ≤ row .id) R n i row (λ e. omega arith) (λ d. omega (arith, b .below i (omega arith)))
+  module _ (row : Row) (id : ℕ) (ls : List ℕ) (fresh : highest < id) (x : Exact id used (length ls) row) where
+    kept-below : (i : ℕ) → i < suc n → put R n row i .id ≤ id
+    kept-below i h =
+        put-elim (λ r. r .id ≤ id) R n i row (λ e. omega (arith, x .named)) (λ d. omega (arith, b .below i (omega arith)))
 
     kept-within : (i : ℕ) → i < suc n → firstWord (put R n row i) + put R n row i .len ≤ used + length ls
     kept-within i h =
-        put-elim (λ r. firstWord r + r .len ≤ used + length ls) R n i row (λ e. omega arith)
+        put-elim (λ r. firstWord r + r .len ≤ used + length ls) R n i row (λ e. omega (arith, x .begins, x .long))
         (λ d. omega (arith, b .within i (omega arith)))
 
     module _ (fits : used + length ls ≤ length ws) (free : n < cap) (good : All (Good last) ls) where
@@ -139,10 +141,10 @@ module _ (last cap : ℕ) (R : ℕ → Row) (ws : List ℕ) (n used highest : �
               let w = word-stored ws used ls fits (k - used) (omega arith) in
               rw (ap (λ i. getD (sets ws used ls) i 0) e ∙ w) (all-at (Good last) ls good (k - used) (omega arith))
 
-      pub holding-kept : Holding last cap (put R n row) (sets ws used ls) (suc n) (used + length ls) (row .id)
+      pub holding-kept : Holding last cap (put R n row) (sets ws used ls) (suc n) (used + length ls) id
       holding-kept =
           record {
-            rising = rising-append R n row (b .rising) (λ i h. omega (arith, b .below i h));
+            rising = rising-append R n row (b .rising) (λ i h. omega (arith, b .below i h, x .named));
             below = kept-below;
             within = kept-within;
             good = kept-good;
@@ -150,10 +152,11 @@ module _ (last cap : ℕ) (R : ℕ → Row) (ws : List ℕ) (n used highest : �
             fit = omega arith;
           }
 
-      pub live-kept : row .live ≡ 1 → liveRows (put R n row) (sets ws used ls) (suc n) ≡ put (liveRows R ws n) (row .id) (some ls)
-      live-kept e =
+      pub live-kept : liveRows (put R n row) (sets ws used ls) (suc n) ≡ put (liveRows R ws n) id (some ls)
+      live-kept =
           live-append R n row ws (sets ws used ls) ls (λ i h. part-before ws used ls (firstWord (R i)) (R i .len) (b .within i h))
-          (rw (e, at, size, part-stored ws used ls fits))
+          (rw (ne-eqb (row .live) 0 (x .alive), x .begins, x .long, part-stored ws used ls fits))
+          ∙ ap (λ k. put (liveRows R ws n) k (some ls)) (x .named)
 
   -- an id above the highest names no clause
   pub id-free : (id : ℕ) → highest < id → liveRows R ws n id ≡ none
@@ -165,7 +168,7 @@ module _ (last cap : ℕ) (R : ℕ → Row) (ws : List ℕ) (n used highest : �
       record {
         rising = rising-dead R i n (b .rising);
         below = λ k h. rw (same-id R i k) (b .below k h);
-        within = λ k h. put-elim (λ r. firstWord r + r .len ≤ used) R i k (dying (R i)) (λ e. rw (← e) (b .within k h))
+        within = λ k h. put-elim (λ r. firstWord r + r .len ≤ used) R i k (dying (R i)) (λ e. omega (arith, dying-begins (R i), rw e at (b .within k h)))
             (λ d. b .within k h);
         good = b .good;
         room = b .room;

@@ -60,6 +60,7 @@ pub record AddsAt (x : steps.StepRead) (s : List ℕ) (highest last : ℕ) (ms�
   pub literals-stand : Listed s (c .literals) literals (c .hints)
   pub hints-stand : Listed s (c .hints) hints next
   pub size : length literals ≡ c .size
+  pub small : c .id ≤ 4294967295
   pub marks : marksOf ms′ ≡ allFalse allOpen literals
 
 -- it deletes ids

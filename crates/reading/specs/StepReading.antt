@@ -13,6 +13,7 @@ use Rattle.theory.specs.StepTokens as steps
 use Rattle.scope.specs.Steps.{Step, add}
 use Rattle.theory.specs.StepTokens.{Tokens, stop, bad, upTo0, numbers, StepRead, read, misread, readHints, readLiterals, readAdd, readDelete, readStep}
 use Rattle.theory.specs.Marked.{allFalse, literalsOk, wellFormed}
+use Rattle.number.specs.Laws.{number-got}
 use Rattle.marks.specs.Marks.{marksOf}
 use Rattle.laws.specs.Booleans.{impossible}
 use Rattle.theory.specs.Tokens.{tokens-got, tokens-bad, tokens-stop}
@@ -154,6 +155,7 @@ module _ (s : List ℕ) (at highest last : ℕ) (ms : List ℕ) where
               literals-stand = a .stand;
               hints-stand = b .1;
               size = omega (arith, a .count);
+              small = number-got s at e .small;
               marks = a .marks ∙ ap (λ m. allFalse m (a .literals)) (w .1);
             })
 

@@ -62,6 +62,7 @@ pub record Adding (s : List ℕ) (lim : Limits) (tally : Tally) (clause : Clause
   pub hints-at : numbersAt s (clause .hints) ≡ upTo0 hints (step .after)
   pub size : length literals ≡ clause .size
   pub fresh : tally .highest < clause .id
+  pub small : clause .id ≤ 4294967295
   pub good : literalsOk (lim .lastVariable) allOpen literals ≡ true
   pub outside : (v : ℕ) → inHints (liveIn tally R ws) hints v ≡ false → marksOf ms v ≡ allFalse allOpen literals v
 

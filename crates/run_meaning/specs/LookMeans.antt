@@ -115,6 +115,7 @@ module _ (s : List ℕ) (lim : Limits) (A : Answer ℕ) (c : Check) (R : ℕ →
               hints-at = a .hints-at;
               size = a .size;
               fresh = a .fresh;
+              small = a .small;
               good = a .good;
               outside = λ v f. ap (λ m. m v) made-true ∙ rw (ne-eqb v (l / 2) (apart v f)) (a .outside v f);
             }

@@ -22,8 +22,8 @@ use Rattle.directory.specs.Rows.{Dies, rowClause}
 use Rattle.lookup.specs.Lookup.{Found, hit, miss, Finds}
 use Rattle.holding.specs.Live.{held, liveRows, live-found}
 use Rattle.holding.specs.Holding.{Holding, Good, found-good}
-use Rattle.directory.specs.Marked.{mark, Plain, BuiltFor, Built}
-use Rattle.holding.specs.Built.{Each, built-for, built-holding, built-live}
+use Rattle.building.specs.Marked.{mark, Plain, BuiltFor, Built}
+use Rattle.holding.specs.Built.{Each, Narrow, built-for, built-holding, built-live}
 use Rattle.directory.specs.Directory.{rowsOf}
 use Rattle.laws.specs.Booleans.{impossible}
 use Rattle.hints.specs.declared.machine.Phase.{Phase}
@@ -117,11 +117,12 @@ module _ (s : List ℕ) (lim : Limits) (A : Answer ℕ) (c : Check) (R : ℕ
           found (miss i j) = absurd (l (ap (λ x. x .live) i))
       by (idle z) = absurd (omega (arith, ap turnOf e))
 
--- no store is longer than a word of the machine can say
+-- no store is longer than a machine can have, and rows can say how many variables there are
 pub record Short (s : List ℕ) (lim : Limits) : Type 0 where
   pub few-bytes : length s ≤ largest
-  pub few-words : lim .wordsLent ≤ largest
+  pub few-words : lim .wordsLent ≤ 9223372036854775807
   pub few-rows : lim .rowsLent ≤ largest
+  pub few-variables : lim .lastVariable ≤ 4294967295
 
 -- a turn keeps what holds
 module _ (s : List ℕ) (lim : Limits) (A : Answer ℕ) (short : Short s lim) (w v : World)
@@ -170,7 +171,7 @@ module _ (s : List ℕ) (lim : Limits) (A : Answer ℕ) (short : Short s lim) (w
       let d = k .copies (y .adding .literals) (y .adding .middle) (y .adding .literals-at) in
       let l = rw (ms, c, d) at long in
       rw (e, ms, c, a .appends (omega (arith, y .rows-fit)), d)
-      (clause-kept s lim A (w .check) (w .rows) (w .words) (w .marks) (w .trail) (w .machine) y (short .few-rows) (short .few-words) past
+      (clause-kept s lim A (w .check) (w .rows) (w .words) (w .marks) (w .trail) (w .machine) y (short .few-variables) (short .few-rows) (short .few-words) past
       (v .trail) l)
   turn-keeps (judges t c e r ws ms tr) x =
       rw (e, c, r, ws, ms, tr) (clause-judged s lim A (w .check) (w .rows) (w .words) (w .marks) (w .trail) (w .machine .set) (w .machine .at)
@@ -227,11 +228,11 @@ pub record Stands (f : List (List ℕ)) (last cap n used : ℕ) (R : ℕ → Row
 -- a formula of good literals whose directory was built, where the variables are open
 pub built-stands : (f : List (List ℕ)) (rest : List ℕ) (last cap n : ℕ) (R : ℕ → Row) (ws ms : List ℕ) → BuiltFor f rest ws R n
     → Each (Good last) f
-    → length f ≤ cap → last ≤ length ms → marksOf ms ≡ allOpen → Stands f last cap n (words f) R ws ms
-built-stands f rest last cap n R ws ms b good fits marked unmarked =
+    → Narrow f → length f ≤ cap → last ≤ length ms → marksOf ms ≡ allOpen → Stands f last cap n (words f) R ws ms
+built-stands f rest last cap n R ws ms b good few fits marked unmarked =
     record {
-      holding = rw (b .count) (built-holding f rest ws R n b last cap good fits);
-      live = rw (b .count) (built-live f rest ws R n b);
+      holding = rw (b .count) (built-holding f rest ws R n b few last cap good fits);
+      live = rw (b .count) (built-live f rest ws R n b few);
       count = b .count;
       size = refl;
       marked = marked;
@@ -243,13 +244,14 @@ limits last words rows = record { lastVariable = last; wordsLent = words; rowsLe
 
 -- where a formula stands in the stores, a check answers what the plain run does
 pub driven-means : (s : List ℕ) (last cap n used : ℕ) (R : ℕ → Row) (ws ms : List ℕ) (r : CheckAnswer) (f : List (List ℕ)) {R′ : ℕ → Row} {ws′ ms′ : List ℕ}
-    → Driven s last cap n used R ws ms r R′ ws′ ms′ → Stands f last cap n used R ws ms
+    → Driven s last cap n used R ws ms r R′ ws′ ms′ → last ≤ 4294967295 → length ws ≤ 9223372036854775807
+    → Stands f last cap n used R ws ms
     → checkMeans r ≡ plainRun (limits last (length ws) cap) f s
 unfolding plainRun start
-driven-means s last cap n used R ws ms r f d x =
+driven-means s last cap n used R ws ms r f d least short-words x =
     let lim = limits last (length ws) cap in
     let A = plainRun lim f s in
-    let short : Short s lim = record { few-bytes = d .few-bytes; few-words = d .few-words; few-rows = d .few-rows } in
+    let short : Short s lim = record { few-bytes = d .few-bytes; few-words = short-words; few-rows = d .few-rows; few-variables = least } in
     let begins : Invariant s lim A (run.ready n used R ws ms (d .trail)) =
     record {
       base = record { holding = x .holding; lent = refl; marked = x .marked };
@@ -265,10 +267,10 @@ driven-means s last cap n used R ws ms r f d x =
 
 -- the same for a formula that stood in the words with each clause's last word marked, of which the directory was built
 pub check-means : (s : List ℕ) (last n : ℕ) (ys₀ ys : List Row) (ws₀ ws ms : List ℕ) (r : CheckAnswer) (f : List (List ℕ)) (rest : List ℕ) {R′ : ℕ → Row} {ws′ ms′ : List ℕ}
-    → Plain f → Each (Good last) f → ws₀ ≡ flatMap mark f ++ rest → length f ≤ length ys₀ → last ≤ length ms → marksOf ms ≡ allOpen
+    → Plain f → Each (Good last) f → Narrow f → last ≤ 4294967295 → length ws ≤ 9223372036854775807 → ws₀ ≡ flatMap mark f ++ rest → length f ≤ length ys₀ → last ≤ length ms → marksOf ms ≡ allOpen
     → Built ws₀ ws ys₀ ys (words f) n → Driven s last (length ys₀) n (words f) (rowsOf ys) ws ms r R′ ws′ ms′
     → checkMeans r ≡ scope.plainRun (limits last (length ws) (length ys₀)) f s
-check-means s last n ys₀ ys ws₀ ws ms r f rest plain good e fits marked unmarked b d =
-    driven-means s last (length ys₀) n (words f) (rowsOf ys) ws ms r f d
-    (built-stands f rest last (length ys₀) n (rowsOf ys) ws ms (built-for f rest b plain e fits) good fits marked unmarked)
+check-means s last n ys₀ ys ws₀ ws ms r f rest plain good few least short e fits marked unmarked b d =
+    driven-means s last (length ys₀) n (words f) (rowsOf ys) ws ms r f d least short
+    (built-stands f rest last (length ys₀) n (rowsOf ys) ws ms (built-for f rest b plain e fits) good few fits marked unmarked)
     ∙ sym (plain-marked (limits last (length ws) (length ys₀)) f s)

@@ -118,6 +118,7 @@ module _ (s : List ℕ) (lim : Limits) (A : Answer ℕ) (c : Check) (R : ℕ →
             hints-at = a .hints-stand .listed;
             size = a .size;
             fresh = ltb-true (c .tally .highest) (k .id) (formed .0);
+            small = a .small;
             good = formed .1;
             outside = λ v f. ap (λ m. m v) (a .marks);
           }

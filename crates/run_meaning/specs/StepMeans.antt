@@ -23,7 +23,9 @@ use Rattle.directory.specs.declared.Row.{Row}
 use Rattle.marks.specs.Marks.{marksOf}
 use Rattle.standing.specs.Clauses.{part, inClause, wiped, wiped-opens}
 use Rattle.directory.specs.Rows.{dying}
+use Rattle.directory.proofs.Exact.{Exact, row-exact}
 use Rattle.holding.specs.Live.{liveRows, live-dead, put-same, put-other}
+use Rattle.holding.proofs.Distinct.{literals-few}
 use Rattle.holding.specs.Holding.{All, Good, Holding, part-stored, holding-kept, live-kept, id-free, holding-dead}
 use Rattle.laws.specs.Booleans.{impossible, and-true, or-false}
 use Rattle.theory.specs.Tokens.{tokens-stop}
@@ -148,20 +150,6 @@ module _ (s : List ℕ) (lim : Limits) (A : Answer ℕ) (c : Check) (R : ℕ →
     free : c .tally .rows < lim .rowsLent
     free = omega (arith, w .rows-fit)
 
-    kept-holding : Holding (lim .lastVariable) (lim .rowsLent) kept-rows kept-words (suc (c .tally .rows))
-        (c .tally .words + length (w .adding .literals)) (c .clause .id)
-    kept-holding =
-        holding-kept (lim .lastVariable) (lim .rowsLent) R ws (c .tally .rows) (c .tally .words) (c .tally .highest)
-        (w .adding .base .holding)
-        row (w .adding .literals) (w .adding .fresh) refl (sym (w .adding .size)) room free good
-
-    kept-live : liveRows kept-rows kept-words (suc (c .tally .rows))
-        ≡ put (liveIn (c .tally) R ws) (c .clause .id) (some (w .adding .literals))
-    kept-live =
-        live-kept (lim .lastVariable) (lim .rowsLent) R ws (c .tally .rows) (c .tally .words) (c .tally .highest)
-        (w .adding .base .holding)
-        row (w .adding .literals) (w .adding .fresh) refl (sym (w .adding .size)) room free good refl
-
     -- the hints' clauses are as they were
     hint-kept : (h : ℕ) → IsLive (liveIn (c .tally) R ws h)
         → put (liveIn (c .tally) R ws) (c .clause .id) (some (w .adding .literals)) h ≡ liveIn (c .tally) R ws h
@@ -186,8 +174,30 @@ module _ (s : List ℕ) (lim : Limits) (A : Answer ℕ) (c : Check) (R : ℕ →
         sym (hints-same (liveIn (c .tally) R ws) L′ hint-kept (w .adding .hints) v (w .live)) ∙ p .1 in
         w .adding .outside v b ∙ outside-false (w .adding .literals) allOpen v a
 
-    -- the counts do not run over
-    module _ (few-rows : lim .rowsLent ≤ largest) (few-words : lim .wordsLent ≤ largest) where
+    -- the counts do not run over, and the clause's row is exact
+    module _ (few-variables : lim .lastVariable ≤ 4294967295) (few-rows : lim .rowsLent ≤ largest)
+        (few-words : lim .wordsLent ≤ 9223372036854775807) where
+      exact : Exact (c .clause .id) (c .tally .words) (length (w .adding .literals)) row
+      exact =
+          let few = literals-few (lim .lastVariable) (w .adding .literals) (w .adding .good) in
+          rw (w .adding .size)
+          (row-exact (c .clause .id) (c .tally .words) (c .clause .size) (w .adding .small) (omega (arith, w .words-fit))
+          (omega (arith, few, w .adding .size)))
+
+      kept-holding : Holding (lim .lastVariable) (lim .rowsLent) kept-rows kept-words (suc (c .tally .rows))
+          (c .tally .words + length (w .adding .literals)) (c .clause .id)
+      kept-holding =
+          holding-kept (lim .lastVariable) (lim .rowsLent) R ws (c .tally .rows) (c .tally .words) (c .tally .highest)
+          (w .adding .base .holding)
+          row (c .clause .id) (w .adding .literals) (w .adding .fresh) exact room free good
+
+      kept-live : liveRows kept-rows kept-words (suc (c .tally .rows))
+          ≡ put (liveIn (c .tally) R ws) (c .clause .id) (some (w .adding .literals))
+      kept-live =
+          live-kept (lim .lastVariable) (lim .rowsLent) R ws (c .tally .rows) (c .tally .words) (c .tally .highest)
+          (w .adding .base .holding)
+          row (c .clause .id) (w .adding .literals) (w .adding .fresh) exact room free good
+
       kept-count : min (c .tally .rows + 1) largest ≡ suc (c .tally .rows)
       kept-count = omega (arith, w .rows-fit)
 

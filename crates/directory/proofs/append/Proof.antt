@@ -105,7 +105,7 @@ module _ {M : Type 1} (𝓤 : URA M) (H : Heap 𝓤) (A : Atoms 𝓤) (W : Given
         skips ! $ exec ! C Λ (En ls) body.t-4 (atRet (En ls) Post) $
         assigns ! (bin ! (var ! 8 refl) (lit ! tt) (record { fits = omega (arith, room .1) })) (from ! (stop !)) (store ! 4 refl (tt, record { fits = omega (arith, room .1) })) $
         fills ! 0 (bin ! (part ! 10 refl (sub ! 0 refl (whole !))) (var ! 4 refl) tt) refl (tt, tt) $
-        rewrite ! 0 (λ (p : ℕ). ‵ (fat fullShare tyPtr (l ls 6) 0 (vptr b p))) (sym (place-is 32 o i)) refl $ move ! (14 ∷ 15 ∷ []) $
+        rewrite ! 0 (λ (p : ℕ). ‵ (fat fullShare tyPtr (l ls 6) 0 (vptr b p))) (sym (place-is 16 o i)) refl $ move ! (14 ∷ 15 ∷ []) $
         opened R.the-row κ q γ b o ! tt (named 0) ys (λ room.
         row-out ! fullShare ys i b o within (λ was.
         -- [rows[i]; what it owns; the other rows; what is kept of the slice; the locals]

@@ -132,7 +132,7 @@ module _ {M : Type 1} (𝓤 : URA M) (H : Heap 𝓤) (A : Atoms 𝓤) (W : Given
         skips ! $ exec ! C Λ En (rest (rest (rest body.turn-1))) (anyQ (After t)) $
         assigns ! (bin ! (var ! 6 refl) (lit ! tt) (record { fits = omega (arith, room .1) })) (from ! (stop !)) (store ! 4 refl (tt, record { fits = omega (arith, room .1) })) $
         fills ! 0 (bin ! (part ! 10 refl (sub ! 0 refl (whole !))) (var ! 4 refl) tt) refl (tt, tt) $
-        rewrite ! 0 (λ (p : ℕ). ‵ (fat fullShare tyPtr (l ls 6) 0 (vptr b p))) (sym (place-is 32 o (t .i))) refl $ move ! (15 ∷ []) $
+        rewrite ! 0 (λ (p : ℕ). ‵ (fat fullShare tyPtr (l ls 6) 0 (vptr b p))) (sym (place-is 16 o (t .i))) refl $ move ! (15 ∷ []) $
         row-out ! fullShare (t .zs) (t .i) b o (omega (arith, long t)) (λ was.
         -- [rows[i]; what it owns; the other rows; the locals; what is kept of the slice]
         assigns ! (of-opd ! (var ! 11 refl)) (from ! (hop ! (look ! 3 refl) (stop !))) (store-raw ! 0 refl (row-typed W noRow _ no-row-is)) $

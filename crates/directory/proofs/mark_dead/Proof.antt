@@ -75,7 +75,7 @@ module _ {M : Type 1} (𝓤 : URA M) (H : Heap 𝓤) (A : Atoms 𝓤) (W : Given
   abbrev gone : ℕ → Row
   gone k = record { id = getD ys i noRow .id; first = getD ys i noRow .first; len = getD ys i noRow .len; live = k }
 
-  gone-is : (k : ℕ) → k < 2 ^ 64 → IsRow (getD ys i noRow) (R′.lowered (getD ys i noRow)) → IsRow (gone k) (R′.lowered (gone k))
+  gone-is : (k : ℕ) → k < 2 ^ 32 → IsRow (getD ys i noRow) (R′.lowered (getD ys i noRow)) → IsRow (gone k) (R′.lowered (gone k))
   gone-is k fits was =
       let fields = LL.owed R.the-type R′.the-laws (getD ys i noRow) (R′.lowered (getD ys i noRow) ∷ []) was in
       LL.owes R.the-type R′.the-laws (gone k) (fields .0, (fields .1 .0, (fields .1 .1 .0, ((refl, fits), tt))))
@@ -115,7 +115,7 @@ module _ {M : Type 1} (𝓤 : URA M) (H : Heap 𝓤) (A : Atoms 𝓤) (W : Given
         skips ! $ exec ! C Λ (En ls) body.t-4 (atRet (En ls) Post) $
         assigns ! (bin ! (var ! 6 refl) (lit ! tt) (record { fits = omega (arith, room .1) })) (from ! (stop !)) (store ! 4 refl (tt, record { fits = omega (arith, room .1) })) $
         fills ! 0 (bin ! (part ! 8 refl (sub ! 0 refl (whole !))) (var ! 4 refl) tt) refl (tt, tt) $
-        rewrite ! 0 (λ (p : ℕ). ‵ (fat fullShare tyPtr (l ls 5) 0 (vptr b p))) (sym (place-is 32 o i)) refl $ move ! (12 ∷ 13 ∷ []) $
+        rewrite ! 0 (λ (p : ℕ). ‵ (fat fullShare tyPtr (l ls 5) 0 (vptr b p))) (sym (place-is 16 o i)) refl $ move ! (12 ∷ 13 ∷ []) $
         opened R.the-row κ q γ b o ! tt (named 0) ys (λ room.
         row-out ! fullShare ys i b o within (λ was.
         -- [rows[i]; what it owns; the other rows; what is kept of the slice; the locals]

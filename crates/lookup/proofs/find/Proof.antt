@@ -214,7 +214,7 @@ module _ {M : Type 1} (𝓤 : URA M) (H : Heap 𝓤) (A : Atoms 𝓤) (W : Given
         skips ! $ exec ! C Λ En (rest (rest body.turn-1)) (anyQ (After t)) $
         fills ! 4 (bin ! (part ! 14 refl (sub ! 2 refl (whole !))) (lit ! tt) (record { fits = omega (arith, room .1) })) refl (tt, record { fits = omega (arith, room .1) }) $
         fills ! 2 (bin ! (part ! 20 refl (sub ! 0 refl (whole !))) (var ! 4 refl) tt) refl (tt, tt) $
-        rewrite ! 2 (λ (p : ℕ). ‵ (fat fullShare tyPtr (l ls 10) 0 (vptr b p))) (sym (place-is 32 o (t .p .at))) refl $ move ! (25 ∷ 24 ∷ []) $
+        rewrite ! 2 (λ (p : ℕ). ‵ (fat fullShare tyPtr (l ls 10) 0 (vptr b p))) (sym (place-is 16 o (t .p .at))) refl $ move ! (25 ∷ 24 ∷ []) $
         looks-slice ! tt R.the-row (Is R.the-row) (shows 𝓤 H A R.the-row) (LL.vals R.the-type R′.the-laws) (LL.tells R.the-type R′.the-laws) (LL.copy R.the-type R′.the-copy 𝓤 H A W) ys b o (λ q′.
         row-out ! q′ ys (t .p .at) b o within (λ was.
         -- [rows[at]; what it owns; the other rows; what shuts; the shared borrow; the locals]

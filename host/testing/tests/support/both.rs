@@ -411,7 +411,7 @@ mod engine {
 
     impl Element for Row {
         fn draw(random: &mut Random) -> Row {
-            let mut draw = || random.draw() as usize;
+            let mut draw = || random.draw() as u32;
             Row {
                 id: draw(),
                 first: draw(),

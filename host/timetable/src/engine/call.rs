@@ -130,10 +130,10 @@ pub fn decode(file: &[u8], model: &[u8], objective: &mut u64, value: &mut u64) -
 #[repr(C)]
 #[derive(Clone, Copy, Debug, Default, PartialEq, Eq)]
 pub struct Row {
-    pub id: usize,
-    pub first: usize,
-    pub length: usize,
-    pub live: usize,
+    pub id: u32,
+    pub first: u32,
+    pub length: u32,
+    pub live: u32,
 }
 
 /// 0 with the number of steps in `value`, which is the answer "no timetable",

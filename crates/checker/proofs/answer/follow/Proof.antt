@@ -48,15 +48,15 @@ use Rattle.scope.proofs.CheckAnswer as S
 use Rattle.scope.proofs.CheckAnswer.Laws as S′
 use Rattle.directory.specs.declared.Row.{Row}
 use Rattle.directory.specs.Directory.{rowsOf}
-use Rattle.directory.specs.Marked.{flat, parted, rowsFor}
+use Rattle.building.specs.Marked.{flat, parted, rowsFor}
 use Rattle.walks.proofs.Walk.{ty-at, Addrs, addr-at, env-of, laid, rotate, allocs-all, frees-all, var, part, fills}
 use Rattle.walks.proofs.Slices.{at-list, Whole, lent, back}
 use Rattle.walks.proofs.Calls.{uint-same, both-said, and-said, calls-to, calls-to-last}
 use Rattle.directory.proofs.Row as R
-use Rattle.directory.proofs.build_directory as build
-use Rattle.directory.proofs.build_directory.Symbol as build-def
-use Rattle.directory.proofs.build_directory.Symbol.{name as #build}
-use Rattle.directory.proofs.build_directory.Met as build-thm
+use Rattle.building.proofs.build_directory as build
+use Rattle.building.proofs.build_directory.Symbol as build-def
+use Rattle.building.proofs.build_directory.Symbol.{name as #build}
+use Rattle.building.proofs.build_directory.Met as build-thm
 use Rattle.run.specs.Run.{Driven}
 use Rattle.run.proofs.drive.drive as drive
 use Rattle.run.proofs.drive.drive.Symbol as drive-def
@@ -332,6 +332,6 @@ follow-spec 𝓤 H 𝓜 𝓖 𝓡 =
     (tables 𝓤 H 𝓜 𝓡 code.env .C) (tables 𝓤 H 𝓜 𝓡 code.env .Λ) #follow code.function (code.unfolded 𝓤 H 𝓜 𝓡)
     (meets 𝓤 H (𝓖 .A) (givenOf 𝓤 H 𝓜 𝓖) (𝓜 .mem) (𝓡 .run) (tablesOf 𝓤 H 𝓜 (tables 𝓤 H 𝓜 𝓡 code.env))
     (record {
-      build = cited 𝓤 H (build-to 𝓤 H (𝓖 .A) (𝓜 .mem) (𝓡 .run)) 𝓜 𝓡 code.env #build build-def.routine code.calls-directory·build-directory (build-thm.met 𝓤 H 𝓜 𝓖 𝓡);
+      build = cited 𝓤 H (build-to 𝓤 H (𝓖 .A) (𝓜 .mem) (𝓡 .run)) 𝓜 𝓡 code.env #build build-def.routine code.calls-building·build-directory (build-thm.met 𝓤 H 𝓜 𝓖 𝓡);
       drive = cited 𝓤 H (drive-to 𝓤 H (𝓖 .A) (𝓜 .mem) (𝓡 .run)) 𝓜 𝓡 code.env #drive drive-def.routine code.calls-run·drive·drive (drive-thm.met 𝓤 H 𝓜 𝓖 𝓡);
     }))

@@ -39,39 +39,39 @@ use denote.Triple.Statement.{Contract, Triple}
 use denote.Triple.Table.{entered, cited}
 use denote.Triple.Walked.{says, Stays, stay-slice, stay-dropped, walkOf, goes-slice, goes-dropped, ends-at, walked, walk-meets}
 use denote.Exit.{yes}
 use Rattle.directory.specs.declared.Row.{Row}
 use Rattle.walks.proofs.Walk.{rest, ty-at, Addrs, addr-at, env-of, laid, rotate, dropped, allocs-all, frees-all, var, part, fills}
 use Rattle.walks.proofs.Slices.{at-list, Whole, lent, back}
 use Rattle.directory.proofs.Elements.{IsRow, row-same, row-typed}
 use Rattle.directory.proofs.Row as R
 use Rattle.directory.proofs.Row.Laws as R′
 use lib.WfN.{Nat·lt-wfRel}
 use mathlib.Core.WellFounded.{WellFounded, InvImage·wf}
 use Rattle.standing.specs.Clauses.{take-min, drop-min}
-use Rattle.directory.specs.Marked.{flat, firstClause, parted, rowsFor, rowBetween, Built}
-use Rattle.directory.proofs.Building.{Building, clause-long, build-start, build-next, build-end}
+use Rattle.building.specs.Marked.{flat, firstClause, parted, rowsFor, rowBetween, Built}
+use Rattle.building.proofs.Building.{Building, clause-long, build-start, build-next, build-end}
 use Rattle.walks.proofs.Calls.{uint-same, unit-same, both-said, told, says-all, calls-to}
-use Rattle.directory.proofs.least as least
-use Rattle.directory.proofs.least.Symbol as least-def
-use Rattle.directory.proofs.least.Symbol.{name as #least}
-use Rattle.directory.proofs.least.Met as least-thm
-use Rattle.directory.proofs.unmark as unmark
-use Rattle.directory.proofs.unmark.Symbol as unmark-def
-use Rattle.directory.proofs.unmark.Symbol.{name as #unmark}
-use Rattle.directory.proofs.unmark.Met as unmark-thm
-use Rattle.directory.proofs.row_between as row-between
-use Rattle.directory.proofs.row_between.Symbol as row-between-def
-use Rattle.directory.proofs.row_between.Symbol.{name as #row-between}
-use Rattle.directory.proofs.row_between.Met as row-between-thm
+use Rattle.building.proofs.least as least
+use Rattle.building.proofs.least.Symbol as least-def
+use Rattle.building.proofs.least.Symbol.{name as #least}
+use Rattle.building.proofs.least.Met as least-thm
+use Rattle.building.proofs.unmark as unmark
+use Rattle.building.proofs.unmark.Symbol as unmark-def
+use Rattle.building.proofs.unmark.Symbol.{name as #unmark}
+use Rattle.building.proofs.unmark.Met as unmark-thm
+use Rattle.building.proofs.row_between as row-between
+use Rattle.building.proofs.row_between.Symbol as row-between-def
+use Rattle.building.proofs.row_between.Symbol.{name as #row-between}
+use Rattle.building.proofs.row_between.Met as row-between-thm
 use Rattle.directory.proofs.append as append
 use Rattle.directory.proofs.append.Symbol as append-def
 use Rattle.directory.proofs.append.Symbol.{name as #append}
 use Rattle.directory.proofs.append.Met as append-thm
-use Rattle.directory.proofs.build_directory.Key.{name as #build-directory}
-use Rattle.directory.proofs.build_directory as f
-use Rattle.directory.proofs.build_directory.Statement as stated
-use Rattle.directory.proofs.build_directory.Code as code
-use Rattle.directory.proofs.build_directory.Code.Mir as body
+use Rattle.building.proofs.build_directory.Key.{name as #build-directory}
+use Rattle.building.proofs.build_directory as f
+use Rattle.building.proofs.build_directory.Statement as stated
+use Rattle.building.proofs.build_directory.Code as code
+use Rattle.building.proofs.build_directory.Code.Mir as body
 
 abbrev stayed : Stays (f.ended .signature .params) (f.ended .kept)
 stayed = (stay-slice (0 ∷ []) tt (plain (λ _. u32)), (stay-slice (1 ∷ []) tt (plain (λ _. R.the-row)), (stay-dropped (plain (λ _. usize)) yes, tt)))
@@ -325,7 +325,7 @@ build-directory-spec 𝓤 H 𝓜 𝓖 𝓡 =
     entered 𝓤 H (tripleOf 𝓤 H (𝓖 .A) f.signature (f.spec 𝓤 H (𝓖 .A) (𝓜 .mem) (𝓡 .run)))
     (tables 𝓤 H 𝓜 𝓡 code.env .C) (tables 𝓤 H 𝓜 𝓡 code.env .Λ) #build-directory code.function (code.unfolded 𝓤 H 𝓜 𝓡)
     (meets 𝓤 H (𝓖 .A) (givenOf 𝓤 H 𝓜 𝓖) (𝓜 .mem) (𝓡 .run) (tablesOf 𝓤 H 𝓜 (tables 𝓤 H 𝓜 𝓡 code.env))
-    (cited 𝓤 H (least-to 𝓤 H (𝓖 .A) (𝓜 .mem) (𝓡 .run)) 𝓜 𝓡 code.env #least least-def.routine code.calls-directory·least (least-thm.met 𝓤 H 𝓜 𝓖 𝓡))
-    (cited 𝓤 H (unmark-to 𝓤 H (𝓖 .A) (𝓜 .mem) (𝓡 .run)) 𝓜 𝓡 code.env #unmark unmark-def.routine code.calls-directory·unmark (unmark-thm.met 𝓤 H 𝓜 𝓖 𝓡))
-    (cited 𝓤 H (row-between-to 𝓤 H (𝓖 .A) (𝓜 .mem) (𝓡 .run)) 𝓜 𝓡 code.env #row-between row-between-def.routine code.calls-directory·row-between (row-between-thm.met 𝓤 H 𝓜 𝓖 𝓡))
+    (cited 𝓤 H (least-to 𝓤 H (𝓖 .A) (𝓜 .mem) (𝓡 .run)) 𝓜 𝓡 code.env #least least-def.routine code.calls-building·least (least-thm.met 𝓤 H 𝓜 𝓖 𝓡))
+    (cited 𝓤 H (unmark-to 𝓤 H (𝓖 .A) (𝓜 .mem) (𝓡 .run)) 𝓜 𝓡 code.env #unmark unmark-def.routine code.calls-building·unmark (unmark-thm.met 𝓤 H 𝓜 𝓖 𝓡))
+    (cited 𝓤 H (row-between-to 𝓤 H (𝓖 .A) (𝓜 .mem) (𝓡 .run)) 𝓜 𝓡 code.env #row-between row-between-def.routine code.calls-building·row-between (row-between-thm.met 𝓤 H 𝓜 𝓖 𝓡))
     (cited 𝓤 H (append-to 𝓤 H (𝓖 .A) (𝓜 .mem) (𝓡 .run)) 𝓜 𝓡 code.env #append append-def.routine code.calls-directory·append (append-thm.met 𝓤 H 𝓜 𝓖 𝓡)))

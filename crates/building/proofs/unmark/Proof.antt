@@ -2,9 +2,9 @@ use mathlib.Core.Path.{_≡_, ap}
 use Prim.Native.Nat.{_-_}
 use native.Mathlib.Omega.{arith}
 use lib.ListN.{length, length-set}
-use Rattle.directory.proofs.Building.{Passing, pass-start, pass-next, pass-marked, pass-end}
-use Rattle.directory.proofs.unmark.Statement.{statement}
-use Rattle.directory.proofs.unmark.Tie as tie
+use Rattle.building.proofs.Building.{Passing, pass-start, pass-next, pass-marked, pass-end}
+use Rattle.building.proofs.unmark.Statement.{statement}
+use Rattle.building.proofs.unmark.Tie as tie
 
 abbrev Inv-loop : tie.InvT-loop
 Inv-loop words₀ first end i₀ words i = Passing words₀ words first end i

@@ -10,9 +10,9 @@ use lib.ListN.{length, getD, set, take, drop, length-append, take-append-drop}
 use lib.Seq.{sets, slice, slice-cons, slice-empty, append-snoc, length-take-le, length-slice, take-at, drop-append-le, drop-append-add, drop-drop, take-take, take-suc, set-split}
 use borrow.Author.Tests.{le-leb, lt-leb}
 use Rattle.scope.specs.Formula.{words}
 use Rattle.directory.specs.declared.Row.{Row}
 use Rattle.standing.specs.Clauses.{drop-take, slice-past}
-use Rattle.directory.specs.Marked.{flat, firstClause, parted, rowsFor, rowBetween, flat-snoc, length-flat, parted-head, length-rows, rows-snoc, sets-snoc}
+use Rattle.building.specs.Marked.{flat, firstClause, parted, rowsFor, rowBetween, flat-snoc, length-flat, parted-head, length-rows, rows-snoc, sets-snoc}
 
 -- words up to j, where first ≤ j
 module _ (ws : List ℕ) (first : ℕ) where
