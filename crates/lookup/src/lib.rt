@@ -72,7 +72,7 @@ fn even_share(len: usize, below: usize, above: usize) -> usize
     least(share, len - 1)
 }
 
-// With more looks left than this the next one halves. Far from the wanted id the first four do: they meet the same rows for most
+// With more looks left than this the next one halves. Far from the wanted id the first three do: they meet the same rows for most
 // ids, which the cache holds, and ids stand more evenly in what remains.
 fn halves_above(distance: usize) -> usize
     ensures { λ r. ⌜ r ≡ halvedAbove distance ⌝ }
