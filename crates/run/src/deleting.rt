@@ -3,6 +3,9 @@ use deletion::ids::pass_id;
 use hints::machine::DELETE;
 use hints::machine::Machine;
 use hints::machine::turn_of;
+use reader::moved;
+use reader::over;
+use reader::read_number;
 use store::directory::Row;
 use store::directory::find;
 use store::directory::mark_dead;
@@ -11,17 +14,20 @@ ghost use lib.ListN.{length};
 ghost use Rattle.store.specs.Directory.{rowsOf};
 ghost use Rattle.run.specs.Run.{DeletesIds};
 
-// The machine's turns go on until it has no id to delete.
+// The machine's turns go on until it has no id to delete; the reader stands where the machine does.
 pub fn delete_ids(m: Machine, proof: &[u8], rows: &mut [Row], n: usize) -> Machine
     ensures { λ r. ⌜ DeletesIds (now (proof .entry)) (length (now (rows .entry))) n m (rowsOf (now (rows .entry))) r (rowsOf (now (rows .exit))) ⌝ }
 {
     let mut d = m;
+    let mut r = over(proof, m.at);
     loop {
         let turn = turn_of(d);
         if turn == DELETE {
             let p = find(rows, n, d.want);
-            d = pass_id(d, p.hit, proof);
             mark_dead(rows, p.at);
+            let t = read_number(r);
+            d = pass_id(d, p.hit, t);
+            r = moved(r, d.at);
         } else {
             return d;
         }

@@ -14,6 +14,9 @@ use hints::machine::turn_of;
 use phases::next::answer;
 use phases::next::enter;
 use phases::next::proceed;
+use reader::moved;
+use reader::over;
+use reader::read_number;
 use scope::CheckAnswer;
 use store::directory::Row;
 use store::directory::append;
@@ -38,7 +41,7 @@ fn ready() -> Machine
     stop(Phase::Next, 0)
 }
 
-// The proof is judged turn by turn, with some trail.
+// The proof is judged turn by turn, with some trail, and read through one reader, which each turn moves to where the machine stands.
 fn drive_with(
     proof: &[u8],
     words: &mut [u32],
@@ -55,11 +58,14 @@ fn drive_with(
 {
     let mut c = begin(n, used);
     let mut m = ready();
+    let mut r = over(proof, 0);
     loop {
+        r = moved(r, m.at);
         let turn = turn_of(m);
         if turn == LOOK {
             let p = find(rows, c.tally.rows, m.want);
-            m = advance(m, p.hit, proof, words, marks, trail);
+            let t = read_number(r);
+            m = advance(m, p.hit, t, words, marks, trail);
         } else if turn == DELETE {
             m = delete_ids(m, proof, rows, c.tally.rows);
         } else if turn == KEEP {

@@ -1,7 +1,6 @@
 use mathlib.Core.Path.{_∙_}
 use borrow.Author.Needs.{needs}
 use borrow.Author.Tests.{eq-eqb, ne-eqb}
-use Rattle.reader.proofs.NumberTold.{value-at, no-value-at}
 use Rattle.deletion.specs.Passed.{passedId}
 use Rattle.deletion.proofs.ids.pass_id.Statement.{statement}
 use Rattle.deletion.proofs.ids.pass_id.Tie as tie
@@ -12,9 +11,6 @@ stop-requires c κs = search needs
 returns : tie.Need-returns
 unfolding passedId
 returns c = c .stop .ensures ∙ rw (eq-eqb _ _ (c .before .if1 .taken))
-
-number-in-requires : tie.Need-number-in-requires
-number-in-requires c κs = search needs
 
 enum-known-t : tie.Need-enum-known-t
 enum-known-t c = search needs
@@ -28,9 +24,8 @@ stop-requires-2 c κs = search needs
 returns-2 : tie.Need-returns-2
 unfolding passedId
 returns-2 c =
-    let a = c .before .before .before .before .before .before .before .args in
-    let z = ne-eqb _ _ (c .before .before .before .before .if1 .left) in
-    let e = no-value-at (a .proof .now) (a .m .at) (c .before .before .before .number-in .result) (c .before .before .before .number-in .ensures) (c .before .enum-told .given .1) in
+    let z = ne-eqb _ _ (c .before .before .before .if1 .left) in
+    let e = c .before .enum-told .given .1 in
     c .stop2 .ensures ∙ rw (z, e)
 
 step-on-requires : tie.Need-step-on-requires
@@ -39,9 +34,8 @@ step-on-requires c κs = search needs
 returns-3 : tie.Need-returns-3
 unfolding passedId
 returns-3 c =
-    let a = c .before .before .before .before .before .before .before .before .args in
-    let z = ne-eqb _ _ (c .before .before .before .before .before .if1 .left) in
-    let e = value-at (a .proof .now) (a .m .at) (c .before .before .before .before .number-in .result) (c .before .before .before .before .number-in .ensures) (c .before .before .t .given .1) in
+    let z = ne-eqb _ _ (c .before .before .before .before .if1 .left) in
+    let e = c .before .before .t .given .1 in
     c .step-on .ensures ∙ rw (z, e)
 
 pub pass-id-spec : {M : Type 1} → statement M
@@ -50,7 +44,6 @@ pass-id-spec =
     (tie.spec
     stop-requires
     returns
-    number-in-requires
     enum-known-t
     enum-told
     stop-requires-2
