@@ -10,13 +10,11 @@ use store::directory::Row;
 use store::directory::find;
 use store::directory::mark_dead;
 ghost use mathlib.Core.Path.{_≡_};
-ghost use lib.ListN.{length};
-ghost use Rattle.store.specs.Directory.{rowsOf};
-ghost use Rattle.run.specs.Run.{DeletesIds};
+ghost use Rattle.run.specs.Turned.{deletion, idsDeleted};
 
 // The machine's turns go on until it has no id to delete; the reader stands where the machine does.
 pub fn delete_ids(m: Machine, proof: &[u8], rows: &mut [Row], n: usize) -> Machine
-    ensures { λ r. ⌜ DeletesIds (now (proof .entry)) (length (now (rows .entry))) n m (rowsOf (now (rows .entry))) r (rowsOf (now (rows .exit))) ⌝ }
+    ensures { λ r. ⌜ deletion r (now (rows .exit)) ≡ idsDeleted (now (proof .entry)) n m (now (rows .entry)) ⌝ }
 {
     let mut d = m;
     let mut r = over(proof, m.at);

@@ -28,11 +28,9 @@ use turns::check::keep;
 use turns::check::row_of;
 use unwinding::marks::unwind;
 ghost use mathlib.Core.Path.{_≡_};
-ghost use lib.ListN.{length};
-ghost use Rattle.store.specs.Directory.{rowsOf};
 ghost use Rattle.hints.specs.declared.machine.Phase.the-variants.{Next};
 ghost use Rattle.hints.specs.Machine.{stopped};
-ghost use Rattle.run.specs.Run.{Driven};
+ghost use Rattle.run.specs.Turned.{outcome, drivenWith, drivenBy};
 
 // The machine before the first step.
 fn ready() -> Machine
@@ -52,9 +50,8 @@ fn drive_with(
     n: usize,
     used: usize,
 ) -> CheckAnswer
-    ensures { λ r. ⌜ Driven (now (proof .entry)) last (length (now (rows .entry))) n
-        used (rowsOf (now (rows .entry))) (now (words .entry)) (now (marks .entry)) r (rowsOf (now (rows .exit)))
-        (now (words .exit)) (now (marks .exit)) ⌝ }
+    ensures { λ r. ⌜ outcome r (now (rows .exit)) (now (words .exit)) (now (marks .exit))
+        ≡ drivenWith (now (proof .entry)) last n used (now (rows .entry)) (now (words .entry)) (now (marks .entry)) (now (trail .entry)) ⌝ }
 {
     let mut c = begin(n, used);
     let mut m = ready();
@@ -95,7 +92,8 @@ pub fn drive(
     n: usize,
     used: usize,
 ) -> CheckAnswer
-    ensures { λ r. ⌜ Driven (now (proof .entry)) last (length (now (rows .entry))) n used (rowsOf (now (rows .entry))) (now (words .entry)) (now (marks .entry)) r (rowsOf (now (rows .exit))) (now (words .exit)) (now (marks .exit)) ⌝ }
+    ensures { λ r. ⌜ outcome r (now (rows .exit)) (now (words .exit)) (now (marks .exit))
+        ≡ drivenBy (now (proof .entry)) last n used (now (rows .entry)) (now (words .entry)) (now (marks .entry)) ⌝ }
 {
     let mut trail = [0u32; 4096];
     drive_with(proof, words, rows, marks, &mut trail, last, n, used)

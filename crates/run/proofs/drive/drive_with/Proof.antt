@@ -41,6 +41,7 @@ use denote.Triple.Walked.{says, Stays, stay-slice, stay-dropped, walkOf, goes-sl
 use denote.Exit.{yes}
 use lib.Dec.{T, eqb, T-not, eqb-refl, eqb→eq, lit<}
 use mathlib.Core.Bool.{not}
+use borrow.Author.Tests.{le-ltb}
 use mir.Syntax.{w8}
 use mir.Val.{WT, hasTy}
 use lib.WfN.{Nat·lt-wfRel}
@@ -58,8 +59,7 @@ use Rattle.scope.proofs.CheckAnswer as S
 use Rattle.scope.proofs.CheckAnswer.Laws as S′
 use Rattle.store.specs.declared.directory.Row.{Row}
 use Rattle.store.specs.declared.directory.Probe.{Probe}
-use Rattle.store.specs.Directory.{rowsOf, lookUp, appends-at}
-use Rattle.store.proofs.Search.{finds}
+use Rattle.store.specs.Directory.{lookUp}
 use Rattle.store.proofs.Walk.{rest, held, failed, ty-at, Addrs, addr-at, env-of, laid, rotate, dropped, allocs-all, frees-all, var, part, fills}
 use Rattle.store.proofs.Slices.{at-list, Whole, lent, back, shared, unshared}
 use Rattle.store.proofs.Elements.{IsRow, row-same, row-typed, IsProbe, probe-same, probe-typed}
@@ -71,14 +71,13 @@ use Rattle.store.proofs.directory.Probe.Laws as P′
 use Rattle.hints.specs.declared.machine.Machine.{Machine}
 use Rattle.hints.specs.declared.machine.Phase.the-variants.{Next}
 use Rattle.turns.specs.declared.check.Check.{Check}
-use Rattle.hints.specs.Machine.{turnOf, stopped, advanced, advancedMarks, advancedTrail, Advances, advances}
-use Rattle.trail.specs.Recorded.{largest}
+use Rattle.hints.specs.Machine.{turnOf, stopped, advanced, advancedMarks, advancedTrail}
 use Rattle.turns.specs.Check.{begun, judged, rowOf, keptAs, entered, proceeded, unwound, unwoundMarks, stepTaken, answerOf}
 use Rattle.copying.specs.Copies.{copiedAt}
-use Rattle.run.proofs.Taking.{takes-step}
-use Rattle.reading.specs.Copying.{copies-at}
-use Rattle.run.specs.Run.{DeletesIds, World, world, ready as at-start, Ran, none as no-turn, more, Turn, looks, keeps, judges, reads, Driven}
-use Rattle.run.specs.Termination.{left, Past, Falls, turn-falls, ran-on, Runs, still, fell, ran-falls}
+use Rattle.reader.proofs.Loops.{Left, left-over}
+use Rattle.run.specs.Turned.{State, state, deletion, idsDeleted, withDeletion, turned, going, left, toGo, ended, atFirst, outcome, outcomeOf, drivenWith}
+use Rattle.run.specs.Termination.{Past}
+use Rattle.run.proofs.Turning.{Nearer as Comes, turn-nearer, ids-nearer}
 use Rattle.reader.proofs.Reader.Laws as D′
 use Rattle.reader.proofs.Readers.{at-place, reader-typed, IsNumber, number-typed}
 use Rattle.reader.proofs.ReaderCalls.{over-to, read-number-to, moved-to, makes, reads as reads-number, moves}
@@ -229,11 +228,12 @@ not-eq a b h e = T-not (eqb a b) h (subst (λ (k : ℕ). T (eqb a k)) e (eqb-ref
 none-left : (n : ℕ) → (n ≡ 0 → ⊥) → (n ≡ 1 → ⊥) → (n ≡ 2 → ⊥) → (n ≡ 3 → ⊥) → (n ≡ 4 → ⊥) → 5 ≤ n
 none-left n z a b c d = omega arith
 
-short-of : {k : ℕ} → Room u32 k → k < largest
-short-of room = omega (arith, room .0, room .1)
-
 -- a check between two turns
 module _ (ps : List ℕ) (last : ℕ) (us₀ : List ℕ) (ys₀ : List Row) (ms₀ tr₀ : List ℕ) (n used : ℕ) where
+  -- where it comes to
+  abbrev End : State
+  End = ended ps last (atFirst n used ys₀ us₀ ms₀ tr₀)
+
   pub record Upto : Type 0 where
     pub c : Check
     pub m : Machine
@@ -247,18 +247,18 @@ module _ (ps : List ℕ) (last : ℕ) (us₀ : List ℕ) (ys₀ : List Row) (ms�
     pub long-us : length us ≡ length us₀
     pub long-ms : length ms ≡ length ms₀
     pub long-tr : length tr ≡ length tr₀
-    pub ran : Ran ps last (length ys₀) (at-start n used (rowsOf ys₀) us₀ ms₀ tr₀) (world c m (rowsOf zs) us ms tr)
+    pub onto : Left going (turned ps last) (toGo ps) End (state c m zs us ms tr)
     pub past : Past c m
     -- where the reader stands
     pub place : ℕ
     pub fits : place < 2 ^ 64
 
 module _ {ps : List ℕ} {last : ℕ} {us₀ : List ℕ} {ys₀ : List Row} {ms₀ tr₀ : List ℕ} {n used : ℕ} where
-  abbrev here : Upto ps last us₀ ys₀ ms₀ tr₀ n used → World
-  here t = world (t .c) (t .m) (rowsOf (t .zs)) (t .us) (t .ms) (t .tr)
+  abbrev here : Upto ps last us₀ ys₀ ms₀ tr₀ n used → State
+  here t = state (t .c) (t .m) (t .zs) (t .us) (t .ms) (t .tr)
 
   abbrev From : Upto ps last us₀ ys₀ ms₀ tr₀ n used → Check → Machine → List Row → List ℕ → List ℕ → List ℕ → Type 0
-  From t c m zs us ms tr = Turn ps last (length ys₀) (here t) (world c m (rowsOf zs) us ms tr)
+  From t c m zs us ms tr = Comes ps last (End ps last us₀ ys₀ ms₀ tr₀ n used) (here t) (state c m zs us ms tr)
 
   abbrev Nearer : Upto ps last us₀ ys₀ ms₀ tr₀ n used → Upto ps last us₀ ys₀ ms₀ tr₀ n used → Type 0
   Nearer s t = left (length ps) (s .c) (s .m) < left (length ps) (t .c) (t .m)
@@ -267,15 +267,30 @@ module _ {ps : List ℕ} {last : ℕ} {us₀ : List ℕ} {ys₀ : List Row} {ms�
   Nearer-wf = InvImage·wf (λ (t : Upto ps last us₀ ys₀ ms₀ tr₀ n used). left (length ps) (t .c) (t .m)) (Nat·lt-wfRel .wf)
 
   starting : (c : Check) (m : Machine) → c ≡ begun n used → m ≡ stopped Next 0 → IsCheck c (K′.lowered c) → IsMachine m (N′.lowered m) → Upto ps last us₀ ys₀ ms₀ tr₀ n used
+  unfolding ended
   starting c m e e′ is-c is-m =
-      record { c = c; m = m; zs = ys₀; us = us₀; ms = ms₀; tr = tr₀; is-c = is-c; is-m = is-m; long-zs = refl; long-us = refl; long-ms = refl; long-tr = refl; ran = rw (e, e′) no-turn; past = rw (e, e′) (omega arith); place = 0; fits = lit< tt }
+      record {
+        c = c;
+        m = m;
+        zs = ys₀;
+        us = us₀;
+        ms = ms₀;
+        tr = tr₀;
+        is-c = is-c;
+        is-m = is-m;
+        long-zs = refl;
+        long-us = refl;
+        long-ms = refl;
+        long-tr = refl;
+        onto = rw (e, e′) (record { fuel = toGo ps (atFirst n used ys₀ us₀ ms₀ tr₀); enough = omega arith; todo = refl });
+        past = rw (e, e′) (omega arith);
+        place = 0;
+        fits = lit< tt;
+      }
 
   module _ (t : Upto ps last us₀ ys₀ ms₀ tr₀ n used) where
     module _ (c : Check) (m : Machine) (zs : List Row) (us ms tr : List ℕ) (is-c : IsCheck c (K′.lowered c)) (is-m : IsMachine m (N′.lowered m))
         (kept-zs : length zs ≡ length (t .zs)) (kept-us : length us ≡ length (t .us)) (kept-ms : length ms ≡ length (t .ms)) (kept-tr : length tr ≡ length (t .tr)) (turn : From t c m zs us ms tr) where
-      fall : Falls (length ps) (here t) (world c m (rowsOf zs) us ms tr)
-      fall = turn-falls ps last (length ys₀) (here t) (world c m (rowsOf zs) us ms tr) turn (t .past)
-
       onward : Upto ps last us₀ ys₀ ms₀ tr₀ n used
       onward =
           record {
@@ -291,65 +306,33 @@ module _ {ps : List ℕ} {last : ℕ} {us₀ : List ℕ} {ys₀ : List Row} {ms�
             long-us = kept-us ∙ t .long-us;
             long-ms = kept-ms ∙ t .long-ms;
             long-tr = kept-tr ∙ t .long-tr;
-            ran = more (here t) (world c m (rowsOf zs) us ms tr) (t .ran) turn kept-ms kept-tr;
-            past = fall .0;
+            onto = turn .onto;
+            past = turn .past;
             place = t .m .at;
             fits = place-fits (t .m) (t .is-m);
           }
 
       falls : Nearer onward t
       unfolding onward
-      falls = fall .1
+      falls = turn .near
+
+    -- one turn
+    one-turn : {c : Check} {m : Machine} {zs : List Row} {us ms tr : List ℕ} → turnOf (t .m .phase) ≤ 4 → state c m zs us ms tr ≡ turned ps last (here t) → From t c m zs us ms tr
+    one-turn low e = subst (Comes ps last (End ps last us₀ ys₀ ms₀ tr₀ n used) (here t)) (sym e) (turn-nearer ps last (End ps last us₀ ys₀ ms₀ tr₀ n used) (here t) low (t .past) (t .onto))
 
     -- what the machine, the marks and the trail become with a row
     abbrev Advanced : Parsed ℕ → Row → Machine → List ℕ → List ℕ → Type 0
     Advanced x row m ms tr = (m ≡ advanced x (length (t .tr)) (t .m) row (t .us) (t .ms)) × ((ms ≡ advancedMarks x (t .m) row (t .us) (t .ms)) × (tr ≡ advancedTrail x (t .m) row (t .us) (t .ms) (t .tr)))
 
-    on-row : turnOf (t .m .phase) ≡ 0 → (x : Parsed ℕ) → x ≡ number-of ps (t .m .at) → (row : Row) (m : Machine) (ms tr : List ℕ) → Advanced x row m ms tr → Advances ps (t .m) row (t .us) (t .ms) (t .tr) m ms tr
-    on-row h x q row m ms tr e = rw (e .0, e .1 .0, e .1 .1, q) (advances ps (t .m) row (t .us) (t .ms) (t .tr) (λ z. omega arith))
-
     -- the turns
     looked : (p : Probe) (x : Parsed ℕ) {m : Machine} {ms tr : List ℕ} → turnOf (t .m .phase) ≡ 0 → p ≡ lookUp (t .zs) (t .c .tally .rows) (t .m .want) → x ≡ number-of ps (t .m .at) → Advanced x (p .hit) m ms tr
         → From t (t .c) m (t .zs) (t .us) ms tr
-    looked p x {m} {ms} {tr} h found q moved = looks p (omega arith) (rw (t .long-zs) at (finds (t .zs) (t .c .tally .rows) (t .m .want) p found)) (λ z. refl) (λ z. absurd (omega arith)) (on-row h x q (p .hit) m ms tr moved) refl refl
+    unfolding turned
+    looked p x h found q moved = one-turn (omega arith) (rw (h, moved .0, moved .1 .0, moved .1 .1, q, found))
 
-    -- the turns that delete ids
-    module _ (h : turnOf (t .m .phase) ≡ 1) (m : Machine) (zs : List Row) (is-m : IsMachine m (N′.lowered m)) (kept-zs : length zs ≡ length (t .zs))
-        (del : DeletesIds ps (length (t .zs)) (t .c .tally .rows) (t .m) (rowsOf (t .zs)) m (rowsOf zs)) where
-      deleted-ran : Ran ps last (length ys₀) (here t) (world (t .c) m (rowsOf zs) (t .us) (t .ms) (t .tr))
-      deleted-ran = rw (t .long-zs) at (del .ran last (t .c) (t .us) (t .ms) (t .tr) refl)
-
-      deleted-fall : Falls (length ps) (here t) (world (t .c) m (rowsOf zs) (t .us) (t .ms) (t .tr))
-      deleted-fall = go (ran-falls ps last (length ys₀) deleted-ran (t .past))
-        where
-          go : Runs (length ps) (here t) (world (t .c) m (rowsOf zs) (t .us) (t .ms) (t .tr)) → Falls (length ps) (here t) (world (t .c) m (rowsOf zs) (t .us) (t .ms) (t .tr))
-          go (still e) = absurd (del .over (ap (λ w. turnOf (w .machine .phase)) e ∙ h))
-          go (fell f) = f
-
-      deleted-on : Upto ps last us₀ ys₀ ms₀ tr₀ n used
-      deleted-on =
-          record {
-            c = t .c;
-            m = m;
-            zs = zs;
-            us = t .us;
-            ms = t .ms;
-            tr = t .tr;
-            is-c = t .is-c;
-            is-m = is-m;
-            long-zs = kept-zs ∙ t .long-zs;
-            long-us = t .long-us;
-            long-ms = t .long-ms;
-            long-tr = t .long-tr;
-            ran = ran-on ps last (length ys₀) (t .ran) deleted-ran;
-            past = deleted-fall .0;
-            place = t .m .at;
-            fits = place-fits (t .m) (t .is-m);
-          }
-
-      deleted-falls : Nearer deleted-on t
-      unfolding deleted-on
-      deleted-falls = deleted-fall .1
+    ids-deleted : turnOf (t .m .phase) ≡ 1 → (m : Machine) (zs : List Row) → deletion m zs ≡ idsDeleted ps (t .c .tally .rows) (t .m) (t .zs)
+        → From t (t .c) m zs (t .us) (t .ms) (t .tr)
+    ids-deleted h m zs e = ids-nearer ps last (End ps last us₀ ys₀ ms₀ tr₀ n used) (here t) h (t .past) (t .onto) m zs e
 
     abbrev Unwound : Check → List ℕ → Machine → List ℕ → Type 0
     Unwound c us m ms = (m ≡ unwound c (t .m) (length (t .tr))) × (ms ≡ unwoundMarks c (t .m) us (t .ms) (t .tr))
@@ -357,15 +340,24 @@ module _ {ps : List ℕ} {last : ℕ} {us₀ : List ℕ} {ys₀ : List Row} {ms�
     kept : {c : Check} {m : Machine} {us ms : List ℕ} → turnOf (t .m .phase) ≡ 2 → (row : Row) → row ≡ rowOf (t .c) → (zs : List Row) → zs ≡ set (t .zs) (t .c .tally .rows) row
         → (c ≡ keptAs (t .c)) × (us ≡ copiedAt ps (t .c .clause .literals) (t .us) (t .c .tally .words)) → Unwound c us m ms
         → From t c m zs us ms (t .tr)
-    kept h row e zs put k u = keeps h (rw (t .long-zs, e) at (appends-at (t .zs) zs (t .c .tally .rows) row put)) (k .0) (rw (k .1) (copies-at ps (t .c .clause .literals) (t .us) (t .c .tally .words))) (u .0) (u .1)
+    unfolding turned
+    kept h row e zs put k u = one-turn (omega arith) (rw (h, u .0, u .1, k .0, k .1, put, e))
 
     judged-on : {c : Check} {m : Machine} → turnOf (t .m .phase) ≡ 3 → c ≡ judged (t .c) (t .m .at) (length ps) (length (t .us)) (length (t .zs)) → m ≡ proceeded c (t .m)
         → From t c m (t .zs) (t .us) (t .ms) (t .tr)
-    judged-on h e begins = judges h (rw (t .long-zs) at e) begins refl refl refl refl
+    unfolding turned
+    judged-on h e begins = one-turn (omega arith) (rw (h, begins, e))
 
     stepped-on : {c : Check} {m : Machine} {ms : List ℕ} → turnOf (t .m .phase) ≡ 4 → (c ≡ stepTaken ps (t .c) (t .m .at) last (t .ms) .check) × (ms ≡ stepTaken ps (t .c) (t .m .at) last (t .ms) .marks) → m ≡ entered ps c
         → From t c m (t .zs) (t .us) ms (t .tr)
-    stepped-on h step begins = reads h (rw (step .0, step .1) (takes-step ps (t .c) (t .m .at) last (t .ms))) begins refl refl
+    unfolding turned
+    stepped-on h step begins = one-turn (omega arith) (rw (h, begins, step .0, step .1))
+
+    -- none is left
+    answered : {r : CheckAnswer} → 5 ≤ turnOf (t .m .phase) → r ≡ answerOf (t .c .tally .steps) (t .m .phase)
+        → outcome r (t .zs) (t .us) (t .ms) ≡ drivenWith ps last n used ys₀ us₀ ms₀ tr₀
+    unfolding drivenWith
+    answered h e = rw e (ap outcomeOf (left-over going (turned ps last) (toGo ps) (End ps last us₀ ys₀ ms₀ tr₀ n used) (here t) (t .onto) (le-ltb (turnOf (t .m .phase)) 5 h)))
 
 -- the contracts that are cited
 module _ {M : Type 1} (𝓤 : URA M) (H : Heap 𝓤) (A : Atoms 𝓤) (mem : Memory → SProp 𝓤) (run : Routine → Fun 𝓤) where
@@ -478,7 +470,7 @@ module _ {M : Type 1} (𝓤 : URA M) (H : Heap 𝓤) (A : Atoms 𝓤) (W : Given
   abbrev Upon : Type 0
   Upon = Upto ps last us ys ms tr n used
 
-  exits : (r : CheckAnswer) → IsAnswer r (S′.lowered r) → (t : Upon) → Driven ps last (length ys) n used (rowsOf ys) us ms r (rowsOf (t .zs)) (t .us) (t .ms) → ent 𝓤 (⋆ 𝓤 H A (Had (t .us) (t .zs) (t .ms) (t .tr))) (Post (S′.lowered r))
+  exits : (r : CheckAnswer) → IsAnswer r (S′.lowered r) → (t : Upon) → outcome r (t .zs) (t .us) (t .ms) ≡ drivenWith ps last n used ys us ms tr → ent 𝓤 (⋆ 𝓤 H A (Had (t .us) (t .zs) (t .ms) (t .tr))) (Post (S′.lowered r))
   exits r is t z =
       qed W (Had (t .us) (t .zs) (t .ms) (t .tr)) ∵
       suffices ! _ (ends-at 𝓤 H A f.ended stayed (f.clauses 𝓤 H A mem run) W (((κ₀, (κ₁, (κ₂, (κ₃, (κ₄, tt))))), (q₀, (q₁, (q₂, (q₃, (q₄, tt))))), tt, a, at), tt) (S′.lowered r) r (tt, (t .us, (t .zs, (t .ms, (t .tr, (tt, (tt, (tt, tt))))))))
@@ -713,7 +705,7 @@ module _ {M : Type 1} (𝓤 : URA M) (H : Heap 𝓤) (A : Atoms 𝓤) (W : Given
 
     -- ids are deleted
     deleting : (t : Upon) → turnOf (t .m .phase) ≡ 1 → Sq W (Mid t) (runs C Λ En (held (past by-turn)) (anyQ (After t)))
-    unfolding afterTurn deleted-on
+    unfolding afterTurn onward
     deleting t h =
         fills ! 42 (addr ! (from ! (fld ! refl (hop ! (look-in ! 90 (sub ! 0 refl (whole !))) (stop !))))) refl (tt, tt) $
         fills ! 40 (agg ! (and-then ! (var ! 42 refl) (and-then ! (part ! 90 refl (sub ! 1 refl (whole !))) (no-more !)))) refl (tt, (tt, (record { fits = omega (arith, room₂ .0, t .long-zs) }, tt))) $
@@ -721,7 +713,7 @@ module _ {M : Type 1} (𝓤 : URA M) (H : Heap 𝓤) (A : Atoms 𝓤) (W : Given
         move ! (101 ∷ []) $ use1 W (‵ Proof ⊛ ‵ Proof) (shr-slice-copy 𝓤 H A W (named 0) κ₀ u8 .twice (at-list b₀ o₀ γ₀ ps) (s₀ ∷ [])) $ split ! $
         move ! (103 ∷ 3 ∷ 0 ∷ 2 ∷ []) $
         cut (‵ (flft κ₀ q₀) ∷ ‵ (flft (ν₂ ∷ []) fullShare) ∷ ‵ Proof ∷ ‵ (MutSlice (named 2) (ν₂ ∷ []) R.the-row .own (at-list b₂ o₂ δ₂ (t .zs)) (s₂ (t .zs) ∷ [])) ∷ []) (raw (delete-ids-to 𝓤 H A mem run .pre (to-delete-ids (t .m) (t .zs) (t .c .tally .rows) ν₂ δ₂)) ∷ []) _ (goes-delete-ids (t .m) (t .zs) (t .c .tally .rows) ν₂ δ₂ (t .is-m) (rows-fit (t .c) (t .is-c))) $
-        calls-to-last delete-ids.ended (delete-ids.clauses 𝓤 H A mem run) (to-delete-ids (t .m) (t .zs) (t .c .tally .rows) ν₂ δ₂) (λ r ws. DeletesIds ps (length (t .zs)) (t .c .tally .rows) (t .m) (rowsOf (t .zs)) r (rowsOf (ws .1 .1 .0))) (λ r ws. id⊢ 𝓤 _) N′.lowered machine-same ! fm (known .delete-ids) (and-then ! (var ! 79 refl) (and-then ! (var ! 97 refl) (and-then ! (var ! 43 refl) (and-then ! (load ! (from ! (fld ! refl (fld ! refl (stop !)))) (look-in ! 81 (sub ! 2 refl (sub ! 1 refl (whole !))))) (no-more !))))) (λ m ws del is-m.
+        calls-to-last delete-ids.ended (delete-ids.clauses 𝓤 H A mem run) (to-delete-ids (t .m) (t .zs) (t .c .tally .rows) ν₂ δ₂) (λ r ws. deletion r (ws .1 .1 .0) ≡ idsDeleted ps (t .c .tally .rows) (t .m) (t .zs)) (λ r ws. id⊢ 𝓤 _) N′.lowered machine-same ! fm (known .delete-ids) (and-then ! (var ! 79 refl) (and-then ! (var ! 97 refl) (and-then ! (var ! 43 refl) (and-then ! (load ! (from ! (fld ! refl (fld ! refl (stop !)))) (look-in ! 81 (sub ! 2 refl (sub ! 1 refl (whole !))))) (no-more !))))) (λ m ws del is-m.
         use1 W (‵ (flft κ₀ q₀) ⊛ (‵ (flft (ν₂ ∷ []) fullShare) ⊛ ‵ ftrue)) (id⊢ 𝓤 _) $ split ! $ move ! (1 ∷ []) $ split ! $ move ! (1 ∷ []) $
         drop ! $
         move ! (2 ∷ []) $ fsplit ! $ drop ! $ fsplit ! $ drop ! $ fsplit ! $ fsplit ! $ move ! (1 ∷ []) $ feqL ! (λ kept-zs.
@@ -729,7 +721,7 @@ module _ {M : Type 1} (𝓤 : URA M) (H : Heap 𝓤) (A : Atoms 𝓤) (W : Given
         land-last ! (from ! (stop !)) (store ! 80 refl (machine-typed W m _ is-m)) $ forget ! 76 refl $ forget ! 46 refl $ forget ! 44 refl $
         rewrite ! 94 (λ (k : ℕ). ‵ (fat fullShare (ty 3) (l ls 3) 0 (sliceVal (b₂, o₂) k))) (sym kept-zs) refl $
         move ! (3 ∷ 2 ∷ 102 ∷ 103 ∷ 0 ∷ 1 ∷ 104 ∷ 105 ∷ 106 ∷ 107 ∷ []) $ rotate ! 10 $
-        again ! Nearer At t (deleted-on t h m (ws .1 .1 .0) is-m kept-zs del) (deleted-falls t h m (ws .1 .1 .0) is-m kept-zs del))))
+        again ! Nearer At t (onward t (t .c) m (ws .1 .1 .0) (t .us) (t .ms) (t .tr) (t .is-c) is-m kept-zs refl refl refl (ids-deleted t h m (ws .1 .1 .0) del)) (falls t (t .c) m (ws .1 .1 .0) (t .us) (t .ms) (t .tr) (t .is-c) is-m kept-zs refl refl refl (ids-deleted t h m (ws .1 .1 .0) del)))))
 
     -- one is kept
     keeping : (t : Upon) → turnOf (t .m .phase) ≡ 2 → Sq W (Mid t) (runs C Λ En (held (past (past by-turn))) (anyQ (After t)))
@@ -836,7 +828,7 @@ module _ {M : Type 1} (𝓤 : URA M) (H : Heap 𝓤) (A : Atoms 𝓤) (W : Given
         calls-to answer.ended (answer.clauses 𝓤 H A mem run) (to-answer (t .c) (t .m)) (λ r ws. r ≡ answerOf (t .c .tally .steps) (t .m .phase)) (λ r ws. id⊢ 𝓤 _) S′.lowered answer-same ! fm (known .answer) (and-then ! (var ! 79 refl) (and-then ! (var ! 77 refl) (no-more !))) (λ r ws e is-r.
         drop ! $ drop ! $ land ! (from ! (stop !)) (init ! 96 refl (answer-typed W r _ is-r)) $ returns-within ! Post refl (look ! 96 refl) $
         frees-all ! body.locals ls (some _ ∷ some _ ∷ some _ ∷ some _ ∷ some _ ∷ some _ ∷ some _ ∷ some _ ∷ some _ ∷ some _ ∷ some _ ∷ some _ ∷ some _ ∷ []) $
-        by ! (exits r is-r t (record { trail = tr; end = here t; ran = t .ran; over = h; answer = e; rows-left = refl; words-left = refl; marks-left = refl; few-bytes = omega (arith, room₀ .0); few-words = omega (arith, room₁ .0); few-rows = omega (arith, room₂ .0); short-trail = short-of room₄ })))
+        by ! (exits r is-r t (answered t h e)))
 
     turns : (t : Upon) → Sq W (At t) (runs C Λ En body.turn-1 (anyQ (After t)))
     turns t =
