@@ -18,9 +18,9 @@ use denote.Slice.{sliceVal, MutSlice, ShrSlice}
 use denote.Steps.{nothing}
 use denote.Triple.Spec.{tripleOf}
 use denote.Triple.Statement.{Contract}
-use Rattle.store.specs.declared.directory.Row.{Row}
-use Rattle.store.proofs.Slices.{at-list}
-use Rattle.store.proofs.directory.Row as R
+use Rattle.directory.specs.declared.Row.{Row}
+use Rattle.walks.proofs.Slices.{at-list}
+use Rattle.directory.proofs.Row as R
 use Rattle.best.proofs.answer.best as best
 
 -- the contract that is cited

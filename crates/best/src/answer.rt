@@ -2,14 +2,14 @@
 use crate::cost::claim_for;
 use crate::cost::judge;
 use checker::check;
+use directory::Row;
 use model::evaluate;
 use scope::BestAnswer;
-use store::directory::Row;
 ghost use mathlib.Core.Path.{_≡_};
 ghost use lib.ListN.{length, replicate};
 ghost use Rattle.scope.specs.Answers.{bestMeans};
 ghost use Rattle.scope.specs.Operations.{bestOf};
-ghost use Rattle.store.specs.Rows.{noRow};
+ghost use Rattle.directory.specs.Rows.{noRow};
 ghost use Rattle.claims.specs.Prepared.{lent};
 
 // A model's cost w, with the number of steps that show that nothing costs less; or the refusals of decoding, then those of a

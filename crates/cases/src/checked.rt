@@ -6,8 +6,8 @@ use crate::show::put;
 use crate::show::put_number;
 use crate::show::put_refusal;
 use claims::claim::Claim;
+use directory::Row;
 use scope::CheckAnswer;
-use store::directory::Row;
 ghost use Prim.Native.Nat.{_≤_};
 ghost use lib.ListN.{length};
 

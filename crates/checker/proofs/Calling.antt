@@ -20,9 +20,9 @@ use denote.Steps.{owned, nothing}
 use denote.Enum.Laws as EL
 use denote.Triple.Spec.{tripleOf}
 use denote.Triple.Statement.{Contract}
-use Rattle.store.specs.declared.directory.Row.{Row}
-use Rattle.store.proofs.Slices.{at-list}
-use Rattle.store.proofs.directory.Row as R
+use Rattle.directory.specs.declared.Row.{Row}
+use Rattle.walks.proofs.Slices.{at-list}
+use Rattle.directory.proofs.Row as R
 use Rattle.claims.specs.declared.claim.Claim.{Claim}
 use Rattle.checker.proofs.Values.{IsClaim}
 use Rattle.claims.proofs.claim.Claim as G

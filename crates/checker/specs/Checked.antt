@@ -8,9 +8,9 @@ use Rattle.scope.specs.Formula.{words}
 use Rattle.scope.specs.Answers.{checkMeans}
 use Rattle.scope.specs.declared.Refusal.{Refusal}
 use Rattle.scope.specs.declared.CheckAnswer.{CheckAnswer}
-use Rattle.store.specs.declared.directory.Row.{Row}
-use Rattle.store.specs.Marks.{marks-cleared}
-use Rattle.store.specs.Marked.{Built}
+use Rattle.directory.specs.declared.Row.{Row}
+use Rattle.marks.specs.Marks.{marks-cleared}
+use Rattle.directory.specs.Marked.{Built}
 use Rattle.run.specs.Turned.{outcome, drivenBy}
 use Rattle.run.proofs.Turning.{Few}
 use Rattle.run_meaning.specs.Meaning.{check-means}

@@ -2,17 +2,17 @@
 use claims::claim::Claim;
 use claims::prepare::Ready;
 use claims::prepare::prepare;
+use directory::Row;
+use directory::build_directory;
+use directory::clear_rows;
+use marks::clear_bytes;
 use run::drive::drive;
 use scope::CheckAnswer;
-use store::clauses::clear_words;
-use store::directory::Row;
-use store::directory::build_directory;
-use store::directory::clear_rows;
-use store::marks::clear_bytes;
+use standing::clear_words;
 ghost use mathlib.Core.Path.{_≡_};
 ghost use lib.ListN.{length, replicate};
 ghost use Rattle.scope.specs.Answers.{checkMeans};
-ghost use Rattle.store.specs.Rows.{noRow};
+ghost use Rattle.directory.specs.Rows.{noRow};
 ghost use Rattle.claims.specs.Prepared.{lent, asked};
 ghost use Rattle.checker.specs.Checked.{Follows};
 

@@ -22,9 +22,9 @@ use Rattle.sizing.specs.declared.Size.{Size}
 use Rattle.sizing.specs.Whole.{stored}
 use Rattle.sizes.specs.Measured.{sizedOf, size-then, boundedOf, bound-then, SizedBy, BoundedBy, RefusedBy}
 use Rattle.sink.specs.Run.{Ran, out, put}
-use Rattle.store.specs.Holding.{Good}
-use Rattle.store.specs.Built.{Each}
-use Rattle.store.specs.Marked.{mark, Plain}
+use Rattle.holding.specs.Holding.{Good}
+use Rattle.holding.specs.Built.{Each}
+use Rattle.directory.specs.Marked.{mark, Plain}
 use Rattle.run_meaning.specs.Meaning.{limits}
 use Rattle.claims.specs.declared.claim.Claim.{Claim}
 use Rattle.claims.specs.declared.prepare.Ready.{Ready}

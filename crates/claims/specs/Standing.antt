@@ -7,7 +7,7 @@ use lib.ListN.{length, drop}
 use Rattle.scope.specs.Formula.{words}
 use Rattle.sink.specs.Run.{Ran, Out, out, put, run-fits}
 use Rattle.sink.specs.Block.{mark}
-use Rattle.store.specs.Marked.{length-marks}
+use Rattle.directory.specs.Marked.{length-marks}
 
 -- where the words are long enough, the clauses stand from their start on
 pub stands : (f : List (List ℕ)) {ws ws′ : List ℕ} {b : ℕ} → Ran put (flatMap mark f) (out 0 ws) (out b ws′)

@@ -8,9 +8,9 @@ use Rattle.scope.specs.Formula.{variables, hardOf, boundedVariables, boundedHar
 use Rattle.theory.specs.Accepted.{ValidInstance}
 use Rattle.theory.specs.Order.{Proper}
 use Rattle.theory.specs.Literals.{formula-literals, bounded-literals}
-use Rattle.store.specs.Holding.{All, Good}
-use Rattle.store.specs.Built.{Each}
-use Rattle.store.specs.Marked.{Small, Plain}
+use Rattle.holding.specs.Holding.{All, Good}
+use Rattle.holding.specs.Built.{Each}
+use Rattle.directory.specs.Marked.{Small, Plain}
 use Rattle.claims.specs.NonEmpty.{NonEmpty, formula-nonempty, bounded-nonempty}
 
 -- of variables before m, which is at most 2 ^ 30

@@ -7,7 +7,7 @@ use lib.Dec.{eqb}
 use borrow.Author.Tests.{eqb-true, eqb-false}
 use Rattle.scope.specs.Parsed.{Parsed, got, refused}
 use Rattle.scope.specs.Number.{number}
-use Rattle.store.specs.declared.directory.Row.{Row}
+use Rattle.directory.specs.declared.Row.{Row}
 use Rattle.hints.specs.declared.machine.Phase.the-variants.{Next, Delete, Refused}
 use Rattle.hints.specs.declared.machine.Machine.{Machine}
 use Rattle.hints.specs.Machine.{stopped, onward, Advances, gone, broken, deletes}

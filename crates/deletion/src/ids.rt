@@ -1,4 +1,6 @@
 // The ids of a step that deletes.
+use directory::Row;
+use directory::is_dead;
 use hints::machine::Machine;
 use hints::machine::Phase;
 use hints::machine::step_on;
@@ -6,7 +8,6 @@ use hints::machine::stop;
 use number::Number;
 use scope::refusals::BAD_STEP;
 use scope::refusals::NOT_LIVE;
-use store::directory::Row;
 ghost use mathlib.Core.Path.{_≡_};
 ghost use Rattle.number.specs.Answers.{said};
 ghost use Rattle.deletion.specs.Passed.{passedId};
@@ -17,7 +18,7 @@ pub fn pass_id(m: Machine, row: Row, t: Number) -> Machine
     ensures { λ r. ⌜ r ≡ passedId (said t) m row ⌝ }
 {
     let at = m.at;
-    if row.live == 0 {
+    if is_dead(row) {
         return stop(Phase::Refused(NOT_LIVE), at);
     }
     let Number::Value(id, next) = t else {

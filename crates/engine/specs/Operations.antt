@@ -7,8 +7,8 @@ use Rattle.scope.specs.declared.InstanceSize.{InstanceSize}
 use Rattle.scope.specs.declared.FormulaSize.{FormulaSize}
 use Rattle.scope.specs.declared.Infeasibility.{Infeasibility}
 use Rattle.scope.specs.declared.Objective.{Objective}
-use Rattle.store.specs.declared.directory.Row.{Row}
-use Rattle.store.specs.Rows.{noRow}
+use Rattle.directory.specs.declared.Row.{Row}
+use Rattle.directory.specs.Rows.{noRow}
 use Rattle.scope.specs.Parsed.{Answer}
 use Rattle.calls.specs.Call.{Call, called}
 use Rattle.calls.specs.Outputs.{leavesAmounts, leavesCounts, leavesLength, leavesSameness, leavesSizes}

@@ -10,7 +10,7 @@ use Rattle.scope.specs.declared.TextAnswer.{TextAnswer}
 use Rattle.scope.specs.declared.Objective.{Objective}
 use Rattle.scope.specs.declared.CheckAnswer.{CheckAnswer}
 use Rattle.scope.specs.declared.BestAnswer.{BestAnswer}
-use Rattle.store.specs.declared.directory.Row.{Row}
+use Rattle.directory.specs.declared.Row.{Row}
 use Rattle.text.specs.Written.{written}
 use Rattle.calls.specs.Call.{Call, call, called, leaving, alone}
 use Rattle.engine.specs.Operations.{textCall, Stores, zeros, zeroRows, zeroed, stepsCall, leavesBoth}

@@ -1,7 +1,7 @@
 // The best model as a C function.
 use best::best;
 use calls::leave_best;
-use store::directory::Row;
+use directory::Row;
 ghost use mathlib.Core.Path.{_≡_};
 ghost use Rattle.calls.specs.Call.{call};
 ghost use Rattle.calls.specs.Outputs.{cost};

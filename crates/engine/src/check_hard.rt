@@ -2,7 +2,7 @@
 use calls::leave_steps;
 use checker::check;
 use claims::claim::Claim;
-use store::directory::Row;
+use directory::Row;
 ghost use mathlib.Core.Path.{_≡_};
 ghost use Rattle.calls.specs.Call.{call};
 ghost use Rattle.engine.specs.Operations.{checkHardCall};

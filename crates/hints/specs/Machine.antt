@@ -10,10 +10,10 @@ use borrow.Author.Tests.{eqb-true, eqb-false}
 use Rattle.scope.specs.Parsed.{Parsed, got, refused}
 use Rattle.scope.specs.Number.{number}
 use Rattle.theory.specs.Marked.{Standing, falsified, oneOpen, other, standing}
-use Rattle.store.specs.declared.directory.Row.{Row}
-use Rattle.store.specs.Marks.{marksOf, putMark}
-use Rattle.store.specs.Clauses.{Wiped, inClause, wiped, wiped-opens}
-use Rattle.store.specs.Live.{rowClause}
+use Rattle.directory.specs.declared.Row.{Row}
+use Rattle.marks.specs.Marks.{marksOf, putMark}
+use Rattle.standing.specs.Clauses.{Wiped, inClause, wiped, wiped-opens}
+use Rattle.directory.specs.Rows.{rowClause}
 use Rattle.trail.specs.Recorded.{recorded, recordedAt}
 use Rattle.hints.specs.declared.machine.Phase.{Phase}
 use Rattle.hints.specs.declared.machine.Phase.the-variants.{Next, Walk, Followed, Keep, Wipe, Delete, Proved, Refused}

@@ -1,20 +1,23 @@
 // The machine that judges a proof, id by id. It never sees the directory: it names the id that it wants, and is handed the
 // row that was found and the number that was read where it stands in the proof.
+use directory::Row;
+use directory::first_word;
+use directory::is_dead;
+use directory::word_count;
+use marks::put_mark;
 use number::Number;
 use reader::wide;
 use scope::refusals::BAD_HINT;
 use scope::refusals::BAD_STEP;
 use scope::refusals::NOT_LIVE;
-use store::clauses::Standing;
-use store::clauses::standing_of;
-use store::clauses::wipe_clause;
-use store::directory::Row;
-use store::marks::put_mark;
+use standing::Standing;
+use standing::standing_of;
+use standing::wipe_clause;
 use trail::record_literal;
 ghost use mathlib.Core.Path.{_≡_};
 ghost use Rattle.theory.specs.Marked.{standing, falsified};
-ghost use Rattle.store.specs.Marks.{marksOf};
-ghost use Rattle.store.specs.Live.{rowClause};
+ghost use Rattle.marks.specs.Marks.{marksOf};
+ghost use Rattle.directory.specs.Rows.{rowClause};
 ghost use lib.ListN.{length};
 ghost use Rattle.number.specs.Answers.{said};
 ghost use Rattle.hints.specs.Machine.{turnOf, stopped, onward, walked, walkedMarks, walkedTrail, advanced, advancedMarks, advancedTrail};
@@ -119,7 +122,7 @@ fn take_hint(
     ensures { λ r. ⌜ now (marks .exit) ≡ walkedMarks (standing (marksOf (now (marks .entry))) falsified (rowClause row (now (words .entry)))) (now (marks .entry)) ⌝ }
     ensures { λ r. ⌜ now (trail .exit) ≡ walkedTrail (standing (marksOf (now (marks .entry))) falsified (rowClause row (now (words .entry)))) set (now (trail .entry)) ⌝ }
 {
-    let s = standing_of(marks, words, row.first, row.len);
+    let s = standing_of(marks, words, first_word(row), word_count(row));
     match s {
         Standing::Falsified => {
             if id == 0 {
@@ -158,7 +161,7 @@ pub fn advance(
     ensures { λ _. ⌜ now (trail .exit) ≡ advancedTrail (said t) m row (now (words .entry)) (now (marks .entry)) (now (trail .entry)) ⌝ }
 {
     let at = m.at;
-    if row.live == 0 {
+    if is_dead(row) {
         return stop(Phase::Refused(NOT_LIVE), at);
     }
     let Number::Value(id, next) = t else {
@@ -168,7 +171,7 @@ pub fn advance(
     match phase {
         Phase::Walk => take_hint(row, id, next, m.set, words, marks, trail),
         Phase::Wipe => {
-            wipe_clause(marks, words, row.first, row.len);
+            wipe_clause(marks, words, first_word(row), word_count(row));
             step_on(Phase::Wipe, Phase::Next, id, next, 0)
         }
         Phase::Delete => m,

@@ -28,8 +28,8 @@ use Rattle.scope.specs.Number.{number as number-of}
 use Rattle.number.specs.Answers.{said}
 use Rattle.number.specs.declared.Number.{Number}
 use Rattle.number.proofs.Number.Laws as S′
-use Rattle.store.proofs.Slices.{Bytes, slice}
-use Rattle.store.proofs.Calls.{calls-to, calls-to-last}
+use Rattle.walks.proofs.Slices.{Bytes, slice}
+use Rattle.walks.proofs.Calls.{calls-to, calls-to-last}
 use Rattle.reader.specs.declared.Reader.{Reader}
 use Rattle.reader.proofs.Reader.Laws as D′
 use Rattle.reader.proofs.Readers.{reader-same, at-place, placed, Held, together, IsNumber, number-same}

@@ -26,7 +26,7 @@ use denote.Signature.{namedLft}
 use denote.Steps.{only, owned, nothing}
 use denote.Struct.Laws as LL
 use denote.Struct.Rest.{all-own, ownAt, rest, own-open, own-out, own-shut}
-use Rattle.store.proofs.Slices.{Bytes}
+use Rattle.walks.proofs.Slices.{Bytes}
 use Rattle.reader.specs.declared.Reader.{Reader}
 use Rattle.reader.proofs.Reader as D
 use Rattle.reader.proofs.Reader.Laws as D′

@@ -8,7 +8,7 @@ use Rattle.theory.specs.StepTokens as steps
 use Rattle.scope.specs.Steps.{Step, add, delete}
 use Rattle.theory.specs.StepTokens.{Tokens, tokens, upTo0, numbers, read}
 use Rattle.theory.specs.Marked.{allOpen, allFalse, literalsOk, wellFormed}
-use Rattle.store.specs.Marks.{marksOf}
+use Rattle.marks.specs.Marks.{marksOf}
 use Rattle.passing.specs.declared.numbers.Numbers.{Numbers}
 use Rattle.passing.specs.declared.numbers.Numbers.the-variants.{End, Cut}
 use Rattle.spelling.specs.declared.literals.Literals.{Literals}

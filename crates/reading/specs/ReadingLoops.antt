@@ -9,7 +9,7 @@ use lib.ListN.{length}
 use borrow.Author.Tests.{eqb-true, eqb-false}
 use Rattle.scope.specs.Parsed.{Parsed, got, refused}
 use Rattle.scope.specs.Number.{number}
-use Rattle.store.specs.Marks.{marksOf, putMark}
+use Rattle.marks.specs.Marks.{marksOf, putMark}
 use Rattle.passing.specs.declared.numbers.Numbers.the-variants.{End, Cut}
 use Rattle.passing.specs.declared.numbers.Passing.{Passing}
 use Rattle.spelling.specs.declared.literals.Spelling.{Spelling}

@@ -11,7 +11,7 @@ use Rattle.scope.specs.Parsed.{got, refused}
 use Rattle.scope.specs.Number.{number}
 use Rattle.theory.specs.StepTokens.{before}
 use Rattle.theory.specs.Marked.{makeFalse, allFalse, literalsOk}
-use Rattle.store.specs.Marks.{marksOf, putMark, mark-put, put-length}
+use Rattle.marks.specs.Marks.{marksOf, putMark, mark-put, put-length}
 use Rattle.laws.specs.Booleans.{impossible, and-true}
 use Rattle.theory.specs.Tokens.{tokens-got}
 use Rattle.passing.specs.declared.numbers.Numbers.{Numbers}

@@ -13,7 +13,7 @@ use Rattle.theory.specs.StepTokens as steps
 use Rattle.scope.specs.Steps.{Step, add}
 use Rattle.theory.specs.StepTokens.{Tokens, stop, bad, upTo0, numbers, StepRead, read, misread, readHints, readLiterals, readAdd, readDelete, readStep}
 use Rattle.theory.specs.Marked.{allFalse, literalsOk, wellFormed}
-use Rattle.store.specs.Marks.{marksOf}
+use Rattle.marks.specs.Marks.{marksOf}
 use Rattle.laws.specs.Booleans.{impossible}
 use Rattle.theory.specs.Tokens.{tokens-got, tokens-bad, tokens-stop}
 use Rattle.passing.specs.declared.numbers.Numbers.{Numbers}

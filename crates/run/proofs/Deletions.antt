@@ -8,8 +8,8 @@ use lib.Dec.{eqb}
 use lib.ListN.{length}
 use Rattle.scope.specs.Parsed.{Parsed, got, refused}
 use Rattle.scope.specs.Number.{number}
-use Rattle.store.specs.declared.directory.Row.{Row}
-use Rattle.store.specs.Directory.{lookUp}
+use Rattle.directory.specs.declared.Row.{Row}
+use Rattle.lookup.specs.Lookup.{lookUp}
 use Rattle.reader.proofs.Loops.{nearer}
 use Rattle.hints.specs.declared.machine.Phase.the-variants.{Refused}
 use Rattle.hints.specs.declared.machine.Machine.{Machine}

@@ -8,11 +8,11 @@ use lib.ListN.{length, getD, length-set}
 use Rattle.scope.specs.Parsed.{Parsed, got, refused}
 use Rattle.scope.specs.Number.{number}
 use Rattle.theory.specs.Marked.{Standing, falsified, oneOpen, other}
-use Rattle.store.specs.declared.directory.Row.{Row}
-use Rattle.store.specs.Marks.{marksOf, putMark, put-length}
-use Rattle.store.specs.Clauses.{part, wiped}
-use Rattle.store.specs.Live.{rowClause}
-use Rattle.store.specs.Directory.{lookUp}
+use Rattle.directory.specs.declared.Row.{Row}
+use Rattle.marks.specs.Marks.{marksOf, putMark, put-length}
+use Rattle.standing.specs.Clauses.{part, wiped}
+use Rattle.directory.specs.Rows.{rowClause}
+use Rattle.lookup.specs.Lookup.{lookUp}
 use Rattle.reader.specs.Loop.{whileMore}
 use Rattle.passing.specs.declared.numbers.Numbers.{Numbers}
 use Rattle.passing.specs.declared.numbers.Numbers.the-variants.{End, Cut}

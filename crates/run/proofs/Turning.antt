@@ -8,9 +8,10 @@ use lib.Dec.{eqb, ltb}
 use lib.ListN.{length, length-replicate}
 use borrow.Author.Tests.{lt-ltb, ltb-true, ltb-false, eqb-true, eqb-false}
 use Rattle.scope.specs.declared.CheckAnswer.{CheckAnswer}
-use Rattle.store.specs.declared.directory.Row.{Row}
-use Rattle.store.specs.Directory.{rowsOf, lookUp, withDead, dies-at, appends-at}
-use Rattle.store.proofs.Search.{finds}
+use Rattle.directory.specs.declared.Row.{Row}
+use Rattle.directory.specs.Directory.{rowsOf, withDead, dies-at, appends-at}
+use Rattle.lookup.specs.Lookup.{lookUp}
+use Rattle.lookup.proofs.Search.{finds}
 use Rattle.reader.specs.Loop.{whileMore}
 use Rattle.reader.proofs.Loops.{Left, left-more}
 use Rattle.reading.specs.Copying.{copies-at}

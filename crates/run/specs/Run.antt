@@ -4,9 +4,10 @@ use mathlib.Core.List.{List}
 use Prim.Native.Nat.{ℕ, _≤_, _<_}
 use lib.ListN.{length}
 use Rattle.scope.specs.declared.CheckAnswer.{CheckAnswer}
-use Rattle.store.specs.declared.directory.Row.{Row}
-use Rattle.store.specs.declared.directory.Probe.{Probe}
-use Rattle.store.specs.Rows.{Finds, Dies, Appends}
+use Rattle.directory.specs.declared.Row.{Row}
+use Rattle.lookup.specs.declared.Probe.{Probe}
+use Rattle.directory.specs.Rows.{Dies, Appends}
+use Rattle.lookup.specs.Lookup.{Finds}
 use Rattle.hints.specs.declared.machine.Phase.the-variants.{Next}
 use Rattle.hints.specs.declared.machine.Machine.{Machine}
 use Rattle.turns.specs.declared.check.Check.{Check}

@@ -12,7 +12,7 @@ use Rattle.scope.specs.Number.{number}
 use Rattle.theory.specs.StepTokens.{StepRead}
 use Rattle.theory.specs.Marked.{Standing, falsified, oneOpen, other}
 use Rattle.number.specs.Laws.{number-got}
-use Rattle.store.specs.declared.directory.Row.{Row}
+use Rattle.directory.specs.declared.Row.{Row}
 use Rattle.hints.specs.declared.machine.Phase.{Phase}
 use Rattle.hints.specs.declared.machine.Phase.the-variants.{Next, Walk, Followed, Keep, Wipe, Delete, Proved, Refused}
 use Rattle.hints.specs.declared.machine.Machine.{Machine}

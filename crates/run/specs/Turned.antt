@@ -7,9 +7,10 @@ use lib.Dec.{eqb, ltb}
 use lib.ListN.{length, set, replicate}
 use Rattle.scope.specs.Number.{number}
 use Rattle.scope.specs.declared.CheckAnswer.{CheckAnswer}
-use Rattle.store.specs.declared.directory.Row.{Row}
-use Rattle.store.specs.declared.directory.Probe.{Probe}
-use Rattle.store.specs.Directory.{lookUp, withDead}
+use Rattle.directory.specs.declared.Row.{Row}
+use Rattle.lookup.specs.declared.Probe.{Probe}
+use Rattle.directory.specs.Directory.{withDead}
+use Rattle.lookup.specs.Lookup.{lookUp}
 use Rattle.reader.specs.Loop.{whileMore}
 use Rattle.copying.specs.Copies.{copiedAt}
 use Rattle.hints.specs.declared.machine.Phase.{Phase}

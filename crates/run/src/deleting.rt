@@ -1,14 +1,14 @@
 // The loop that deletes the ids of a step: each is looked up, and its row is marked dead.
 use deletion::ids::pass_id;
+use directory::Row;
+use directory::mark_dead;
 use hints::machine::DELETE;
 use hints::machine::Machine;
 use hints::machine::turn_of;
+use lookup::find;
 use reader::moved;
 use reader::over;
 use reader::read_number;
-use store::directory::Row;
-use store::directory::find;
-use store::directory::mark_dead;
 ghost use mathlib.Core.Path.{_≡_};
 ghost use Rattle.run.specs.Turned.{deletion, idsDeleted};
 

@@ -1,6 +1,8 @@
 // The loop that drives a check. It lends the directory: to look up the ids that the machine wants, to delete ids, and to append the
 // clauses that are kept.
 use crate::deleting::delete_ids;
+use directory::Row;
+use directory::append;
 use hints::machine::DELETE;
 use hints::machine::JUDGE;
 use hints::machine::KEEP;
@@ -11,6 +13,7 @@ use hints::machine::READ;
 use hints::machine::advance;
 use hints::machine::stop;
 use hints::machine::turn_of;
+use lookup::find;
 use phases::next::answer;
 use phases::next::enter;
 use phases::next::proceed;
@@ -18,9 +21,6 @@ use reader::moved;
 use reader::over;
 use reader::read_number;
 use scope::CheckAnswer;
-use store::directory::Row;
-use store::directory::append;
-use store::directory::find;
 use taking::step::next_step;
 use turns::check::begin;
 use turns::check::judge;

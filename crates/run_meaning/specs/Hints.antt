@@ -8,8 +8,8 @@ use lib.Dec.{leb, eqb}
 use borrow.Author.Tests.{leb-true, eq-eqb, ne-eqb, eqb-false}
 use Rattle.scope.specs.Steps.{Live}
 use Rattle.theory.specs.Marked.{Marks, makeFalse, allFalse, literalsOk, falsified, oneOpen, standing}
-use Rattle.store.specs.Clauses.{inClause}
-use Rattle.store.specs.Holding.{All, Good, open-in}
+use Rattle.standing.specs.Clauses.{inClause}
+use Rattle.holding.specs.Holding.{All, Good, open-in}
 use Rattle.laws.specs.Booleans.{and-true, or-false}
 
 -- a variable stands in the clause of an id, in those of some ids

@@ -10,11 +10,11 @@ use Rattle.theory.specs.StepTokens.{Tokens, upTo0}
 use Rattle.theory.specs.Marked.{allOpen, allFalse, literalsOk, hintsShow}
 use Rattle.scope.specs.PlainRun.{State, Limits, withClause}
 use Rattle.theory.specs.MarkedRun.{Outcome, byShown, byDeleted, byOutcome, run}
-use Rattle.store.specs.declared.directory.Row.{Row}
-use Rattle.store.specs.Marks.{marksOf}
-use Rattle.store.specs.Clauses.{part, inClause}
-use Rattle.store.specs.Live.{liveRows}
-use Rattle.store.specs.Holding.{Holding}
+use Rattle.directory.specs.declared.Row.{Row}
+use Rattle.marks.specs.Marks.{marksOf}
+use Rattle.standing.specs.Clauses.{part, inClause}
+use Rattle.holding.specs.Live.{liveRows}
+use Rattle.holding.specs.Holding.{Holding}
 use Rattle.hints.specs.declared.machine.Phase.{Phase}
 use Rattle.hints.specs.declared.machine.Phase.the-variants.{Next, Walk, Followed, Keep, Wipe, Delete, Proved, Refused}
 use Rattle.hints.specs.declared.machine.Machine.{Machine}

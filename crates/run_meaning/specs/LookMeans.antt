@@ -16,10 +16,10 @@ use Rattle.theory.specs.Marked.{allOpen, allFalse, Marks, makeTrue, Standing, s
 use Rattle.scope.specs.PlainRun.{Limits}
 use Rattle.theory.specs.MarkedRun.{byShown}
 use Rattle.number.specs.Laws.{number-got}
-use Rattle.store.specs.declared.directory.Row.{Row}
-use Rattle.store.specs.Marks.{marksOf, putMark, mark-put, put-length}
-use Rattle.store.specs.Clauses.{part, inClause, Wiped}
-use Rattle.store.specs.Holding.{All, Good, open-in}
+use Rattle.directory.specs.declared.Row.{Row}
+use Rattle.marks.specs.Marks.{marksOf, putMark, mark-put, put-length}
+use Rattle.standing.specs.Clauses.{part, inClause, Wiped}
+use Rattle.holding.specs.Holding.{All, Good, open-in}
 use Rattle.laws.specs.Booleans.{impossible, or-false}
 use Rattle.hints.specs.declared.machine.Phase.the-variants.{Next, Walk, Wipe, Refused}
 use Rattle.turns.specs.declared.check.Check.{Check}

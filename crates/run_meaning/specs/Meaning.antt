@@ -15,15 +15,16 @@ use Rattle.theory.specs.MarkedRun.{run, plainRun}
 use Rattle.theory.specs.SameRun.{plain-marked}
 use Rattle.scope.specs.Answers.{checkMeans}
 use Rattle.scope.specs.declared.CheckAnswer.{CheckAnswer}
-use Rattle.store.specs.declared.directory.Row.{Row}
-use Rattle.store.specs.declared.directory.Probe.{Probe}
-use Rattle.store.specs.Marks.{marksOf}
-use Rattle.store.specs.Rows.{Found, hit, miss, Finds, Dies}
-use Rattle.store.specs.Live.{held, rowClause, liveRows, live-found}
-use Rattle.store.specs.Holding.{Holding, Good, found-good}
-use Rattle.store.specs.Marked.{mark, Plain, BuiltFor, Built}
-use Rattle.store.specs.Built.{Each, built-for, built-holding, built-live}
-use Rattle.store.specs.Directory.{rowsOf}
+use Rattle.directory.specs.declared.Row.{Row}
+use Rattle.lookup.specs.declared.Probe.{Probe}
+use Rattle.marks.specs.Marks.{marksOf}
+use Rattle.directory.specs.Rows.{Dies, rowClause}
+use Rattle.lookup.specs.Lookup.{Found, hit, miss, Finds}
+use Rattle.holding.specs.Live.{held, liveRows, live-found}
+use Rattle.holding.specs.Holding.{Holding, Good, found-good}
+use Rattle.directory.specs.Marked.{mark, Plain, BuiltFor, Built}
+use Rattle.holding.specs.Built.{Each, built-for, built-holding, built-live}
+use Rattle.directory.specs.Directory.{rowsOf}
 use Rattle.laws.specs.Booleans.{impossible}
 use Rattle.hints.specs.declared.machine.Phase.{Phase}
 use Rattle.hints.specs.declared.machine.Phase.the-variants.{Next, Walk, Followed, Keep, Wipe, Delete, Proved, Refused}

@@ -17,8 +17,8 @@ use Rattle.theory.specs.Marked.{wellFormed, allOpen, hintsShow}
 use Rattle.scope.specs.PlainRun.{State, Limits}
 use Rattle.theory.specs.MarkedRun.{perform, byShown, byDeleted, byRead, run}
 use Rattle.number.specs.Laws.{number-got}
-use Rattle.store.specs.declared.directory.Row.{Row}
-use Rattle.store.specs.Marks.{marksOf}
+use Rattle.directory.specs.declared.Row.{Row}
+use Rattle.marks.specs.Marks.{marksOf}
 use Rattle.laws.specs.Booleans.{impossible, and-true}
 use Rattle.theory.specs.Tokens.{tokens-stop}
 use Rattle.steps.specs.declared.step.Clause.{Clause}

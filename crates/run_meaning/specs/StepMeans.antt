@@ -19,12 +19,12 @@ use Rattle.theory.specs.MarkedRun as plain
 use Rattle.scope.specs.PlainRun.{State, Limits, withClause, fits}
 use Rattle.theory.specs.MarkedRun.{byShown, byDeleted, atEnd, run}
 use Rattle.number.specs.Laws.{number-got}
-use Rattle.store.specs.declared.directory.Row.{Row}
-use Rattle.store.specs.Marks.{marksOf}
-use Rattle.store.specs.Clauses.{part, inClause, wiped, wiped-opens}
-use Rattle.store.specs.Rows.{dying}
-use Rattle.store.specs.Live.{liveRows, live-dead, put-same, put-other}
-use Rattle.store.specs.Holding.{All, Good, Holding, part-stored, holding-kept, live-kept, id-free, holding-dead}
+use Rattle.directory.specs.declared.Row.{Row}
+use Rattle.marks.specs.Marks.{marksOf}
+use Rattle.standing.specs.Clauses.{part, inClause, wiped, wiped-opens}
+use Rattle.directory.specs.Rows.{dying}
+use Rattle.holding.specs.Live.{liveRows, live-dead, put-same, put-other}
+use Rattle.holding.specs.Holding.{All, Good, Holding, part-stored, holding-kept, live-kept, id-free, holding-dead}
 use Rattle.laws.specs.Booleans.{impossible, and-true, or-false}
 use Rattle.theory.specs.Tokens.{tokens-stop}
 use Rattle.hints.specs.declared.machine.Phase.{Phase}

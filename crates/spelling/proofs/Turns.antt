@@ -9,7 +9,7 @@ use lib.ListN.{length}
 use Rattle.scope.specs.Parsed.{Parsed, got, refused}
 use Rattle.scope.specs.Number.{number}
 use Rattle.number.specs.Laws.{number-got}
-use Rattle.store.specs.Marks.{marksOf}
+use Rattle.marks.specs.Marks.{marksOf}
 use Rattle.reader.proofs.Loops.{either, nearer}
 use Rattle.spelling.specs.declared.literals.Spelling.{Spelling}
 use Rattle.spelling.specs.declared.literals.Literals.the-variants as literals

@@ -7,7 +7,7 @@ use lib.ListN.{length}
 use Rattle.scope.specs.Parsed.{Parsed, got, refused}
 use Rattle.scope.specs.Number.{number}
 use Rattle.theory.specs.Marked.{Marks}
-use Rattle.store.specs.Marks.{marksOf, putMark}
+use Rattle.marks.specs.Marks.{marksOf, putMark}
 use Rattle.reader.specs.Loop.{whileMore}
 use Rattle.spelling.specs.declared.literals.Literals.{Literals}
 use Rattle.spelling.specs.declared.literals.Literals.the-variants as literals

@@ -1,15 +1,15 @@
 // The literals of a new clause are read, and made false.
+use marks::mark_of;
+use marks::put_mark;
 use number::Number;
 use reader::moved;
 use reader::over;
 use reader::read_number;
 use reader::wide;
-use store::marks::mark_of;
-use store::marks::put_mark;
 ghost use mathlib.Core.Path.{_≡_};
 ghost use mathlib.Core.Bool.{cond};
 ghost use Prim.Native.Nat.{_/_, _%_, _-_, _<_};
-ghost use Rattle.store.specs.Marks.{marksOf, putMark};
+ghost use Rattle.marks.specs.Marks.{marksOf, putMark};
 ghost use Rattle.number.specs.Answers.{said};
 ghost use Rattle.spelling.specs.Spelt.{literalOk, spelling, spelt, speltBy, speltMarks, literalsAt};
 

@@ -9,8 +9,9 @@ use Rattle.scope.specs.Parsed.{Parsed, got, refused}
 use Rattle.scope.specs.Number.{number}
 use Rattle.theory.specs.StepTokens.{readStep}
 use Rattle.scope.specs.declared.CheckAnswer.{CheckAnswer}
-use Rattle.store.specs.declared.directory.Row.{Row}
-use Rattle.store.specs.Clauses.{part, wiped}
+use Rattle.directory.specs.declared.Row.{Row}
+use Rattle.directory.specs.Rows.{newRow}
+use Rattle.standing.specs.Clauses.{part, wiped}
 use Rattle.steps.specs.declared.step.Read.{Read}
 use Rattle.steps.specs.declared.step.Read.the-variants.{Adds, Deletes, Misformed}
 use Rattle.hints.specs.declared.machine.Phase.{Phase}
@@ -47,7 +48,7 @@ judged c at bytes words rows = withPhase c (verdict c at bytes words rows)
 
 -- the row of the clause at hand
 abbrev pub rowOf : Check → Row
-rowOf c = record { id = c .clause .id; first = c .tally .words; len = c .clause .size; live = 1 }
+rowOf c = newRow (c .clause .id) (c .tally .words) (c .clause .size)
 
 -- the clause at hand was stored, and is counted
 abbrev pub keptAs : Check → Check

@@ -1,10 +1,11 @@
 // A check between two walks over ids: what is counted, and the clause at hand.
 use copying::literals::copy_literals;
+use directory::Row;
+use directory::new_row;
 use hints::machine::Phase;
 use scope::refusals::BAD_END;
 use scope::refusals::CLAUSE_TOO_LONG;
 use steps::step::Clause;
-use store::directory::Row;
 ghost use mathlib.Core.Path.{_≡_};
 ghost use Prim.Native.Nat.{_+_, min};
 ghost use Rattle.copying.specs.Copies.{copiedAt};
@@ -102,12 +103,7 @@ pub fn row_of(c: Check) -> Row
 {
     let clause = c.clause;
     let tally = c.tally;
-    Row {
-        id: clause.id,
-        first: tally.words,
-        len: clause.size,
-        live: 1,
-    }
+    new_row(clause.id, tally.words, clause.size)
 }
 
 // The clause at hand is stored, and counted.

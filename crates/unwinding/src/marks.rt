@@ -2,7 +2,7 @@
 use hints::machine::Machine;
 use hints::machine::Phase;
 use hints::machine::stop;
-use store::clauses::wipe_clause;
+use standing::wipe_clause;
 use turns::check::Check;
 ghost use mathlib.Core.Path.{_≡_};
 ghost use Prim.Native.Nat.{_-_};

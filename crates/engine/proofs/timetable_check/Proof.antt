@@ -42,11 +42,11 @@ use Rattle.scope.specs.Operations.{checkOf}
 use Rattle.scope.specs.declared.CheckAnswer.{CheckAnswer}
 use Rattle.scope.proofs.CheckAnswer as S
 use Rattle.scope.proofs.CheckAnswer.Laws as S′
-use Rattle.store.specs.declared.directory.Row.{Row}
-use Rattle.store.proofs.Walk.{rotate, allocs-all, frees-all, var, part, fills}
-use Rattle.store.proofs.Slices.{at-list, Whole, lent, back}
-use Rattle.store.proofs.Calls.{uint-same, both-said, and-said, calls-to}
-use Rattle.store.proofs.directory.Row as R
+use Rattle.directory.specs.declared.Row.{Row}
+use Rattle.walks.proofs.Walk.{rotate, allocs-all, frees-all, var, part, fills}
+use Rattle.walks.proofs.Slices.{at-list, Whole, lent, back}
+use Rattle.walks.proofs.Calls.{uint-same, both-said, and-said, calls-to}
+use Rattle.directory.proofs.Row as R
 use Rattle.claims.specs.declared.claim.Claim.{Claim}
 use Rattle.claims.proofs.claim.Claim as G
 use Rattle.claims.proofs.claim.Claim.Laws as G′

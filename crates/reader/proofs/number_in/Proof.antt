@@ -42,9 +42,9 @@ use Rattle.number.specs.Answers.{said}
 use Rattle.number.specs.declared.Number.{Number}
 use Rattle.number.proofs.Number as S
 use Rattle.number.proofs.Number.Laws as S′
-use Rattle.store.proofs.Walk.{rotate, dropped, allocs-all, frees-all, var}
-use Rattle.store.proofs.Slices.{at-list, Bytes}
-use Rattle.store.proofs.Calls.{calls-to}
+use Rattle.walks.proofs.Walk.{rotate, dropped, allocs-all, frees-all, var}
+use Rattle.walks.proofs.Slices.{at-list, Bytes}
+use Rattle.walks.proofs.Calls.{calls-to}
 use Rattle.reader.specs.declared.Reader.{Reader}
 use Rattle.reader.proofs.Readers.{reader-same, place-fits, Held, together}
 use Rattle.reader.proofs.Reader as D

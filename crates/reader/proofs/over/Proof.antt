@@ -36,8 +36,8 @@ use denote.Signature.{shrSliceOf}
 use denote.Enum.Laws as EL
 use Rattle.number.proofs.Number as S
 use Rattle.number.proofs.Number.Laws as S′
-use Rattle.store.proofs.Walk.{dropped, allocs-all, frees-all, var, fills}
-use Rattle.store.proofs.Slices.{at-list, Bytes}
+use Rattle.walks.proofs.Walk.{dropped, allocs-all, frees-all, var, fills}
+use Rattle.walks.proofs.Slices.{at-list, Bytes}
 use Rattle.reader.specs.declared.Reader.{Reader}
 use Rattle.reader.proofs.Readers.{together}
 use Rattle.reader.proofs.Reader as D

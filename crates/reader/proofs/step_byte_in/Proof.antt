@@ -39,9 +39,9 @@ use denote.Signature.{shrSliceOf}
 use denote.Enum.Laws as EL
 use Rattle.number.proofs.Number as S
 use Rattle.number.proofs.Number.Laws as S′
-use Rattle.store.proofs.Walk.{rotate, dropped, allocs-all, frees-all, var}
-use Rattle.store.proofs.Slices.{at-list, Bytes}
-use Rattle.store.proofs.Calls.{uint-same, calls-to}
+use Rattle.walks.proofs.Walk.{rotate, dropped, allocs-all, frees-all, var}
+use Rattle.walks.proofs.Slices.{at-list, Bytes}
+use Rattle.walks.proofs.Calls.{uint-same, calls-to}
 use Rattle.reader.specs.declared.Reader.{Reader}
 use Rattle.reader.proofs.Readers.{reader-same, place-fits, Held, together}
 use Rattle.reader.proofs.Reader as D

@@ -42,12 +42,12 @@ use Rattle.scope.proofs.CheckAnswer as S
 use Rattle.scope.proofs.CheckAnswer.Laws as S′
 use Rattle.scope.proofs.BestAnswer as B
 use Rattle.scope.proofs.BestAnswer.Laws as B′
-use Rattle.store.specs.declared.directory.Row.{Row}
-use Rattle.store.specs.Rows.{noRow}
-use Rattle.store.proofs.Walk.{rotate, allocs-all, frees-all, var, part, fills}
-use Rattle.store.proofs.Slices.{at-list, Whole, lent, back}
-use Rattle.store.proofs.Calls.{both-said, and-said, calls-to, told, says-all}
-use Rattle.store.proofs.directory.Row as R
+use Rattle.directory.specs.declared.Row.{Row}
+use Rattle.directory.specs.Rows.{noRow}
+use Rattle.walks.proofs.Walk.{rotate, allocs-all, frees-all, var, part, fills}
+use Rattle.walks.proofs.Slices.{at-list, Whole, lent, back}
+use Rattle.walks.proofs.Calls.{both-said, and-said, calls-to, told, says-all}
+use Rattle.directory.proofs.Row as R
 use Rattle.model.specs.declared.operations.Evaluation.{Evaluation}
 use Rattle.model.specs.Answers.{EvaluatedAs}
 use Rattle.model.proofs.Values.{IsEvaluation, evaluation-same}

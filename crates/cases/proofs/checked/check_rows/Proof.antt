@@ -39,13 +39,13 @@ use denote.Exit.{yes}
 use Rattle.scope.specs.declared.CheckAnswer.{CheckAnswer}
 use Rattle.scope.proofs.CheckAnswer as S
 use Rattle.scope.proofs.CheckAnswer.Laws as S′
-use Rattle.store.specs.declared.directory.Row.{Row}
-use Rattle.store.proofs.Walk.{ty-at, Addrs, addr-at, rotate, allocs-all, frees-all, var, part, fills}
-use Rattle.store.proofs.Slices.{at-list, Whole, lent, back}
-use Rattle.store.proofs.Calls.{calls-to, says-all}
-use Rattle.store.proofs.Elements.{IsRow, row-typed}
-use Rattle.store.proofs.directory.Row as R
-use Rattle.store.proofs.directory.Row.Laws as R′
+use Rattle.directory.specs.declared.Row.{Row}
+use Rattle.walks.proofs.Walk.{ty-at, Addrs, addr-at, rotate, allocs-all, frees-all, var, part, fills}
+use Rattle.walks.proofs.Slices.{at-list, Whole, lent, back}
+use Rattle.walks.proofs.Calls.{calls-to, says-all}
+use Rattle.directory.proofs.Elements.{IsRow, row-typed}
+use Rattle.directory.proofs.Row as R
+use Rattle.directory.proofs.Row.Laws as R′
 use lib.Dec.{lit<}
 use lib.Seq.{length-take-le}
 use types.Tokens.{lft-new, lft-end}

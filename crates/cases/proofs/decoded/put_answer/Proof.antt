@@ -37,9 +37,9 @@ use denote.Triple.Walked.{Stays, stay-dropped, walkOf, goes-dropped, ends-at, wa
 use denote.Exit.{yes}
 use Rattle.scope.proofs.DecodeAnswer as S
 use Rattle.scope.proofs.DecodeAnswer.Laws as S′
-use Rattle.store.proofs.Walk.{rotate, dropped, allocs-all, frees-all, var, part, fills}
-use Rattle.store.proofs.Slices.{slice, Bytes, IsSlice}
-use Rattle.store.proofs.Calls.{unit-same, calls-to, calls-giving}
+use Rattle.walks.proofs.Walk.{rotate, dropped, allocs-all, frees-all, var, part, fills}
+use Rattle.walks.proofs.Slices.{slice, Bytes, IsSlice}
+use Rattle.walks.proofs.Calls.{unit-same, calls-to, calls-giving}
 use Rattle.model.specs.declared.operations.Decoding.{Decoding}
 use Rattle.model.proofs.Values.{answer-val, IsAnswer}
 use Rattle.model.proofs.operations.Decoding as D

@@ -40,24 +40,24 @@ use Rattle.scope.specs.Answers.{checkMeans}
 use Rattle.scope.specs.declared.CheckAnswer.{CheckAnswer}
 use Rattle.scope.proofs.CheckAnswer as S
 use Rattle.scope.proofs.CheckAnswer.Laws as S′
-use Rattle.store.specs.declared.directory.Row.{Row}
-use Rattle.store.specs.Rows.{noRow}
-use Rattle.store.proofs.Walk.{ty-at, Addrs, addr-at, rotate, allocs-all, frees-all, var, part, fills}
-use Rattle.store.proofs.Slices.{at-list, Whole, lent, back}
-use Rattle.store.proofs.Calls.{unit-same, both-said, told, says-all, calls-to}
-use Rattle.store.proofs.directory.Row as R
-use Rattle.store.proofs.clauses.clear_words as clear-words
-use Rattle.store.proofs.clauses.clear_words.Symbol as clear-words-def
-use Rattle.store.proofs.clauses.clear_words.Symbol.{name as #clear-words}
-use Rattle.store.proofs.clauses.clear_words.Met as clear-words-thm
-use Rattle.store.proofs.directory.clear_rows as clear-rows
-use Rattle.store.proofs.directory.clear_rows.Symbol as clear-rows-def
-use Rattle.store.proofs.directory.clear_rows.Symbol.{name as #clear-rows}
-use Rattle.store.proofs.directory.clear_rows.Met as clear-rows-thm
-use Rattle.store.proofs.marks.clear_bytes as clear-bytes
-use Rattle.store.proofs.marks.clear_bytes.Symbol as clear-bytes-def
-use Rattle.store.proofs.marks.clear_bytes.Symbol.{name as #clear-bytes}
-use Rattle.store.proofs.marks.clear_bytes.Met as clear-bytes-thm
+use Rattle.directory.specs.declared.Row.{Row}
+use Rattle.directory.specs.Rows.{noRow}
+use Rattle.walks.proofs.Walk.{ty-at, Addrs, addr-at, rotate, allocs-all, frees-all, var, part, fills}
+use Rattle.walks.proofs.Slices.{at-list, Whole, lent, back}
+use Rattle.walks.proofs.Calls.{unit-same, both-said, told, says-all, calls-to}
+use Rattle.directory.proofs.Row as R
+use Rattle.standing.proofs.clear_words as clear-words
+use Rattle.standing.proofs.clear_words.Symbol as clear-words-def
+use Rattle.standing.proofs.clear_words.Symbol.{name as #clear-words}
+use Rattle.standing.proofs.clear_words.Met as clear-words-thm
+use Rattle.directory.proofs.clear_rows as clear-rows
+use Rattle.directory.proofs.clear_rows.Symbol as clear-rows-def
+use Rattle.directory.proofs.clear_rows.Symbol.{name as #clear-rows}
+use Rattle.directory.proofs.clear_rows.Met as clear-rows-thm
+use Rattle.marks.proofs.clear_bytes as clear-bytes
+use Rattle.marks.proofs.clear_bytes.Symbol as clear-bytes-def
+use Rattle.marks.proofs.clear_bytes.Symbol.{name as #clear-bytes}
+use Rattle.marks.proofs.clear_bytes.Met as clear-bytes-thm
 use Rattle.claims.proofs.prepare.prepare as prepare
 use Rattle.claims.proofs.prepare.prepare.Symbol as prepare-def
 use Rattle.claims.proofs.prepare.prepare.Symbol.{name as #prepare}
@@ -344,7 +344,7 @@ check-spec 𝓤 H 𝓜 𝓖 𝓡 =
     (record {
       prepare = cited 𝓤 H (prepare-to 𝓤 H (𝓖 .A) (𝓜 .mem) (𝓡 .run)) 𝓜 𝓡 code.env #prepare prepare-def.routine code.calls-claims·prepare·prepare (prepare-thm.met 𝓤 H 𝓜 𝓖 𝓡);
       follow = cited 𝓤 H (follow-to 𝓤 H (𝓖 .A) (𝓜 .mem) (𝓡 .run)) 𝓜 𝓡 code.env #follow follow-def.routine code.calls-checker·answer·follow (follow-thm.met 𝓤 H 𝓜 𝓖 𝓡);
-      clear-words = cited 𝓤 H (clear-words-to 𝓤 H (𝓖 .A) (𝓜 .mem) (𝓡 .run)) 𝓜 𝓡 code.env #clear-words clear-words-def.routine code.calls-store·clauses·clear-words (clear-words-thm.met 𝓤 H 𝓜 𝓖 𝓡);
-      clear-rows = cited 𝓤 H (clear-rows-to 𝓤 H (𝓖 .A) (𝓜 .mem) (𝓡 .run)) 𝓜 𝓡 code.env #clear-rows clear-rows-def.routine code.calls-store·directory·clear-rows (clear-rows-thm.met 𝓤 H 𝓜 𝓖 𝓡);
-      clear-bytes = cited 𝓤 H (clear-bytes-to 𝓤 H (𝓖 .A) (𝓜 .mem) (𝓡 .run)) 𝓜 𝓡 code.env #clear-bytes clear-bytes-def.routine code.calls-store·marks·clear-bytes (clear-bytes-thm.met 𝓤 H 𝓜 𝓖 𝓡);
+      clear-words = cited 𝓤 H (clear-words-to 𝓤 H (𝓖 .A) (𝓜 .mem) (𝓡 .run)) 𝓜 𝓡 code.env #clear-words clear-words-def.routine code.calls-standing·clear-words (clear-words-thm.met 𝓤 H 𝓜 𝓖 𝓡);
+      clear-rows = cited 𝓤 H (clear-rows-to 𝓤 H (𝓖 .A) (𝓜 .mem) (𝓡 .run)) 𝓜 𝓡 code.env #clear-rows clear-rows-def.routine code.calls-directory·clear-rows (clear-rows-thm.met 𝓤 H 𝓜 𝓖 𝓡);
+      clear-bytes = cited 𝓤 H (clear-bytes-to 𝓤 H (𝓖 .A) (𝓜 .mem) (𝓡 .run)) 𝓜 𝓡 code.env #clear-bytes clear-bytes-def.routine code.calls-marks·clear-bytes (clear-bytes-thm.met 𝓤 H 𝓜 𝓖 𝓡);
     }))

@@ -46,16 +46,16 @@ use Rattle.scope.proofs.Refusal as F
 use Rattle.scope.proofs.Refusal.Laws as F′
 use Rattle.scope.proofs.CheckAnswer as S
 use Rattle.scope.proofs.CheckAnswer.Laws as S′
-use Rattle.store.specs.declared.directory.Row.{Row}
-use Rattle.store.specs.Marked.{flat, parted, rowsFor}
-use Rattle.store.proofs.Walk.{ty-at, Addrs, addr-at, env-of, laid, rotate, allocs-all, frees-all, var, part, fills}
-use Rattle.store.proofs.Slices.{at-list, Whole, lent, back}
-use Rattle.store.proofs.Calls.{uint-same, both-said, and-said, calls-to, calls-to-last}
-use Rattle.store.proofs.directory.Row as R
-use Rattle.store.proofs.directory.build_directory as build
-use Rattle.store.proofs.directory.build_directory.Symbol as build-def
-use Rattle.store.proofs.directory.build_directory.Symbol.{name as #build}
-use Rattle.store.proofs.directory.build_directory.Met as build-thm
+use Rattle.directory.specs.declared.Row.{Row}
+use Rattle.directory.specs.Marked.{flat, parted, rowsFor}
+use Rattle.walks.proofs.Walk.{ty-at, Addrs, addr-at, env-of, laid, rotate, allocs-all, frees-all, var, part, fills}
+use Rattle.walks.proofs.Slices.{at-list, Whole, lent, back}
+use Rattle.walks.proofs.Calls.{uint-same, both-said, and-said, calls-to, calls-to-last}
+use Rattle.directory.proofs.Row as R
+use Rattle.directory.proofs.build_directory as build
+use Rattle.directory.proofs.build_directory.Symbol as build-def
+use Rattle.directory.proofs.build_directory.Symbol.{name as #build}
+use Rattle.directory.proofs.build_directory.Met as build-thm
 use Rattle.run.specs.Turned.{outcome, drivenBy}
 use Rattle.run.proofs.drive.drive as drive
 use Rattle.run.proofs.drive.drive.Symbol as drive-def
@@ -211,7 +211,7 @@ module _ {M : Type 1} (𝓤 : URA M) (H : Heap 𝓤) (A : Atoms 𝓤) (W : Given
       move ! (5 ∷ 0 ∷ []) $ fjoin ! $ move ! (4 ∷ 0 ∷ []) $ fjoin ! $ move ! (3 ∷ 0 ∷ []) $ fjoin ! $ move ! (2 ∷ 0 ∷ []) $ fjoin ! $
       move ! (1 ∷ 0 ∷ []) $ join ! $ frame ! $ done !
 
-  module _ (𝓣 : Tables 𝓤 H) (fm : FmC 𝓤 H (W .laws) (𝓣 .C)) (known : Known 𝓤 H A mem run (𝓣 .C)) (room₁ : Room u32 (length us)) (room₂ : Room R.the-row (length ys)) (room₃ : Room u8 (length ms)) (ls : Addrs body.locals) where
+  module _ (𝓣 : Tables 𝓤 H) (fm : FmC 𝓤 H (W .laws) (𝓣 .C)) (known : Known 𝓤 H A mem run (𝓣 .C)) (room₀ : Room u8 (length ps)) (room₁ : Room u32 (length us)) (room₂ : Room R.the-row (length ys)) (room₃ : Room u8 (length ms)) (ls : Addrs body.locals) where
     abbrev C : Calls 𝓤 H
     C = 𝓣 .C
 
@@ -304,7 +304,7 @@ module _ {M : Type 1} (𝓤 : URA M) (H : Heap 𝓤) (A : Atoms 𝓤) (W : Given
       pass1 ! (init ! 38 refl (ready-typed W d _ is)) $ pass1 ! (init ! 36 refl (tt, (tt, (record { fits = room₀ .0 }, tt)))) $
       pass1 ! (init ! 34 refl (tt, (tt, (record { fits = room₁ .0 }, tt)))) $ pass1 ! (init ! 32 refl (tt, (tt, (record { fits = room₂ .0 }, tt)))) $
       pass1 ! (init ! 30 refl (tt, (tt, (record { fits = room₃ .0 }, tt)))) $ pass0 ! $
-      first ! $ matched 𝓣 fm known room₁ room₂ room₃ ls d is)
+      first ! $ matched 𝓣 fm known room₀ room₁ room₂ room₃ ls d is)
 
 meets : {M : Type 1} (𝓤 : URA M) (H : Heap 𝓤) (A : Atoms 𝓤) → Given 𝓤 H A → (mem : Memory → SProp 𝓤) (run : Routine → Fun 𝓤) (𝓣 : Tables 𝓤 H) → Known 𝓤 H A mem run (𝓣 .C)
     → Meets 𝓤 H A f.signature (WpFn 𝓤 H (𝓣 .C) (𝓣 .Λ) code.function) (f.spec 𝓤 H A mem run)
@@ -331,6 +331,6 @@ follow-spec 𝓤 H 𝓜 𝓖 𝓡 =
     (tables 𝓤 H 𝓜 𝓡 code.env .C) (tables 𝓤 H 𝓜 𝓡 code.env .Λ) #follow code.function (code.unfolded 𝓤 H 𝓜 𝓡)
     (meets 𝓤 H (𝓖 .A) (givenOf 𝓤 H 𝓜 𝓖) (𝓜 .mem) (𝓡 .run) (tablesOf 𝓤 H 𝓜 (tables 𝓤 H 𝓜 𝓡 code.env))
     (record {
-      build = cited 𝓤 H (build-to 𝓤 H (𝓖 .A) (𝓜 .mem) (𝓡 .run)) 𝓜 𝓡 code.env #build build-def.routine code.calls-store·directory·build-directory (build-thm.met 𝓤 H 𝓜 𝓖 𝓡);
+      build = cited 𝓤 H (build-to 𝓤 H (𝓖 .A) (𝓜 .mem) (𝓡 .run)) 𝓜 𝓡 code.env #build build-def.routine code.calls-directory·build-directory (build-thm.met 𝓤 H 𝓜 𝓖 𝓡);
       drive = cited 𝓤 H (drive-to 𝓤 H (𝓖 .A) (𝓜 .mem) (𝓡 .run)) 𝓜 𝓡 code.env #drive drive-def.routine code.calls-run·drive·drive (drive-thm.met 𝓤 H 𝓜 𝓖 𝓡);
     }))

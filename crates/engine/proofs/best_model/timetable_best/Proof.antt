@@ -42,11 +42,11 @@ use Rattle.scope.specs.Operations.{bestOf}
 use Rattle.scope.specs.declared.BestAnswer.{BestAnswer}
 use Rattle.scope.proofs.BestAnswer as S
 use Rattle.scope.proofs.BestAnswer.Laws as S′
-use Rattle.store.specs.declared.directory.Row.{Row}
-use Rattle.store.proofs.Walk.{rotate, allocs-all, frees-all, var, part, fills}
-use Rattle.store.proofs.Slices.{at-list, Whole, lent, back}
-use Rattle.store.proofs.Calls.{uint-same, both-said, and-said, calls-to}
-use Rattle.store.proofs.directory.Row as R
+use Rattle.directory.specs.declared.Row.{Row}
+use Rattle.walks.proofs.Walk.{rotate, allocs-all, frees-all, var, part, fills}
+use Rattle.walks.proofs.Slices.{at-list, Whole, lent, back}
+use Rattle.walks.proofs.Calls.{uint-same, both-said, and-said, calls-to}
+use Rattle.directory.proofs.Row as R
 use Rattle.best.proofs.Values.{IsBestAnswer, best-same, best-typed}
 use Rattle.best.proofs.Calling.{best-to, to-best, Finding, goes-best}
 use Rattle.best.proofs.best as best

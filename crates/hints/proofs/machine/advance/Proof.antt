@@ -1,9 +1,11 @@
-use mathlib.Core.Path.{_∙_}
-use borrow.Author.Tests.{eq-eqb, ne-eqb}
+use mathlib.Core.Path.{sym, _∙_}
 use Rattle.hints.specs.Machine.{advanced, advancedMarks, advancedTrail}
 use borrow.Author.Needs.{needs}
 use Rattle.hints.proofs.machine.advance.Statement.{statement}
 use Rattle.hints.proofs.machine.advance.Tie as tie
+
+is-dead-requires : tie.Need-is-dead-requires
+is-dead-requires c κs = search needs
 
 stop-requires : tie.Need-stop-requires
 stop-requires c κs = search needs
@@ -11,7 +13,7 @@ stop-requires c κs = search needs
 returns : tie.Need-returns
 unfolding advanced advancedMarks advancedTrail
 returns c =
-    let z = eq-eqb _ _ (c .before .if1 .taken) in (c .stop .ensures ∙ rw z, (rw z, rw z))
+    let z = sym (c .before .before .is-dead .ensures) ∙ c .before .if1 .taken in (c .stop .ensures ∙ rw z, (rw z, rw z))
 
 enum-known-t : tie.Need-enum-known-t
 enum-known-t c = search needs
@@ -25,7 +27,7 @@ stop-requires-2 c κs = search needs
 returns-2 : tie.Need-returns-2
 unfolding advanced advancedMarks advancedTrail
 returns-2 c =
-    let z = ne-eqb _ _ (c .before .before .before .if1 .left) in
+    let z = sym (c .before .before .before .before .is-dead .ensures) ∙ c .before .before .before .if1 .left in
     let e = c .before .enum-told .given .1 in
     (c .stop2 .ensures ∙ rw (z, e), (rw (z, e), rw (z, e)))
 
@@ -37,6 +39,12 @@ take-hint-requires c κs = search needs
 
 enum-told-3 : tie.Need-enum-told-3
 enum-told-3 c = search needs
+
+first-word-requires : tie.Need-first-word-requires
+first-word-requires c κs = search needs
+
+word-count-requires : tie.Need-word-count-requires
+word-count-requires c κs = search needs
 
 wipe-clause-requires : tie.Need-wipe-clause-requires
 wipe-clause-requires c κs = search needs
@@ -71,7 +79,7 @@ same-length-2 c = search needs
 returns-3 : tie.Need-returns-3
 unfolding advanced advancedMarks advancedTrail
 returns-3 c =
-    let z = ne-eqb _ _ (c .before .before .before .before .before .before .before .before .before .before .before .before .if1 .left) in
+    let z = sym (c .before .before .before .before .before .before .before .before .before .before .before .before .before .is-dead .ensures) ∙ c .before .before .before .before .before .before .before .before .before .before .before .before .if1 .left in
     let e = c .before .before .before .before .before .before .before .before .before .before .t .given .1 in
     let p = c .before .before .before .before .before .before .before .enum-told2 .given .1 in
     (c .before .before .before .before .take-hint .ensures .0 ∙ rw (z, e, p), (c .before .before .before .before .take-hint .ensures .1 .0 ∙ rw (z, e, p), c .before .before .before .before .take-hint .ensures .1 .1 ∙ rw (z, e, p)))
@@ -82,15 +90,15 @@ same-length-3 c = search needs
 returns-4 : tie.Need-returns-4
 unfolding advanced advancedMarks advancedTrail
 returns-4 c =
-    let z = ne-eqb _ _ (c .before .before .before .before .before .before .before .before .before .before .if1 .left) in
-    let e = c .before .before .before .before .before .before .before .before .t .given .1 in
-    let p = c .before .before .before .before .before .enum-told3 .given .1 in
-    (c .step-on .ensures ∙ rw (z, e, p), (c .before .before .before .wipe-clause .ensures ∙ rw (z, e, p), rw (z, e, p)))
+    let z = sym (c .before .before .before .before .before .before .before .before .before .before .before .before .before .is-dead .ensures) ∙ c .before .before .before .before .before .before .before .before .before .before .before .before .if1 .left in
+    let e = c .before .before .before .before .before .before .before .before .before .before .t .given .1 in
+    let p = c .before .before .before .before .before .before .before .enum-told3 .given .1 in
+    (c .step-on .ensures ∙ rw (z, e, p), (c .before .before .before .wipe-clause .ensures ∙ rw (z, e, p, c .before .before .before .before .before .first-word .ensures, c .before .before .before .before .word-count .ensures), rw (z, e, p)))
 
 returns-5 : tie.Need-returns-5
 unfolding advanced advancedMarks advancedTrail
 returns-5 c =
-    let z = ne-eqb _ _ (c .before .before .before .before .before .if1 .left) in
+    let z = sym (c .before .before .before .before .before .before .is-dead .ensures) ∙ c .before .before .before .before .before .if1 .left in
     let e = c .before .before .before .t .given .1 in
     let p = c .enum-told4 .given .1 in
     (rw (z, e, p), (rw (z, e, p), rw (z, e, p)))
@@ -98,7 +106,7 @@ returns-5 c =
 returns-6 : tie.Need-returns-6
 unfolding advanced advancedMarks advancedTrail
 returns-6 c =
-    let z = ne-eqb _ _ (c .before .before .before .before .before .if1 .left) in
+    let z = sym (c .before .before .before .before .before .before .is-dead .ensures) ∙ c .before .before .before .before .before .if1 .left in
     let e = c .before .before .before .t .given .1 in
     let p = c .enum-told5 .given .1 in
     (rw (z, e, p), (rw (z, e, p), rw (z, e, p)))
@@ -106,7 +114,7 @@ returns-6 c =
 returns-7 : tie.Need-returns-7
 unfolding advanced advancedMarks advancedTrail
 returns-7 c =
-    let z = ne-eqb _ _ (c .before .before .before .before .before .if1 .left) in
+    let z = sym (c .before .before .before .before .before .before .is-dead .ensures) ∙ c .before .before .before .before .before .if1 .left in
     let e = c .before .before .before .t .given .1 in
     let p = c .enum-told6 .given .1 in
     (rw (z, e, p), (rw (z, e, p), rw (z, e, p)))
@@ -114,7 +122,7 @@ returns-7 c =
 returns-8 : tie.Need-returns-8
 unfolding advanced advancedMarks advancedTrail
 returns-8 c =
-    let z = ne-eqb _ _ (c .before .before .before .before .before .if1 .left) in
+    let z = sym (c .before .before .before .before .before .before .is-dead .ensures) ∙ c .before .before .before .before .before .if1 .left in
     let e = c .before .before .before .t .given .1 in
     let p = c .enum-told7 .given .1 in
     (rw (z, e, p), (rw (z, e, p), rw (z, e, p)))
@@ -122,7 +130,7 @@ returns-8 c =
 returns-9 : tie.Need-returns-9
 unfolding advanced advancedMarks advancedTrail
 returns-9 c =
-    let z = ne-eqb _ _ (c .before .before .before .before .before .if1 .left) in
+    let z = sym (c .before .before .before .before .before .before .is-dead .ensures) ∙ c .before .before .before .before .before .if1 .left in
     let e = c .before .before .before .t .given .1 in
     let p = c .enum-told8 .given .1 in
     (rw (z, e, p), (rw (z, e, p), rw (z, e, p)))
@@ -130,7 +138,7 @@ returns-9 c =
 returns-10 : tie.Need-returns-10
 unfolding advanced advancedMarks advancedTrail
 returns-10 c =
-    let z = ne-eqb _ _ (c .before .before .before .before .before .if1 .left) in
+    let z = sym (c .before .before .before .before .before .before .is-dead .ensures) ∙ c .before .before .before .before .before .if1 .left in
     let e = c .before .before .before .t .given .1 in
     let p = c .enum-told9 .given .1 in
     (rw (z, e, p), (rw (z, e, p), rw (z, e, p)))
@@ -139,6 +147,7 @@ pub advance-spec : {M : Type 1} → statement M
 advance-spec =
     tie.close
     (tie.spec
+    is-dead-requires
     stop-requires
     returns
     enum-known-t
@@ -148,6 +157,8 @@ advance-spec =
     enum-told-2
     take-hint-requires
     enum-told-3
+    first-word-requires
+    word-count-requires
     wipe-clause-requires
     step-on-requires
     enum-told-4

@@ -39,9 +39,9 @@ use denote.Exit.{yes}
 use Rattle.scope.specs.declared.DecodeAnswer.{DecodeAnswer}
 use Rattle.scope.proofs.DecodeAnswer as S
 use Rattle.scope.proofs.DecodeAnswer.Laws as S′
-use Rattle.store.proofs.Walk.{rotate, dropped, allocs-all, frees-all, var, fills}
-use Rattle.store.proofs.Slices.{slice, Bytes, IsSlice, slice-same}
-use Rattle.store.proofs.Calls.{calls-to, calls-giving}
+use Rattle.walks.proofs.Walk.{rotate, dropped, allocs-all, frees-all, var, fills}
+use Rattle.walks.proofs.Slices.{slice, Bytes, IsSlice, slice-same}
+use Rattle.walks.proofs.Calls.{calls-to, calls-giving}
 use Rattle.model.specs.Answers.{EvaluatedAs, partOf, partLength, answerOf, Gives, decoded-as}
 use Rattle.model.specs.declared.operations.Decoding.{Decoding}
 use Rattle.model.specs.declared.operations.Evaluation.{Evaluation}

@@ -48,17 +48,19 @@ use Rattle.number.specs.Answers.{said}
 use Rattle.number.specs.declared.Number.{Number}
 use Rattle.number.proofs.Number as S
 use Rattle.number.proofs.Number.Laws as S′
-use Rattle.store.specs.declared.directory.Row.{Row}
-use Rattle.store.specs.declared.directory.Probe.{Probe}
-use Rattle.store.specs.Directory.{lookUp, withDead}
-use Rattle.store.proofs.Walk.{rest, held, failed, ty-at, Addrs, addr-at, env-of, laid, rotate, dropped, allocs-all, frees-all, var, part, fills}
-use Rattle.store.proofs.Slices.{at-list, Whole, lent, back, shared, unshared}
-use Rattle.store.proofs.Elements.{IsRow, IsProbe, probe-same, probe-typed}
-use Rattle.store.proofs.Calls.{uint-same, unit-same, calls-to, calls-to-last}
-use Rattle.store.proofs.directory.Row as R
-use Rattle.store.proofs.directory.Row.Laws as R′
-use Rattle.store.proofs.directory.Probe as P
-use Rattle.store.proofs.directory.Probe.Laws as P′
+use Rattle.directory.specs.declared.Row.{Row}
+use Rattle.lookup.specs.declared.Probe.{Probe}
+use Rattle.directory.specs.Directory.{withDead}
+use Rattle.lookup.specs.Lookup.{lookUp}
+use Rattle.walks.proofs.Walk.{rest, held, failed, ty-at, Addrs, addr-at, env-of, laid, rotate, dropped, allocs-all, frees-all, var, part, fills}
+use Rattle.walks.proofs.Slices.{at-list, Whole, lent, back, shared, unshared}
+use Rattle.directory.proofs.Elements.{IsRow}
+use Rattle.lookup.proofs.Elements.{IsProbe, probe-same, probe-typed}
+use Rattle.walks.proofs.Calls.{uint-same, unit-same, calls-to, calls-to-last}
+use Rattle.directory.proofs.Row as R
+use Rattle.directory.proofs.Row.Laws as R′
+use Rattle.lookup.proofs.Probe as P
+use Rattle.lookup.proofs.Probe.Laws as P′
 use Rattle.hints.specs.declared.machine.Machine.{Machine}
 use Rattle.hints.specs.Machine.{turnOf}
 use Rattle.deletion.specs.Passed.{passedId}
@@ -83,18 +85,18 @@ use Rattle.hints.proofs.machine.turn_of as turn-of
 use Rattle.hints.proofs.machine.turn_of.Symbol as turn-of-def
 use Rattle.hints.proofs.machine.turn_of.Symbol.{name as #turn-of}
 use Rattle.hints.proofs.machine.turn_of.Met as turn-of-thm
-use Rattle.store.proofs.directory.find as find
-use Rattle.store.proofs.directory.find.Symbol as find-def
-use Rattle.store.proofs.directory.find.Symbol.{name as #find}
-use Rattle.store.proofs.directory.find.Met as find-thm
+use Rattle.lookup.proofs.find as find
+use Rattle.lookup.proofs.find.Symbol as find-def
+use Rattle.lookup.proofs.find.Symbol.{name as #find}
+use Rattle.lookup.proofs.find.Met as find-thm
 use Rattle.deletion.proofs.ids.pass_id as pass-id
 use Rattle.deletion.proofs.ids.pass_id.Symbol as pass-id-def
 use Rattle.deletion.proofs.ids.pass_id.Symbol.{name as #pass-id}
 use Rattle.deletion.proofs.ids.pass_id.Met as pass-id-thm
-use Rattle.store.proofs.directory.mark_dead as mark-dead
-use Rattle.store.proofs.directory.mark_dead.Symbol as mark-dead-def
-use Rattle.store.proofs.directory.mark_dead.Symbol.{name as #mark-dead}
-use Rattle.store.proofs.directory.mark_dead.Met as mark-dead-thm
+use Rattle.directory.proofs.mark_dead as mark-dead
+use Rattle.directory.proofs.mark_dead.Symbol as mark-dead-def
+use Rattle.directory.proofs.mark_dead.Symbol.{name as #mark-dead}
+use Rattle.directory.proofs.mark_dead.Met as mark-dead-thm
 use Rattle.run.proofs.deleting.delete_ids.Key.{name as #delete-ids}
 use Rattle.run.proofs.deleting.delete_ids as f
 use Rattle.run.proofs.deleting.delete_ids.Statement as stated
@@ -428,7 +430,7 @@ delete-ids-spec 𝓤 H 𝓜 𝓖 𝓡 =
       read-number = cited 𝓤 H (read-number-to 𝓤 H (𝓖 .A) (𝓜 .mem) (𝓡 .run)) 𝓜 𝓡 code.env #read-number read-number-def.routine code.calls-reader·read-number (read-number-thm.met 𝓤 H 𝓜 𝓖 𝓡);
       moved = cited 𝓤 H (moved-to 𝓤 H (𝓖 .A) (𝓜 .mem) (𝓡 .run)) 𝓜 𝓡 code.env #moved moved-def.routine code.calls-reader·moved (moved-thm.met 𝓤 H 𝓜 𝓖 𝓡);
       turn-of = cited 𝓤 H (turn-of-to 𝓤 H (𝓖 .A) (𝓜 .mem) (𝓡 .run)) 𝓜 𝓡 code.env #turn-of turn-of-def.routine code.calls-hints·machine·turn-of (turn-of-thm.met 𝓤 H 𝓜 𝓖 𝓡);
-      find = cited 𝓤 H (find-to 𝓤 H (𝓖 .A) (𝓜 .mem) (𝓡 .run)) 𝓜 𝓡 code.env #find find-def.routine code.calls-store·directory·find (find-thm.met 𝓤 H 𝓜 𝓖 𝓡);
+      find = cited 𝓤 H (find-to 𝓤 H (𝓖 .A) (𝓜 .mem) (𝓡 .run)) 𝓜 𝓡 code.env #find find-def.routine code.calls-lookup·find (find-thm.met 𝓤 H 𝓜 𝓖 𝓡);
       pass-id = cited 𝓤 H (pass-id-to 𝓤 H (𝓖 .A) (𝓜 .mem) (𝓡 .run)) 𝓜 𝓡 code.env #pass-id pass-id-def.routine code.calls-deletion·ids·pass-id (pass-id-thm.met 𝓤 H 𝓜 𝓖 𝓡);
-      mark-dead = cited 𝓤 H (mark-dead-to 𝓤 H (𝓖 .A) (𝓜 .mem) (𝓡 .run)) 𝓜 𝓡 code.env #mark-dead mark-dead-def.routine code.calls-store·directory·mark-dead (mark-dead-thm.met 𝓤 H 𝓜 𝓖 𝓡);
+      mark-dead = cited 𝓤 H (mark-dead-to 𝓤 H (𝓖 .A) (𝓜 .mem) (𝓡 .run)) 𝓜 𝓡 code.env #mark-dead mark-dead-def.routine code.calls-directory·mark-dead (mark-dead-thm.met 𝓤 H 𝓜 𝓖 𝓡);
     }))

@@ -45,11 +45,11 @@ use denote.Exit.{yes}
 use Rattle.scope.specs.declared.CheckAnswer.{CheckAnswer}
 use Rattle.scope.proofs.CheckAnswer as S
 use Rattle.scope.proofs.CheckAnswer.Laws as S′
-use Rattle.store.specs.declared.directory.Row.{Row}
-use Rattle.store.proofs.Walk.{ty-at, Addrs, addr-at, rotate, dropped, allocs-all, frees-all, var, part, fills}
-use Rattle.store.proofs.Slices.{at-list, Whole, lent, back}
-use Rattle.store.proofs.Calls.{calls-to}
-use Rattle.store.proofs.directory.Row as R
+use Rattle.directory.specs.declared.Row.{Row}
+use Rattle.walks.proofs.Walk.{ty-at, Addrs, addr-at, rotate, dropped, allocs-all, frees-all, var, part, fills}
+use Rattle.walks.proofs.Slices.{at-list, Whole, lent, back}
+use Rattle.walks.proofs.Calls.{calls-to}
+use Rattle.directory.proofs.Row as R
 use Rattle.run.specs.Turned.{outcome, drivenWith, drivenBy, noTrail}
 use Rattle.run.proofs.Local.{made, emptied, big-lit}
 use Rattle.run.proofs.drive.drive_with as drive-with

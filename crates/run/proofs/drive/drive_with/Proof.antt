@@ -57,17 +57,18 @@ use Rattle.number.proofs.Number.Laws as U′
 use Rattle.scope.specs.declared.CheckAnswer.{CheckAnswer}
 use Rattle.scope.proofs.CheckAnswer as S
 use Rattle.scope.proofs.CheckAnswer.Laws as S′
-use Rattle.store.specs.declared.directory.Row.{Row}
-use Rattle.store.specs.declared.directory.Probe.{Probe}
-use Rattle.store.specs.Directory.{lookUp}
-use Rattle.store.proofs.Walk.{rest, held, failed, ty-at, Addrs, addr-at, env-of, laid, rotate, dropped, allocs-all, frees-all, var, part, fills}
-use Rattle.store.proofs.Slices.{at-list, Whole, lent, back, shared, unshared}
-use Rattle.store.proofs.Elements.{IsRow, row-same, row-typed, IsProbe, probe-same, probe-typed}
-use Rattle.store.proofs.Calls.{uint-same, unit-same, both-said, and-said, calls-to, calls-to-last}
-use Rattle.store.proofs.directory.Row as R
-use Rattle.store.proofs.directory.Row.Laws as R′
-use Rattle.store.proofs.directory.Probe as P
-use Rattle.store.proofs.directory.Probe.Laws as P′
+use Rattle.directory.specs.declared.Row.{Row}
+use Rattle.lookup.specs.declared.Probe.{Probe}
+use Rattle.lookup.specs.Lookup.{lookUp}
+use Rattle.walks.proofs.Walk.{rest, held, failed, ty-at, Addrs, addr-at, env-of, laid, rotate, dropped, allocs-all, frees-all, var, part, fills}
+use Rattle.walks.proofs.Slices.{at-list, Whole, lent, back, shared, unshared}
+use Rattle.directory.proofs.Elements.{IsRow, row-same, row-typed}
+use Rattle.lookup.proofs.Elements.{IsProbe, probe-same, probe-typed}
+use Rattle.walks.proofs.Calls.{uint-same, unit-same, both-said, and-said, calls-to, calls-to-last}
+use Rattle.directory.proofs.Row as R
+use Rattle.directory.proofs.Row.Laws as R′
+use Rattle.lookup.proofs.Probe as P
+use Rattle.lookup.proofs.Probe.Laws as P′
 use Rattle.hints.specs.declared.machine.Machine.{Machine}
 use Rattle.hints.specs.declared.machine.Phase.the-variants.{Next}
 use Rattle.turns.specs.declared.check.Check.{Check}
@@ -108,10 +109,10 @@ use Rattle.hints.proofs.machine.turn_of as turn-of
 use Rattle.hints.proofs.machine.turn_of.Symbol as turn-of-def
 use Rattle.hints.proofs.machine.turn_of.Symbol.{name as #turn-of}
 use Rattle.hints.proofs.machine.turn_of.Met as turn-of-thm
-use Rattle.store.proofs.directory.find as find
-use Rattle.store.proofs.directory.find.Symbol as find-def
-use Rattle.store.proofs.directory.find.Symbol.{name as #find}
-use Rattle.store.proofs.directory.find.Met as find-thm
+use Rattle.lookup.proofs.find as find
+use Rattle.lookup.proofs.find.Symbol as find-def
+use Rattle.lookup.proofs.find.Symbol.{name as #find}
+use Rattle.lookup.proofs.find.Met as find-thm
 use Rattle.hints.proofs.machine.advance as advance
 use Rattle.hints.proofs.machine.advance.Symbol as advance-def
 use Rattle.hints.proofs.machine.advance.Symbol.{name as #advance}
@@ -124,10 +125,10 @@ use Rattle.turns.proofs.check.row_of as row-of
 use Rattle.turns.proofs.check.row_of.Symbol as row-of-def
 use Rattle.turns.proofs.check.row_of.Symbol.{name as #row-of}
 use Rattle.turns.proofs.check.row_of.Met as row-of-thm
-use Rattle.store.proofs.directory.append as append
-use Rattle.store.proofs.directory.append.Symbol as append-def
-use Rattle.store.proofs.directory.append.Symbol.{name as #append}
-use Rattle.store.proofs.directory.append.Met as append-thm
+use Rattle.directory.proofs.append as append
+use Rattle.directory.proofs.append.Symbol as append-def
+use Rattle.directory.proofs.append.Symbol.{name as #append}
+use Rattle.directory.proofs.append.Met as append-thm
 use Rattle.turns.proofs.check.keep as keep
 use Rattle.turns.proofs.check.keep.Symbol as keep-def
 use Rattle.turns.proofs.check.keep.Symbol.{name as #keep}
@@ -932,11 +933,11 @@ drive-with-spec 𝓤 H 𝓜 𝓖 𝓡 =
       begin = cited 𝓤 H (begin-to 𝓤 H (𝓖 .A) (𝓜 .mem) (𝓡 .run)) 𝓜 𝓡 code.env #begin begin-def.routine code.calls-turns·check·begin (begin-thm.met 𝓤 H 𝓜 𝓖 𝓡);
       ready = cited 𝓤 H (ready-to 𝓤 H (𝓖 .A) (𝓜 .mem) (𝓡 .run)) 𝓜 𝓡 code.env #ready ready-def.routine code.calls-run·drive·ready (ready-thm.met 𝓤 H 𝓜 𝓖 𝓡);
       turn-of = cited 𝓤 H (turn-of-to 𝓤 H (𝓖 .A) (𝓜 .mem) (𝓡 .run)) 𝓜 𝓡 code.env #turn-of turn-of-def.routine code.calls-hints·machine·turn-of (turn-of-thm.met 𝓤 H 𝓜 𝓖 𝓡);
-      find = cited 𝓤 H (find-to 𝓤 H (𝓖 .A) (𝓜 .mem) (𝓡 .run)) 𝓜 𝓡 code.env #find find-def.routine code.calls-store·directory·find (find-thm.met 𝓤 H 𝓜 𝓖 𝓡);
+      find = cited 𝓤 H (find-to 𝓤 H (𝓖 .A) (𝓜 .mem) (𝓡 .run)) 𝓜 𝓡 code.env #find find-def.routine code.calls-lookup·find (find-thm.met 𝓤 H 𝓜 𝓖 𝓡);
       advance = cited 𝓤 H (advance-to 𝓤 H (𝓖 .A) (𝓜 .mem) (𝓡 .run)) 𝓜 𝓡 code.env #advance advance-def.routine code.calls-hints·machine·advance (advance-thm.met 𝓤 H 𝓜 𝓖 𝓡);
       delete-ids = cited 𝓤 H (delete-ids-to 𝓤 H (𝓖 .A) (𝓜 .mem) (𝓡 .run)) 𝓜 𝓡 code.env #delete-ids delete-ids-def.routine code.calls-run·deleting·delete-ids (delete-ids-thm.met 𝓤 H 𝓜 𝓖 𝓡);
       row-of = cited 𝓤 H (row-of-to 𝓤 H (𝓖 .A) (𝓜 .mem) (𝓡 .run)) 𝓜 𝓡 code.env #row-of row-of-def.routine code.calls-turns·check·row-of (row-of-thm.met 𝓤 H 𝓜 𝓖 𝓡);
-      append = cited 𝓤 H (append-to 𝓤 H (𝓖 .A) (𝓜 .mem) (𝓡 .run)) 𝓜 𝓡 code.env #append append-def.routine code.calls-store·directory·append (append-thm.met 𝓤 H 𝓜 𝓖 𝓡);
+      append = cited 𝓤 H (append-to 𝓤 H (𝓖 .A) (𝓜 .mem) (𝓡 .run)) 𝓜 𝓡 code.env #append append-def.routine code.calls-directory·append (append-thm.met 𝓤 H 𝓜 𝓖 𝓡);
       keep = cited 𝓤 H (keep-to 𝓤 H (𝓖 .A) (𝓜 .mem) (𝓡 .run)) 𝓜 𝓡 code.env #keep keep-def.routine code.calls-turns·check·keep (keep-thm.met 𝓤 H 𝓜 𝓖 𝓡);
       enter = cited 𝓤 H (enter-to 𝓤 H (𝓖 .A) (𝓜 .mem) (𝓡 .run)) 𝓜 𝓡 code.env #enter enter-def.routine code.calls-phases·next·enter (enter-thm.met 𝓤 H 𝓜 𝓖 𝓡);
       judge = cited 𝓤 H (judge-to 𝓤 H (𝓖 .A) (𝓜 .mem) (𝓡 .run)) 𝓜 𝓡 code.env #judge judge-def.routine code.calls-turns·check·judge (judge-thm.met 𝓤 H 𝓜 𝓖 𝓡);

@@ -1,6 +1,6 @@
 use mathlib.Core.Path.{refl, _∙_}
 use Prim.Native.Nat.{_/_}
-use Rattle.store.specs.Marks.{marksOf}
+use Rattle.marks.specs.Marks.{marksOf}
 use borrow.Author.Tests.{lt-leb, le-leb, eq-eqb, ne-eqb}
 use borrow.Author.Needs.{needs}
 use Rattle.spelling.proofs.literals.deny.Statement.{statement}

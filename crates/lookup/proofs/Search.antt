@@ -1,0 +1,173 @@
+-- The search, with no code: what holds of it between its looks, and what a look does to it.
+use mathlib.Core.Path.{_≡_, refl, sym, ap, _∙_}
+use mathlib.Core.Bool.{Bool, true, false, cond}
+use mathlib.Core.List.{List}
+use Prim.Native.Nat.{ℕ, zero, suc, _<_, _≤_, _+_, _-_, min}
+use native.Mathlib.Omega.{arith}
+use borrow.Author.Tests.{ltb-true, ltb-false, eqb-true, eqb-false, lt-ltb, le-ltb}
+use lib.Dec.{ltb, eqb}
+use lib.ListN.{length}
+use Rattle.directory.specs.declared.Row.{Row}
+use Rattle.lookup.specs.declared.Probe.{Probe}
+use Rattle.directory.specs.Rows.{noRow, Rising}
+use Rattle.lookup.specs.Lookup.{started, upward, downward, narrowed, seek, Found, hit, miss, Finds}
+use Rattle.directory.specs.Directory.{rowsOf}
+use Rattle.lookup.specs.Lookup.{lookUp}
+
+-- the place that is looked at next lies between the bounds, and these within the directory's cap rows
+pub record Bounded (cap : ℕ) (p : Probe) : Type 0 where
+  pub inside : p .lo < p .hi → (p .lo ≤ p .at) × (p .at < p .hi)
+  pub high : p .hi ≤ cap
+
+pub starts-bounded : (cap n id : ℕ) → n ≤ cap → Bounded cap (started n id)
+starts-bounded cap n id h = record { inside = λ l. (omega arith, omega arith); high = h }
+
+-- the three outcomes of a look
+pub data Narrowed (s : Probe) (row : Row) (id : ℕ) (p : Probe) : Type 0 where
+  met : row .id ≡ id → p .lo ≡ s .hi → p .hi ≡ s .hi → p .at ≡ s .at → p .hit ≡ row → Narrowed s row id p
+  above : row .id < id → p ≡ upward s (id - row .id) → Narrowed s row id p
+  below : id < row .id → p ≡ downward s (row .id - id) → Narrowed s row id p
+
+pub narrows : (s : Probe) (row : Row) (id : ℕ) → Narrowed s row id (narrowed s row id)
+unfolding narrowed
+narrows s row id = go (eqb (row .id) id) refl (ltb (row .id) id) refl
+  where
+    go : (t : Bool) → eqb (row .id) id ≡ t → (u : Bool) → ltb (row .id) id ≡ u
+        → Narrowed s row id (cond t (record { lo = s .hi; hi = s .hi; at = s .at; hit = row })
+        (cond u (upward s (id - row .id)) (downward s (row .id - id))))
+    go true t u e = met (eqb-true (row .id) id t) refl refl refl refl
+    go false t true e = above (ltb-true (row .id) id e) refl
+    go false t false e =
+        let l = ltb-false (row .id) id e in
+        let d = eqb-false (row .id) id t in
+        below (omega arith) refl
+
+-- a look
+module _ (p : Probe) (row : Row) (id : ℕ) (l : p .lo ≤ p .at) (h : p .at < p .hi) where
+  pub nearer : (r : Probe) → Narrowed p row id r → r .hi - r .lo < p .hi - p .lo
+  nearer r (met e lo hi x y) = omega arith
+  nearer r (above e q) = rw q (omega arith)
+  nearer r (below e q) = rw q (omega arith)
+
+  pub bounded : (cap : ℕ) → p .hi ≤ cap → (r : Probe) → Narrowed p row id r → Bounded cap r
+  bounded cap k r (met e lo hi x y) = record { inside = λ m. absurd (omega arith); high = omega arith }
+  bounded cap k r (above e q) = rw q (record { inside = λ m. (omega arith, omega arith); high = omega arith })
+  bounded cap k r (below e q) = rw q (record { inside = λ m. (omega arith, omega arith); high = omega arith })
+
+-- what is left of a search that comes to g
+pub record Left (R : ℕ → Row) (id : ℕ) (p g : Probe) : Type 0 where
+  pub fuel : ℕ
+  pub enough : p .hi - p .lo ≤ fuel
+  pub todo : seek fuel R id p ≡ g
+
+module _ (R : ℕ → Row) (id : ℕ) (p g : Probe) (w : Left R id p g) where
+  pub left-over : p .hi ≤ p .lo → p ≡ g
+  unfolding seek
+  left-over h = go (w .fuel) (w .todo)
+    where
+      go : (k : ℕ) → seek k R id p ≡ g → p ≡ g
+      go zero e = e
+      go (suc k) e = rw (le-ltb (p .lo) (p .hi) h) at e
+
+  pub left-more : p .lo < p .hi → p .lo ≤ p .at → p .at < p .hi → (r : Probe) → r ≡ narrowed p (R (p .at)) id → Left R id r g
+  unfolding seek
+  left-more h a b r e = go (w .fuel) (w .enough) (w .todo)
+    where
+      near : r .hi - r .lo < p .hi - p .lo
+      near = rw e (nearer p (R (p .at)) id a b (narrowed p (R (p .at)) id) (narrows p (R (p .at)) id))
+
+      go : (k : ℕ) → p .hi - p .lo ≤ k → seek k R id p ≡ g → Left R id r g
+      go zero n t = absurd (omega arith)
+      go (suc k) n t = record { fuel = k; enough = omega (arith, near); todo = rw e (rw (lt-ltb (p .lo) (p .hi) h) at t) }
+
+pub left-all : (xs : List Row) (n id : ℕ) → Left (rowsOf xs) id (started (min n (length xs)) id) (lookUp xs n id)
+left-all xs n id = record { fuel = length xs; enough = omega arith; todo = refl }
+
+-- a search of n rows: still to be met, or met
+pub data Seeking (R : ℕ → Row) (n id : ℕ) (p : Probe) : Type 0 where
+  seeks : p .hi ≤ n → ((i : ℕ) → i < n → R i .id ≡ id → (p .lo ≤ i) × (i < p .hi)) → p .hit ≡ noRow → Seeking R n id p
+  holds : p .lo ≡ p .hi → p .at < n → p .hit ≡ R (p .at) → p .hit .id ≡ id → Seeking R n id p
+
+ends : (R : ℕ → Row) (n id : ℕ) (p : Probe) → Seeking R n id p → p .hi ≤ p .lo → Found R n id p
+ends R n id p (seeks h w z) l = miss z (λ i k e. omega (arith, w i k e .0, w i k e .1))
+ends R n id p (holds e a b c) l = hit a b c
+
+-- rows in ascending order of their ids
+module _ (R : ℕ → Row) (n : ℕ) (up : Rising R n) where
+  in-order : (i k : ℕ) → i < n → R i .id < R k .id → i < k
+  in-order i k h e = go (ltb i k) refl
+    where
+      not-before : k ≤ i → (b : Bool) → ltb k i ≡ b → ⊥
+      not-before l true t = omega (arith, up .up k i (ltb-true k i t) h)
+      not-before l false t =
+          let q : k ≡ i = omega (arith, ltb-false k i t) in
+          let w : R k .id ≡ R i .id = ap (λ j. R j .id) q in
+          omega arith
+
+      go : (b : Bool) → ltb i k ≡ b → i < k
+      go true t = ltb-true i k t
+      go false t = absurd (not-before (ltb-false i k t) (ltb k i) refl)
+
+  -- ids differ at least as much as the rows' places
+  apart : (i d : ℕ) → i + d < n → R i .id + d ≤ R (i + d) .id
+  apart i zero h = let e : i + 0 ≡ i = omega arith in rw e (omega arith)
+  apart i (suc d) h =
+      let e : i + suc d ≡ suc (i + d) = omega arith in
+      let g = apart i d (omega arith) in
+      let u = up .up (i + d) (suc (i + d)) (omega arith) (omega arith) in
+      rw e (omega arith)
+
+  between : (i k : ℕ) → i ≤ k → k < n → R i .id + (k - i) ≤ R k .id
+  between i k l h =
+      let e : i + (k - i) ≡ k = omega arith in
+      let g = apart i (k - i) (omega arith) in
+      omega (arith, g, ap (λ j. R j .id) e)
+
+  module _ (id : ℕ) (p : Probe) (l : p .lo ≤ p .at) (h : p .at < p .hi) where
+    looked : Seeking R n id p → (r : Probe) → Narrowed p (R (p .at)) id r → Seeking R n id r
+    looked (holds e a b c) r _ = absurd (omega arith)
+    looked (seeks k w z) r (met e lo hi x y) =
+        holds (omega arith) (omega arith) (y ∙ ap R (sym x)) (ap (λ q. q .id) y ∙ e)
+    looked (seeks k w z) r (above e q) =
+        rw q (seeks (omega arith)
+        (λ i m f.
+        let a = in-order (p .at) i (omega arith) (omega arith) in
+        let b = between (p .at) i (omega arith) m in
+        (omega arith, omega (arith, w i m f .1)))
+        z)
+    looked (seeks k w z) r (below e q) =
+        rw q (seeks (omega arith)
+        (λ i m f.
+        let a = in-order i (p .at) m (omega arith) in
+        let b = between i (p .at) (omega arith) (omega arith) in
+        (omega (arith, w i m f .0), omega arith))
+        z)
+
+  seeks-found : (k id : ℕ) (p : Probe) → Bounded n p → p .hi - p .lo ≤ k → Seeking R n id p → Found R n id (seek k R id p)
+  unfolding seek
+  seeks-found zero id p b m s = ends R n id p s (omega arith)
+  seeks-found (suc k) id p b m s = go (λ r. seeks-found k id r) (ltb (p .lo) (p .hi)) refl
+    where
+      r : Probe
+      r = narrowed p (R (p .at)) id
+
+      go : ((r : Probe) → Bounded n r → r .hi - r .lo ≤ k → Seeking R n id r → Found R n id (seek k R id r)) → (t : Bool) → ltb (p .lo) (p .hi) ≡ t
+          → Found R n id (cond t (seek k R id r) p)
+      go ih true t =
+          let i = b .inside (ltb-true (p .lo) (p .hi) t) in
+          let q = narrows p (R (p .at)) id in
+          ih r (bounded p (R (p .at)) id (i .0) (i .1) n (b .high) r q)
+          (omega (arith, nearer p (R (p .at)) id (i .0) (i .1) r q)) (looked id p (i .0) (i .1) s r q)
+      go ih false t = ends R n id p s (ltb-false (p .lo) (p .hi) t)
+
+-- the search finds the row with the id
+pub finds : (xs : List Row) (n id : ℕ) (p : Probe) → p ≡ lookUp xs n id → Finds (length xs) (rowsOf xs) n id p
+finds xs n id p e =
+    record {
+      found =
+          λ h up.
+          let m : min n (length xs) ≡ n = omega arith in
+          rw (e, m)
+          (seeks-found (rowsOf xs) n up (length xs) id (started n id) (starts-bounded n n id (omega arith)) (omega arith)
+          (seeks (omega arith) (λ i l f. (omega arith, l)) refl));
+    }
