@@ -10,9 +10,9 @@ use Rattle.scope.specs.declared.Refusal.{Refusal}
 use Rattle.scope.specs.declared.CheckAnswer.{CheckAnswer}
 use Rattle.directory.specs.declared.Row.{Row}
 use Rattle.marks.specs.Marks.{marks-cleared}
-use Rattle.directory.specs.Directory.{rowsOf}
 use Rattle.building.specs.Marked.{Built}
-use Rattle.run.specs.Run.{Driven}
+use Rattle.run.specs.Turned.{outcome, drivenBy}
+use Rattle.run.proofs.Turning.{Few}
 use Rattle.run_meaning.specs.Meaning.{check-means}
 use Rattle.claims.specs.declared.claim.Claim.{Claim}
 use Rattle.claims.specs.declared.prepare.Ready.{Ready}
@@ -27,10 +27,12 @@ pub record Followed (s ws : List ℕ) (cap : ℕ) (ms : List ℕ) (used last : �
   pub room : length lent ≡ cap
   pub long : length words ≡ length ws
   pub built : Built ws words lent rows used count
-  pub rows-left : ℕ → Row
+  pub same : length rows ≡ length lent
+  pub few : Few s words (length rows)
+  pub rows-left : List Row
   pub words-left : List ℕ
   pub marks-left : List ℕ
-  pub driven : Driven s last cap count used (rowsOf rows) words ms r rows-left words-left marks-left
+  pub driven : outcome r rows-left words-left marks-left ≡ drivenBy s last count used rows words ms
 
 abbrev pub followedAs : List ℕ → List ℕ → ℕ → List ℕ → Ready → CheckAnswer → Type 0
 followedAs s ws cap ms (Ready.Formula used last) r = Followed s ws cap ms used last r
@@ -39,12 +41,12 @@ followedAs s ws cap ms (Ready.Refused f) r = r ≡ CheckAnswer.Refused f
 pub record Follows (s ws : List ℕ) (cap : ℕ) (ms : List ℕ) (x : Ready) (r : CheckAnswer) : Type 0 where
   pub followed : followedAs s ws cap ms x r
 
-pub follows-formula : {s ws ws′ : List ℕ} {ys ys′ : List Row} {cap : ℕ} {ms : List ℕ} {x : Ready} {used last n : ℕ} {r : CheckAnswer} {R : ℕ → Row} {vs ns : List ℕ}
-    → x ≡ Ready.Formula used last → length ws′ ≡ length ws → cap ≡ length ys → Built ws ws′ ys ys′ used n
-    → Driven s last cap n used (rowsOf ys′) ws′ ms r R vs ns → Follows s ws (length ys) ms x r
-follows-formula {ws′ = ws′} {ys} {ys′} {n = n} {R = R} {vs} {ns} e long same b d =
+pub follows-formula : {s ws ws′ : List ℕ} {ys ys′ zs : List Row} {ms : List ℕ} {x : Ready} {used last n : ℕ} {r : CheckAnswer} {vs ns : List ℕ}
+    → x ≡ Ready.Formula used last → length ws′ ≡ length ws → length ys′ ≡ length ys → Built ws ws′ ys ys′ used n
+    → Few s ws′ (length ys′) → outcome r zs vs ns ≡ drivenBy s last n used ys′ ws′ ms → Follows s ws (length ys) ms x r
+follows-formula {ws′ = ws′} {ys} {ys′} {zs} {n = n} {vs = vs} {ns} e long same b few d =
     rw e (record {
-      followed = record { lent = ys; rows = ys′; words = ws′; count = n; room = refl; long = long; built = b; rows-left = R; words-left = vs; marks-left = ns; driven = rw same at d };
+      followed = record { lent = ys; rows = ys′; words = ws′; count = n; room = refl; long = long; built = b; same = same; few = few; rows-left = zs; words-left = vs; marks-left = ns; driven = d };
     })
 
 pub follows-refused : {s ws : List ℕ} {cap : ℕ} {ms : List ℕ} {x : Ready} {f : Refusal} → x ≡ Ready.Refused f
@@ -62,11 +64,9 @@ module _ (file : List ℕ) (c : Claim) (s ws : List ℕ) (cap : ℕ) (ms : List 
   formula-checked used last p q =
       let long : length (q .words) ≡ w = q .long ∙ same in
       let bytes : length ms ≡ b = ap length cleared ∙ length-replicate b 0 in
-      let d : Driven s last (length (q .lent)) (q .count) (words (p .clauses)) (rowsOf (q .rows)) (q .words) ms r (q .rows-left) (q .words-left) (q .marks-left) =
-      rw (q .room) (rw (p .size) at (q .driven)) in
       let e = check-means s last (q .count) (q .lent) (q .rows) ws (q .words) ms r (p .clauses) (p .rest) (p .plain) (p .good) (p .narrow)
       (omega (arith, p .few)) (omega (arith, p .short))
-      (p .marked) (omega (arith, p .rows-fit, q .room)) (omega (arith, p .bytes-fit)) (rw cleared (marks-cleared b)) (rw (p .size) at (q .built)) d in
+      (p .marked) (omega (arith, p .rows-fit, q .room)) (omega (arith, p .bytes-fit)) (rw cleared (marks-cleared b)) (rw (p .size) at (q .built)) (q .same) (q .few) (rw (p .size) at (q .driven)) in
       rw (long, q .room) at e ∙ sym (p .answer s)
 
   pub checked : (x : Ready) → Prepared file c (lent w cap b) ws x → Follows s ws cap ms x r

@@ -12,18 +12,18 @@ use Rattle.hints.specs.declared.machine.Phase.the-variants.{Next, Delete, Refus
 use Rattle.hints.specs.declared.machine.Machine.{Machine}
 use Rattle.hints.specs.Machine.{stopped, onward, Advances, gone, broken, deletes}
 
--- by the number at the machine's place
+-- by the number that was read at the machine's place
 abbrev pub idOn : Machine → Parsed ℕ → Machine
 idOn m (refused k v) = stopped (Refused 14) (m .at)
 idOn m (got id next) = onward Delete Next id next 0
 
 -- 15 where the row is not live
-unfoldable pub passedId : List ℕ → Machine → Row → Machine
-passedId s m row = cond (eqb (row .live) 0) (stopped (Refused 15) (m .at)) (idOn m (number s (m .at)))
+unfoldable pub passedId : Parsed ℕ → Machine → Row → Machine
+passedId x m row = cond (eqb (row .live) 0) (stopped (Refused 15) (m .at)) (idOn m x)
 
 -- it is the turn of a machine that deletes
 pub passes-id : (s : List ℕ) (m : Machine) (row : Row) (ws ms tr : List ℕ) → m .phase ≡ Delete
-    → Advances s m row ws ms tr (passedId s m row) ms tr
+    → Advances s m row ws ms tr (passedId (number s (m .at)) m row) ms tr
 unfolding passedId
 passes-id s m row ws ms tr p = go (eqb (row .live) 0) refl
   where

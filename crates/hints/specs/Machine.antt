@@ -139,7 +139,7 @@ turnedTrail (Refused k) x n tr = tr
 abbrev pub standsBy : List ℕ → List ℕ → Standing
 standsBy ms c = standing (marksOf ms) falsified c
 
--- by the number at the machine's place
+-- by the number that was read at the machine's place
 abbrev pub readOn : ℕ → Machine → List ℕ → List ℕ → Parsed ℕ → Machine
 readOn k m c ms (refused j v) = stopped (Refused 14) (m .at)
 readOn k m c ms (got id next) = turnedOn k (m .phase) m (standsBy ms c) id next
@@ -153,15 +153,14 @@ readTrail m c ms tr (refused k v) = tr
 readTrail m c ms tr (got id next) = turnedTrail (m .phase) (standsBy ms c) (m .set) tr
 
 -- 15 where the row is not live
-unfoldable pub advanced : List ℕ → ℕ → Machine → Row → List ℕ → List ℕ → Machine
-advanced s k m row ws ms =
-    cond (eqb (row .live) 0) (stopped (Refused 15) (m .at)) (readOn k m (rowClause row ws) ms (number s (m .at)))
+unfoldable pub advanced : Parsed ℕ → ℕ → Machine → Row → List ℕ → List ℕ → Machine
+advanced x k m row ws ms = cond (eqb (row .live) 0) (stopped (Refused 15) (m .at)) (readOn k m (rowClause row ws) ms x)
 
-unfoldable pub advancedMarks : List ℕ → Machine → Row → List ℕ → List ℕ → List ℕ
-advancedMarks s m row ws ms = cond (eqb (row .live) 0) ms (readMarks (m .phase) (rowClause row ws) ms (number s (m .at)))
+unfoldable pub advancedMarks : Parsed ℕ → Machine → Row → List ℕ → List ℕ → List ℕ
+advancedMarks x m row ws ms = cond (eqb (row .live) 0) ms (readMarks (m .phase) (rowClause row ws) ms x)
 
-unfoldable pub advancedTrail : List ℕ → Machine → Row → List ℕ → List ℕ → List ℕ → List ℕ
-advancedTrail s m row ws ms tr = cond (eqb (row .live) 0) tr (readTrail m (rowClause row ws) ms tr (number s (m .at)))
+unfoldable pub advancedTrail : Parsed ℕ → Machine → Row → List ℕ → List ℕ → List ℕ → List ℕ
+advancedTrail x m row ws ms tr = cond (eqb (row .live) 0) tr (readTrail m (rowClause row ws) ms tr x)
 
 -- what a turn comes to
 pub data Advances (s : List ℕ) (m : Machine) (row : Row) (ws ms tr : List ℕ) (r : Machine) (ms′ tr′ : List ℕ) : Type 0 where
@@ -179,7 +178,8 @@ pub data Advances (s : List ℕ) (m : Machine) (row : Row) (ws ms tr : List ℕ)
   idle : 2 ≤ turnOf (m .phase) → Advances s m row ws ms tr r ms′ tr′
 
 pub advances : (s : List ℕ) (m : Machine) (row : Row) (ws ms tr : List ℕ) → (turnOf (m .phase) ≡ 1 → ⊥)
-    → Advances s m row ws ms tr (advanced s (length tr) m row ws ms) (advancedMarks s m row ws ms) (advancedTrail s m row ws ms tr)
+    → Advances s m row ws ms tr (advanced (number s (m .at)) (length tr) m row ws ms) (advancedMarks (number s (m .at)) m row ws ms)
+    (advancedTrail (number s (m .at)) m row ws ms tr)
 unfolding advanced advancedMarks advancedTrail
 advances s m row ws ms tr looks = go (eqb (row .live) 0) refl
   where

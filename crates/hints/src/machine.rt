@@ -1,12 +1,11 @@
 // The machine that judges a proof, id by id. It never sees the directory: it names the id that it wants, and is handed the
-// row that was found. The next number of the proof is read at one place.
+// row that was found and the number that was read where it stands in the proof.
 use directory::Row;
 use directory::first_word;
 use directory::is_dead;
 use directory::word_count;
 use marks::put_mark;
 use number::Number;
-use reader::number_in;
 use reader::wide;
 use scope::refusals::BAD_HINT;
 use scope::refusals::BAD_STEP;
@@ -20,6 +19,7 @@ ghost use Rattle.theory.specs.Marked.{standing, falsified};
 ghost use Rattle.marks.specs.Marks.{marksOf};
 ghost use Rattle.directory.specs.Rows.{rowClause};
 ghost use lib.ListN.{length};
+ghost use Rattle.number.specs.Answers.{said};
 ghost use Rattle.hints.specs.Machine.{turnOf, stopped, onward, walked, walkedMarks, walkedTrail, advanced, advancedMarks, advancedTrail};
 
 // What is to be done next.
@@ -146,24 +146,24 @@ fn take_hint(
     }
 }
 
-// One turn with the row of the id that was wanted, to judge a hint or to open its variables again.
+// One turn with the row of the id that was wanted, to judge a hint or to open its variables again; t is the number that was read
+// where the machine stands.
 pub fn advance(
     m: Machine,
     row: Row,
-    proof: &[u8],
+    t: Number,
     words: &[u32],
     marks: &mut [u8],
     trail: &mut [u32],
 ) -> Machine
-    ensures { λ r. ⌜ r ≡ advanced (now (proof .entry)) (length (now (trail .entry))) m row (now (words .entry)) (now (marks .entry)) ⌝ }
-    ensures { λ _. ⌜ now (marks .exit) ≡ advancedMarks (now (proof .entry)) m row (now (words .entry)) (now (marks .entry)) ⌝ }
-    ensures { λ _. ⌜ now (trail .exit) ≡ advancedTrail (now (proof .entry)) m row (now (words .entry)) (now (marks .entry)) (now (trail .entry)) ⌝ }
+    ensures { λ r. ⌜ r ≡ advanced (said t) (length (now (trail .entry))) m row (now (words .entry)) (now (marks .entry)) ⌝ }
+    ensures { λ _. ⌜ now (marks .exit) ≡ advancedMarks (said t) m row (now (words .entry)) (now (marks .entry)) ⌝ }
+    ensures { λ _. ⌜ now (trail .exit) ≡ advancedTrail (said t) m row (now (words .entry)) (now (marks .entry)) (now (trail .entry)) ⌝ }
 {
     let at = m.at;
     if is_dead(row) {
         return stop(Phase::Refused(NOT_LIVE), at);
     }
-    let t = number_in(proof, at);
     let Number::Value(id, next) = t else {
         return stop(Phase::Refused(BAD_STEP), at);
     };

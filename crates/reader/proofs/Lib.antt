@@ -1,3 +1,4 @@
 pub mod Readers
 pub mod NumberTold
 pub mod Loops
+pub mod ReaderCalls

@@ -1,2 +1,5 @@
 mod Taking
+mod Lengths
+mod Deletions
+pub mod Turning
 mod Local

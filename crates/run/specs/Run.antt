@@ -51,11 +51,6 @@ pub data Ran (s : List ℕ) (last cap : ℕ) (w : World) : World → Type 0 wher
 abbrev pub world : Check → Machine → (ℕ → Row) → List ℕ → List ℕ → List ℕ → World
 world c m R ws ms tr = record { check = c; machine = m; rows = R; words = ws; marks = ms; trail = tr }
 
--- the ids that are deleted with a machine m among the first n rows: the turns of a check with them, whatever else it holds
-pub record DeletesIds (s : List ℕ) (cap n : ℕ) (m : Machine) (R : ℕ → Row) (r : Machine) (R′ : ℕ → Row) : Type 0 where
-  pub over : turnOf (r .phase) ≡ 1 → ⊥
-  pub ran : (last : ℕ) (c : Check) (ws ms tr : List ℕ) → c .tally .rows ≡ n → Ran s last cap (world c m R ws ms tr) (world c r R′ ws ms tr)
-
 -- before the first step
 abbrev pub ready : ℕ → ℕ → (ℕ → Row) → List ℕ → List ℕ → List ℕ → World
 ready n used R ws ms tr = world (begun n used) (stopped Next 0) R ws ms tr

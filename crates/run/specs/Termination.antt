@@ -23,24 +23,8 @@ use Rattle.hints.specs.Machine as machine
 use Rattle.hints.specs.Machine.{turnOf, turn-phase, stopped, onward, walked, Advances, gone, broken, walks, wipes, idle}
 use Rattle.trail.specs.Recorded.{recordedAt}
 use Rattle.turns.specs.Check.{keptAs, verdict, firstId, enteredAt, entered, proceeded, unwound, stepped, TakesStep, over, takes}
+use Rattle.run.specs.Turned.{budget, leftAt, left}
 use Rattle.run.specs.Run.{World, Turn, looks, keeps, judges, reads, Ran, none, more}
-
--- what is left: of a proof of P bytes and a step whose hints stand at h, by stages and by the offset in each
-unfoldable budget : ℕ → ℕ → ℕ → ℕ → ℕ
-budget P h stage at = suc ((P - h) * (5 * suc P) + stage * suc P + (P - at))
-
-unfoldable leftAt : ℕ → ℕ → ℕ → Phase → ℕ
-leftAt P h at Next = budget P h 0 at
-leftAt P h at Walk = budget P h 4 at
-leftAt P h at Followed = budget P h 3 at
-leftAt P h at Keep = budget P h 2 at
-leftAt P h at Wipe = budget P h 1 at
-leftAt P h at Delete = budget P h 4 at
-leftAt P h at Proved = 0
-leftAt P h at (Refused k) = 0
-
-pub left : ℕ → Check → Machine → ℕ
-left P c m = leftAt P (c .clause .hints) (m .at) (m .phase)
 
 -- the machine is at the hints of the clause at hand, or past them
 abbrev pub Past : Check → Machine → Type 0
@@ -89,7 +73,7 @@ walk-lower P h at k (oneOpen x) id next n l a i =
     on-lower P h (budget P h 4 at) Walk (Refused 16) id next (recordedAt k n) (omega arith) (same-stage P h 4 at next a i) (omega arith)
 walk-lower P h at k other id next n l a i = record { past = omega arith; less = omega arith }
 
-some-left : (P h at : ℕ) (p : Phase) → turnOf p ≤ 4 → 0 < leftAt P h at p
+pub some-left : (P h at : ℕ) (p : Phase) → turnOf p ≤ 4 → 0 < leftAt P h at p
 unfolding leftAt budget
 some-left P h at Next t = omega arith
 some-left P h at Walk t = omega arith
@@ -244,16 +228,3 @@ turn-falls s last cap w v (reads t x e r ws) l =
 pub ran-on : (s : List ℕ) (last cap : ℕ) {w v u : World} → Ran s last cap w v → Ran s last cap v u → Ran s last cap w u
 ran-on s last cap r none = r
 ran-on s last cap r (more x y q t k l) = more x y (ran-on s last cap r q) t k l
-
--- some turns: what is left falls, if there was one
-pub data Runs (P : ℕ) (w v : World) : Type 0 where
-  still : v ≡ w → Runs P w v
-  fell : Falls P w v → Runs P w v
-
-pub ran-falls : (s : List ℕ) (last cap : ℕ) {w v : World} → Ran s last cap w v → Past (w .check) (w .machine) → Runs (length s) w v
-ran-falls s last cap none l = still refl
-ran-falls s last cap {w} {v} (more x y q t k k′) l = go (ran-falls s last cap q l)
-  where
-    go : Runs (length s) w x → Runs (length s) w v
-    go (still e) = fell (rw e at (turn-falls s last cap x v t (rw e l)))
-    go (fell f) = let g = turn-falls s last cap x v t (f .0) in fell (g .0, omega (arith, f .1, g .1))

@@ -6,22 +6,26 @@ use hints::machine::DELETE;
 use hints::machine::Machine;
 use hints::machine::turn_of;
 use lookup::find;
+use reader::moved;
+use reader::over;
+use reader::read_number;
 ghost use mathlib.Core.Path.{_≡_};
-ghost use lib.ListN.{length};
-ghost use Rattle.directory.specs.Directory.{rowsOf};
-ghost use Rattle.run.specs.Run.{DeletesIds};
+ghost use Rattle.run.specs.Turned.{deletion, idsDeleted};
 
-// The machine's turns go on until it has no id to delete.
+// The machine's turns go on until it has no id to delete; the reader stands where the machine does.
 pub fn delete_ids(m: Machine, proof: &[u8], rows: &mut [Row], n: usize) -> Machine
-    ensures { λ r. ⌜ DeletesIds (now (proof .entry)) (length (now (rows .entry))) n m (rowsOf (now (rows .entry))) r (rowsOf (now (rows .exit))) ⌝ }
+    ensures { λ r. ⌜ deletion r (now (rows .exit)) ≡ idsDeleted (now (proof .entry)) n m (now (rows .entry)) ⌝ }
 {
     let mut d = m;
+    let mut r = over(proof, m.at);
     loop {
         let turn = turn_of(d);
         if turn == DELETE {
             let p = find(rows, n, d.want);
-            d = pass_id(d, p.hit, proof);
             mark_dead(rows, p.at);
+            let t = read_number(r);
+            d = pass_id(d, p.hit, t);
+            r = moved(r, d.at);
         } else {
             return d;
         }

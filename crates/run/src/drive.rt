@@ -17,6 +17,9 @@ use lookup::find;
 use phases::next::answer;
 use phases::next::enter;
 use phases::next::proceed;
+use reader::moved;
+use reader::over;
+use reader::read_number;
 use scope::CheckAnswer;
 use taking::step::next_step;
 use turns::check::begin;
@@ -25,11 +28,9 @@ use turns::check::keep;
 use turns::check::row_of;
 use unwinding::marks::unwind;
 ghost use mathlib.Core.Path.{_≡_};
-ghost use lib.ListN.{length};
-ghost use Rattle.directory.specs.Directory.{rowsOf};
 ghost use Rattle.hints.specs.declared.machine.Phase.the-variants.{Next};
 ghost use Rattle.hints.specs.Machine.{stopped};
-ghost use Rattle.run.specs.Run.{Driven};
+ghost use Rattle.run.specs.Turned.{outcome, drivenWith, drivenBy};
 
 // The machine before the first step.
 fn ready() -> Machine
@@ -38,7 +39,7 @@ fn ready() -> Machine
     stop(Phase::Next, 0)
 }
 
-// The proof is judged turn by turn, with some trail.
+// The proof is judged turn by turn, with some trail, and read through one reader, which each turn moves to where the machine stands.
 fn drive_with(
     proof: &[u8],
     words: &mut [u32],
@@ -49,17 +50,19 @@ fn drive_with(
     n: usize,
     used: usize,
 ) -> CheckAnswer
-    ensures { λ r. ⌜ Driven (now (proof .entry)) last (length (now (rows .entry))) n
-        used (rowsOf (now (rows .entry))) (now (words .entry)) (now (marks .entry)) r (rowsOf (now (rows .exit)))
-        (now (words .exit)) (now (marks .exit)) ⌝ }
+    ensures { λ r. ⌜ outcome r (now (rows .exit)) (now (words .exit)) (now (marks .exit))
+        ≡ drivenWith (now (proof .entry)) last n used (now (rows .entry)) (now (words .entry)) (now (marks .entry)) (now (trail .entry)) ⌝ }
 {
     let mut c = begin(n, used);
     let mut m = ready();
+    let mut r = over(proof, 0);
     loop {
+        r = moved(r, m.at);
         let turn = turn_of(m);
         if turn == LOOK {
             let p = find(rows, c.tally.rows, m.want);
-            m = advance(m, p.hit, proof, words, marks, trail);
+            let t = read_number(r);
+            m = advance(m, p.hit, t, words, marks, trail);
         } else if turn == DELETE {
             m = delete_ids(m, proof, rows, c.tally.rows);
         } else if turn == KEEP {
@@ -89,7 +92,8 @@ pub fn drive(
     n: usize,
     used: usize,
 ) -> CheckAnswer
-    ensures { λ r. ⌜ Driven (now (proof .entry)) last (length (now (rows .entry))) n used (rowsOf (now (rows .entry))) (now (words .entry)) (now (marks .entry)) r (rowsOf (now (rows .exit))) (now (words .exit)) (now (marks .exit)) ⌝ }
+    ensures { λ r. ⌜ outcome r (now (rows .exit)) (now (words .exit)) (now (marks .exit))
+        ≡ drivenBy (now (proof .entry)) last n used (now (rows .entry)) (now (words .entry)) (now (marks .entry)) ⌝ }
 {
     let mut trail = [0u32; 4096];
     drive_with(proof, words, rows, marks, &mut trail, last, n, used)

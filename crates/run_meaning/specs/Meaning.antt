@@ -36,8 +36,10 @@ use Rattle.hints.specs.Machine.{turnOf, turn-phase, Advances, gone, broken, wal
 use Rattle.trail.specs.Recorded.{largest}
 use Rattle.turns.specs.Check.{answerOf}
 use Rattle.run.specs.Run as run
-use Rattle.run.specs.Run.{World, Turn, looks, keeps, judges, reads, Ran, Driven}
+use Rattle.run.specs.Run.{World, Turn, looks, keeps, judges, reads, Ran}
+use Rattle.run.specs.Turned.{outcome, drivenBy}
 use Rattle.run.specs.Termination.{Past, turn-falls}
+use Rattle.run.proofs.Turning.{Few, driven-chain}
 use Rattle.run_meaning.specs.Invariant.{Base, liveIn, Walking, Wiping, Deleting, InvariantIn, InvariantAt, Invariant}
 use Rattle.run_meaning.specs.LookMeans.{hint-gone, hint-judged, clause-wiped}
 use Rattle.run_meaning.specs.StepMeans.{id-gone, id-deleted, clause-kept, clause-judged}
@@ -243,13 +245,14 @@ abbrev pub limits : ℕ → ℕ → ℕ → Limits
 limits last words rows = record { lastVariable = last; wordsLent = words; rowsLent = rows }
 
 -- where a formula stands in the stores, a check answers what the plain run does
-pub driven-means : (s : List ℕ) (last cap n used : ℕ) (R : ℕ → Row) (ws ms : List ℕ) (r : CheckAnswer) (f : List (List ℕ)) {R′ : ℕ → Row} {ws′ ms′ : List ℕ}
-    → Driven s last cap n used R ws ms r R′ ws′ ms′ → last ≤ 4294967295 → length ws ≤ 9223372036854775807
-    → Stands f last cap n used R ws ms
-    → checkMeans r ≡ plainRun (limits last (length ws) cap) f s
+pub driven-means : (s : List ℕ) (last n used : ℕ) (ys : List Row) (ws ms : List ℕ) (r : CheckAnswer) (f : List (List ℕ)) {ys′ : List Row} {ws′ ms′ : List ℕ}
+    → Few s ws (length ys) → outcome r ys′ ws′ ms′ ≡ drivenBy s last n used ys ws ms → last ≤ 4294967295 → length ws ≤ 9223372036854775807
+    → Stands f last (length ys) n used (rowsOf ys) ws ms → checkMeans r ≡ plainRun (limits last (length ws) (length ys)) f s
 unfolding plainRun start
-driven-means s last cap n used R ws ms r f d least short-words x =
-    let lim = limits last (length ws) cap in
+driven-means s last n used ys ws ms r f few e least short-words x =
+    let d = driven-chain s last n used ys ws ms few e in
+    let R = rowsOf ys in
+    let lim = limits last (length ws) (length ys) in
     let A = plainRun lim f s in
     let short : Short s lim = record { few-bytes = d .few-bytes; few-words = short-words; few-rows = d .few-rows; few-variables = least } in
     let begins : Invariant s lim A (run.ready n used R ws ms (d .trail)) =
@@ -266,11 +269,13 @@ driven-means s last cap n used R ws ms r f d least short-words x =
     (record { past = omega arith; few = d .short-trail; kept = begins }) .kept)
 
 -- the same for a formula that stood in the words with each clause's last word marked, of which the directory was built
-pub check-means : (s : List ℕ) (last n : ℕ) (ys₀ ys : List Row) (ws₀ ws ms : List ℕ) (r : CheckAnswer) (f : List (List ℕ)) (rest : List ℕ) {R′ : ℕ → Row} {ws′ ms′ : List ℕ}
+pub check-means : (s : List ℕ) (last n : ℕ) (ys₀ ys : List Row) (ws₀ ws ms : List ℕ) (r : CheckAnswer) (f : List (List ℕ)) (rest : List ℕ) {ys′ : List Row} {ws′ ms′ : List ℕ}
     → Plain f → Each (Good last) f → Narrow f → last ≤ 4294967295 → length ws ≤ 9223372036854775807 → ws₀ ≡ flatMap mark f ++ rest → length f ≤ length ys₀ → last ≤ length ms → marksOf ms ≡ allOpen
-    → Built ws₀ ws ys₀ ys (words f) n → Driven s last (length ys₀) n (words f) (rowsOf ys) ws ms r R′ ws′ ms′
+    → Built ws₀ ws ys₀ ys (words f) n → length ys ≡ length ys₀ → Few s ws (length ys)
+    → outcome r ys′ ws′ ms′ ≡ drivenBy s last n (words f) ys ws ms
     → checkMeans r ≡ scope.plainRun (limits last (length ws) (length ys₀)) f s
-check-means s last n ys₀ ys ws₀ ws ms r f rest plain good few least short e fits marked unmarked b d =
-    driven-means s last (length ys₀) n (words f) (rowsOf ys) ws ms r f d least short
-    (built-stands f rest last (length ys₀) n (rowsOf ys) ws ms (built-for f rest b plain e fits) good few fits marked unmarked)
+check-means s last n ys₀ ys ws₀ ws ms r f rest plain good narrow least short e fits marked unmarked b long few d =
+    let stands : Stands f last (length ys) n (words f) (rowsOf ys) ws ms =
+    rw long (built-stands f rest last (length ys₀) n (rowsOf ys) ws ms (built-for f rest b plain e fits) good narrow fits marked unmarked) in
+    (rw long at (driven-means s last n (words f) ys ws ms r f few d least short stands))
     ∙ sym (plain-marked (limits last (length ws) (length ys₀)) f s)

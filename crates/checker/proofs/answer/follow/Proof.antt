@@ -47,7 +47,6 @@ use Rattle.scope.proofs.Refusal.Laws as F′
 use Rattle.scope.proofs.CheckAnswer as S
 use Rattle.scope.proofs.CheckAnswer.Laws as S′
 use Rattle.directory.specs.declared.Row.{Row}
-use Rattle.directory.specs.Directory.{rowsOf}
 use Rattle.building.specs.Marked.{flat, parted, rowsFor}
 use Rattle.walks.proofs.Walk.{ty-at, Addrs, addr-at, env-of, laid, rotate, allocs-all, frees-all, var, part, fills}
 use Rattle.walks.proofs.Slices.{at-list, Whole, lent, back}
@@ -57,7 +56,7 @@ use Rattle.building.proofs.build_directory as build
 use Rattle.building.proofs.build_directory.Symbol as build-def
 use Rattle.building.proofs.build_directory.Symbol.{name as #build}
 use Rattle.building.proofs.build_directory.Met as build-thm
-use Rattle.run.specs.Run.{Driven}
+use Rattle.run.specs.Turned.{outcome, drivenBy}
 use Rattle.run.proofs.drive.drive as drive
 use Rattle.run.proofs.drive.drive.Symbol as drive-def
 use Rattle.run.proofs.drive.drive.Symbol.{name as #drive}
@@ -212,7 +211,7 @@ module _ {M : Type 1} (𝓤 : URA M) (H : Heap 𝓤) (A : Atoms 𝓤) (W : Given
       move ! (5 ∷ 0 ∷ []) $ fjoin ! $ move ! (4 ∷ 0 ∷ []) $ fjoin ! $ move ! (3 ∷ 0 ∷ []) $ fjoin ! $ move ! (2 ∷ 0 ∷ []) $ fjoin ! $
       move ! (1 ∷ 0 ∷ []) $ join ! $ frame ! $ done !
 
-  module _ (𝓣 : Tables 𝓤 H) (fm : FmC 𝓤 H (W .laws) (𝓣 .C)) (known : Known 𝓤 H A mem run (𝓣 .C)) (room₁ : Room u32 (length us)) (room₂ : Room R.the-row (length ys)) (room₃ : Room u8 (length ms)) (ls : Addrs body.locals) where
+  module _ (𝓣 : Tables 𝓤 H) (fm : FmC 𝓤 H (W .laws) (𝓣 .C)) (known : Known 𝓤 H A mem run (𝓣 .C)) (room₀ : Room u8 (length ps)) (room₁ : Room u32 (length us)) (room₂ : Room R.the-row (length ys)) (room₃ : Room u8 (length ms)) (ls : Addrs body.locals) where
     abbrev C : Calls 𝓤 H
     C = 𝓣 .C
 
@@ -266,7 +265,7 @@ module _ {M : Type 1} (𝓤 : URA M) (H : Heap 𝓤) (A : Atoms 𝓤) (W : Given
         move ! (50 ∷ 51 ∷ []) $ lent u8 κ₃ q₃ γ₃ b₃ o₃ ! tt (named 3) ms (λ μ₃ ε₃.
         move ! (52 ∷ 7 ∷ 4 ∷ 1 ∷ 51 ∷ 6 ∷ 3 ∷ 0 ∷ []) $
         cut (Driving (ws .0) (ws .1 .0) μ₁ ε₁ μ₂ ε₂ μ₃ ε₃) (raw (drive-to 𝓤 H A mem run .pre (to-drive (ws .0) (ws .1 .0) last n used μ₁ ε₁ μ₂ ε₂ μ₃ ε₃)) ∷ []) _ (goes-drive (ws .0) (ws .1 .0) last n used μ₁ ε₁ μ₂ ε₂ μ₃ ε₃ last-fits (is-n .1) used-fits) $
-        calls-to-last drive.ended (drive.clauses 𝓤 H A mem run) (to-drive (ws .0) (ws .1 .0) last n used μ₁ ε₁ μ₂ ε₂ μ₃ ε₃) (λ r ws′. Driven ps last (length (ws .1 .0)) n used (rowsOf (ws .1 .0)) (ws .0) ms r (rowsOf (ws′ .1 .1 .0)) (ws′ .1 .0) (ws′ .1 .1 .1 .0)) (λ r ws′. id⊢ 𝓤 _) S′.lowered answer-same ! fm (known .drive)
+        calls-to-last drive.ended (drive.clauses 𝓤 H A mem run) (to-drive (ws .0) (ws .1 .0) last n used μ₁ ε₁ μ₂ ε₂ μ₃ ε₃) (λ r ws′. outcome r (ws′ .1 .1 .0) (ws′ .1 .0) (ws′ .1 .1 .1 .0) ≡ drivenBy ps last n used (ws .1 .0) (ws .0) ms) (λ r ws′. id⊢ 𝓤 _) S′.lowered answer-same ! fm (known .drive)
         (and-then ! (var ! 40 refl) (and-then ! (var ! 12 refl) (and-then ! (var ! 8 refl) (and-then ! (var ! 4 refl) (and-then ! (var ! 30 refl) (and-then ! (var ! 28 refl) (and-then ! (var ! 32 refl) (no-more !)))))))) (λ r ws′ driven is-r.
         use1 W (‵ (flft κ₀ q₀) ⊛ (‵ (flft (μ₁ ∷ []) fullShare) ⊛ (‵ (flft (μ₂ ∷ []) fullShare) ⊛ (‵ (flft (μ₃ ∷ []) fullShare) ⊛ ‵ ftrue)))) (id⊢ 𝓤 _) $
         split ! $ move ! (1 ∷ []) $ split ! $ move ! (1 ∷ []) $ split ! $ move ! (1 ∷ []) $ split ! $ move ! (1 ∷ []) $ drop ! $ move ! (4 ∷ []) $
@@ -279,7 +278,7 @@ module _ {M : Type 1} (𝓤 : URA M) (H : Heap 𝓤) (A : Atoms 𝓤) (W : Given
         exec ! C Λ En body.t-2 (atRet En (Post (Ready.Formula used last))) $ fills ! 40 (of-opd ! (var ! 20 refl)) refl (answer-typed W r _ is-r) $
         returns ! (look ! 40 refl) $
         frees-all ! body.locals ls (some _ ∷ some _ ∷ some _ ∷ some _ ∷ some _ ∷ some _ ∷ some _ ∷ some _ ∷ some _ ∷ none ∷ some _ ∷ some _ ∷ some _ ∷ some _ ∷ some _ ∷ some _ ∷ some _ ∷ some _ ∷ some _ ∷ some _ ∷ some _ ∷ []) $
-        by ! (exits (Ready.Formula used last) r is-r (ws′ .1 .0) (ws′ .1 .1 .0) (ws′ .1 .1 .1 .0) (k₁ ∙ kept-us) (k₂ ∙ kept-ys) k₃ (follows-formula refl kept-us kept-ys (record { count = built .0; words = built .1 .0; rows = built .1 .1 }) driven))))))))))))))
+        by ! (exits (Ready.Formula used last) r is-r (ws′ .1 .0) (ws′ .1 .1 .0) (ws′ .1 .1 .1 .0) (k₁ ∙ kept-us) (k₂ ∙ kept-ys) k₃ (follows-formula refl kept-us kept-ys (record { count = built .0; words = built .1 .0; rows = built .1 .1 }) (record { bytes = omega (arith, room₀ .0); words = omega (arith, room₁ .0, kept-us); rows = omega (arith, room₂ .0, kept-ys) }) driven))))))))))))))
     matched (Ready.Refused x) is =
         let is-x : Is F.the-row x (F′.lowered x ∷ []) = EL.owed Y.the-type Y′.the-laws (Ready.Refused x) _ is .0 in
         let is-r : IsAnswer (CheckAnswer.Refused x) (S′.lowered (CheckAnswer.Refused x)) = EL.owes S.the-type S′.the-laws (CheckAnswer.Refused x) (is-x, tt) in
@@ -305,7 +304,7 @@ module _ {M : Type 1} (𝓤 : URA M) (H : Heap 𝓤) (A : Atoms 𝓤) (W : Given
       pass1 ! (init ! 38 refl (ready-typed W d _ is)) $ pass1 ! (init ! 36 refl (tt, (tt, (record { fits = room₀ .0 }, tt)))) $
       pass1 ! (init ! 34 refl (tt, (tt, (record { fits = room₁ .0 }, tt)))) $ pass1 ! (init ! 32 refl (tt, (tt, (record { fits = room₂ .0 }, tt)))) $
       pass1 ! (init ! 30 refl (tt, (tt, (record { fits = room₃ .0 }, tt)))) $ pass0 ! $
-      first ! $ matched 𝓣 fm known room₁ room₂ room₃ ls d is)
+      first ! $ matched 𝓣 fm known room₀ room₁ room₂ room₃ ls d is)
 
 meets : {M : Type 1} (𝓤 : URA M) (H : Heap 𝓤) (A : Atoms 𝓤) → Given 𝓤 H A → (mem : Memory → SProp 𝓤) (run : Routine → Fun 𝓤) (𝓣 : Tables 𝓤 H) → Known 𝓤 H A mem run (𝓣 .C)
     → Meets 𝓤 H A f.signature (WpFn 𝓤 H (𝓣 .C) (𝓣 .Λ) code.function) (f.spec 𝓤 H A mem run)

@@ -1,6 +1,5 @@
 use mathlib.Core.Path.{sym, _∙_}
 use borrow.Author.Needs.{needs}
-use Rattle.reader.proofs.NumberTold.{value-at, no-value-at}
 use Rattle.deletion.specs.Passed.{passedId}
 use Rattle.deletion.proofs.ids.pass_id.Statement.{statement}
 use Rattle.deletion.proofs.ids.pass_id.Tie as tie
@@ -15,9 +14,6 @@ returns : tie.Need-returns
 unfolding passedId
 returns c = c .stop .ensures ∙ rw (sym (c .before .before .is-dead .ensures) ∙ c .before .if1 .taken)
 
-number-in-requires : tie.Need-number-in-requires
-number-in-requires c κs = search needs
-
 enum-known-t : tie.Need-enum-known-t
 enum-known-t c = search needs
 
@@ -30,9 +26,8 @@ stop-requires-2 c κs = search needs
 returns-2 : tie.Need-returns-2
 unfolding passedId
 returns-2 c =
-    let a = c .before .before .before .before .before .before .before .args in
-    let z = sym (c .before .before .before .before .before .is-dead .ensures) ∙ c .before .before .before .before .if1 .left in
-    let e = no-value-at (a .proof .now) (a .m .at) (c .before .before .before .number-in .result) (c .before .before .before .number-in .ensures) (c .before .enum-told .given .1) in
+    let z = sym (c .before .before .before .before .is-dead .ensures) ∙ c .before .before .before .if1 .left in
+    let e = c .before .enum-told .given .1 in
     c .stop2 .ensures ∙ rw (z, e)
 
 step-on-requires : tie.Need-step-on-requires
@@ -41,9 +36,8 @@ step-on-requires c κs = search needs
 returns-3 : tie.Need-returns-3
 unfolding passedId
 returns-3 c =
-    let a = c .before .before .before .before .before .before .before .before .args in
-    let z = sym (c .before .before .before .before .before .before .is-dead .ensures) ∙ c .before .before .before .before .before .if1 .left in
-    let e = value-at (a .proof .now) (a .m .at) (c .before .before .before .before .number-in .result) (c .before .before .before .before .number-in .ensures) (c .before .before .t .given .1) in
+    let z = sym (c .before .before .before .before .before .is-dead .ensures) ∙ c .before .before .before .before .if1 .left in
+    let e = c .before .before .t .given .1 in
     c .step-on .ensures ∙ rw (z, e)
 
 pub pass-id-spec : {M : Type 1} → statement M
@@ -53,7 +47,6 @@ pass-id-spec =
     is-dead-requires
     stop-requires
     returns
-    number-in-requires
     enum-known-t
     enum-told
     stop-requires-2

@@ -1,15 +1,8 @@
-use mathlib.Core.Path.{_≡_, sym, _∙_}
-use Rattle.scope.specs.Parsed.{got}
-use Rattle.scope.specs.Number.{number}
+use mathlib.Core.Path.{sym, _∙_}
 use Rattle.hints.specs.Machine.{advanced, advancedMarks, advancedTrail}
-use Rattle.reader.proofs.NumberTold.{value-at, no-value-at}
 use borrow.Author.Needs.{needs}
 use Rattle.hints.proofs.machine.advance.Statement.{statement}
 use Rattle.hints.proofs.machine.advance.Tie as tie
-
--- the number that was read
-read : (c : tie.After-known-told) → number (c .before .before .before .before .before .before .before .before .before .before .args .proof .now) (c .before .before .before .before .before .before .before .before .before .before .args .m .at) ≡ got (c .before .t .given .0 .0) (c .before .t .given .0 .1 .0)
-read c = value-at (c .before .before .before .before .before .before .before .before .before .before .args .proof .now) (c .before .before .before .before .before .before .before .before .before .before .args .m .at) (c .before .before .before .number-in .result) (c .before .before .before .number-in .ensures) (c .before .t .given .1)
 
 is-dead-requires : tie.Need-is-dead-requires
 is-dead-requires c κs = search needs
@@ -21,9 +14,6 @@ returns : tie.Need-returns
 unfolding advanced advancedMarks advancedTrail
 returns c =
     let z = sym (c .before .before .is-dead .ensures) ∙ c .before .if1 .taken in (c .stop .ensures ∙ rw z, (rw z, rw z))
-
-number-in-requires : tie.Need-number-in-requires
-number-in-requires c κs = search needs
 
 enum-known-t : tie.Need-enum-known-t
 enum-known-t c = search needs
@@ -37,9 +27,8 @@ stop-requires-2 c κs = search needs
 returns-2 : tie.Need-returns-2
 unfolding advanced advancedMarks advancedTrail
 returns-2 c =
-    let a = c .before .before .before .before .before .before .before .before .before .before .args in
-    let z = sym (c .before .before .before .before .before .is-dead .ensures) ∙ c .before .before .before .before .if1 .left in
-    let e = no-value-at (a .proof .now) (a .m .at) (c .before .before .before .number-in .result) (c .before .before .before .number-in .ensures) (c .before .enum-told .given .1) in
+    let z = sym (c .before .before .before .before .is-dead .ensures) ∙ c .before .before .before .if1 .left in
+    let e = c .before .enum-told .given .1 in
     (c .stop2 .ensures ∙ rw (z, e), (rw (z, e), rw (z, e)))
 
 enum-told-2 : tie.Need-enum-told-2
@@ -90,8 +79,8 @@ same-length-2 c = search needs
 returns-3 : tie.Need-returns-3
 unfolding advanced advancedMarks advancedTrail
 returns-3 c =
-    let z = sym (c .before .before .before .before .before .before .before .before .before .before .before .before .before .before .is-dead .ensures) ∙ c .before .before .before .before .before .before .before .before .before .before .before .before .before .if1 .left in
-    let e = read (c .before .before .before .before .before .before .before .before .before) in
+    let z = sym (c .before .before .before .before .before .before .before .before .before .before .before .before .before .is-dead .ensures) ∙ c .before .before .before .before .before .before .before .before .before .before .before .before .if1 .left in
+    let e = c .before .before .before .before .before .before .before .before .before .before .t .given .1 in
     let p = c .before .before .before .before .before .before .before .enum-told2 .given .1 in
     (c .before .before .before .before .take-hint .ensures .0 ∙ rw (z, e, p), (c .before .before .before .before .take-hint .ensures .1 .0 ∙ rw (z, e, p), c .before .before .before .before .take-hint .ensures .1 .1 ∙ rw (z, e, p)))
 
@@ -101,56 +90,56 @@ same-length-3 c = search needs
 returns-4 : tie.Need-returns-4
 unfolding advanced advancedMarks advancedTrail
 returns-4 c =
-    let z = sym (c .before .before .before .before .before .before .before .before .before .before .before .before .before .before .is-dead .ensures) ∙ c .before .before .before .before .before .before .before .before .before .before .before .before .before .if1 .left in
-    let e = read (c .before .before .before .before .before .before .before .before .before) in
+    let z = sym (c .before .before .before .before .before .before .before .before .before .before .before .before .before .is-dead .ensures) ∙ c .before .before .before .before .before .before .before .before .before .before .before .before .if1 .left in
+    let e = c .before .before .before .before .before .before .before .before .before .before .t .given .1 in
     let p = c .before .before .before .before .before .before .before .enum-told3 .given .1 in
     (c .step-on .ensures ∙ rw (z, e, p), (c .before .before .before .wipe-clause .ensures ∙ rw (z, e, p, c .before .before .before .before .before .first-word .ensures, c .before .before .before .before .word-count .ensures), rw (z, e, p)))
 
 returns-5 : tie.Need-returns-5
 unfolding advanced advancedMarks advancedTrail
 returns-5 c =
-    let z = sym (c .before .before .before .before .before .before .before .is-dead .ensures) ∙ c .before .before .before .before .before .before .if1 .left in
-    let e = read (c .before .before) in
+    let z = sym (c .before .before .before .before .before .before .is-dead .ensures) ∙ c .before .before .before .before .before .if1 .left in
+    let e = c .before .before .before .t .given .1 in
     let p = c .enum-told4 .given .1 in
     (rw (z, e, p), (rw (z, e, p), rw (z, e, p)))
 
 returns-6 : tie.Need-returns-6
 unfolding advanced advancedMarks advancedTrail
 returns-6 c =
-    let z = sym (c .before .before .before .before .before .before .before .is-dead .ensures) ∙ c .before .before .before .before .before .before .if1 .left in
-    let e = read (c .before .before) in
+    let z = sym (c .before .before .before .before .before .before .is-dead .ensures) ∙ c .before .before .before .before .before .if1 .left in
+    let e = c .before .before .before .t .given .1 in
     let p = c .enum-told5 .given .1 in
     (rw (z, e, p), (rw (z, e, p), rw (z, e, p)))
 
 returns-7 : tie.Need-returns-7
 unfolding advanced advancedMarks advancedTrail
 returns-7 c =
-    let z = sym (c .before .before .before .before .before .before .before .is-dead .ensures) ∙ c .before .before .before .before .before .before .if1 .left in
-    let e = read (c .before .before) in
+    let z = sym (c .before .before .before .before .before .before .is-dead .ensures) ∙ c .before .before .before .before .before .if1 .left in
+    let e = c .before .before .before .t .given .1 in
     let p = c .enum-told6 .given .1 in
     (rw (z, e, p), (rw (z, e, p), rw (z, e, p)))
 
 returns-8 : tie.Need-returns-8
 unfolding advanced advancedMarks advancedTrail
 returns-8 c =
-    let z = sym (c .before .before .before .before .before .before .before .is-dead .ensures) ∙ c .before .before .before .before .before .before .if1 .left in
-    let e = read (c .before .before) in
+    let z = sym (c .before .before .before .before .before .before .is-dead .ensures) ∙ c .before .before .before .before .before .if1 .left in
+    let e = c .before .before .before .t .given .1 in
     let p = c .enum-told7 .given .1 in
     (rw (z, e, p), (rw (z, e, p), rw (z, e, p)))
 
 returns-9 : tie.Need-returns-9
 unfolding advanced advancedMarks advancedTrail
 returns-9 c =
-    let z = sym (c .before .before .before .before .before .before .before .is-dead .ensures) ∙ c .before .before .before .before .before .before .if1 .left in
-    let e = read (c .before .before) in
+    let z = sym (c .before .before .before .before .before .before .is-dead .ensures) ∙ c .before .before .before .before .before .if1 .left in
+    let e = c .before .before .before .t .given .1 in
     let p = c .enum-told8 .given .1 in
     (rw (z, e, p), (rw (z, e, p), rw (z, e, p)))
 
 returns-10 : tie.Need-returns-10
 unfolding advanced advancedMarks advancedTrail
 returns-10 c =
-    let z = sym (c .before .before .before .before .before .before .before .is-dead .ensures) ∙ c .before .before .before .before .before .before .if1 .left in
-    let e = read (c .before .before) in
+    let z = sym (c .before .before .before .before .before .before .is-dead .ensures) ∙ c .before .before .before .before .before .if1 .left in
+    let e = c .before .before .before .t .given .1 in
     let p = c .enum-told9 .given .1 in
     (rw (z, e, p), (rw (z, e, p), rw (z, e, p)))
 
@@ -161,7 +150,6 @@ advance-spec =
     is-dead-requires
     stop-requires
     returns
-    number-in-requires
     enum-known-t
     enum-told
     stop-requires-2

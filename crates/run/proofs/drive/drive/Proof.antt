@@ -46,12 +46,11 @@ use Rattle.scope.specs.declared.CheckAnswer.{CheckAnswer}
 use Rattle.scope.proofs.CheckAnswer as S
 use Rattle.scope.proofs.CheckAnswer.Laws as S′
 use Rattle.directory.specs.declared.Row.{Row}
-use Rattle.directory.specs.Directory.{rowsOf}
 use Rattle.walks.proofs.Walk.{ty-at, Addrs, addr-at, rotate, dropped, allocs-all, frees-all, var, part, fills}
 use Rattle.walks.proofs.Slices.{at-list, Whole, lent, back}
 use Rattle.walks.proofs.Calls.{calls-to}
 use Rattle.directory.proofs.Row as R
-use Rattle.run.specs.Run.{Driven}
+use Rattle.run.specs.Turned.{outcome, drivenWith, drivenBy, noTrail}
 use Rattle.run.proofs.Local.{made, emptied, big-lit}
 use Rattle.run.proofs.drive.drive_with as drive-with
 use Rattle.run.proofs.drive.drive_with.Symbol as drive-with-def
@@ -85,11 +84,11 @@ module _ {M : Type 1} {𝓤 : URA M} {H : Heap 𝓤} {A : Atoms 𝓤} (W : Given
   answer-typed r v is = EL.lawful S.the-type S′.the-laws 𝓤 H A W tt .typed r (v ∷ []) is .0
 
 -- the trail at first
-unfoldable zeros : List ℕ
-zeros = replicate 4096 0
+abbrev zeros : List ℕ
+zeros = noTrail
 
 zeros-long : length zeros ≡ 4096
-unfolding zeros
+unfolding noTrail
 zeros-long = length-replicate {A = ℕ} 4096 0
 
 fit-zeros : Room u32 (length zeros)
@@ -133,7 +132,7 @@ module _ {M : Type 1} (𝓤 : URA M) (H : Heap 𝓤) (A : Atoms 𝓤) (W : Given
   Had xs zs vs = ‵ (Whole u32 κ₁ q₁ γ₁ b₁ o₁ (named 1) xs) ∷ ‵ (flft κ₁ q₁) ∷ ‵ (Whole R.the-row κ₂ q₂ γ₂ b₂ o₂ (named 2) zs) ∷ ‵ (flft κ₂ q₂) ∷ ‵ (Whole u8 κ₃ q₃ γ₃ b₃ o₃ (named 3) vs) ∷ ‵ (flft κ₃ q₃) ∷ ‵ (flft κ₀ q₀) ∷ []
 
   exits : (r : CheckAnswer) → IsAnswer r (S′.lowered r) → (xs : List ℕ) (zs : List Row) (vs : List ℕ) → length xs ≡ length us → length zs ≡ length ys → length vs ≡ length ms
-      → Driven ps last (length ys) n used (rowsOf ys) us ms r (rowsOf zs) xs vs → ent 𝓤 (⋆ 𝓤 H A (Had xs zs vs)) (Post (S′.lowered r))
+      → outcome r zs xs vs ≡ drivenBy ps last n used ys us ms → ent 𝓤 (⋆ 𝓤 H A (Had xs zs vs)) (Post (S′.lowered r))
   exits r is xs zs vs e₁ e₂ e₃ z =
       qed W (Had xs zs vs) ∵
       suffices ! _ (ends-at 𝓤 H A f.ended stayed (f.clauses 𝓤 H A mm run) W (((κ₀, (κ₁, (κ₂, (κ₃, tt)))), (q₀, (q₁, (q₂, (q₃, tt)))), tt, a, at), tt) (S′.lowered r) r (tt, (xs, (zs, (vs, (tt, (tt, (tt, tt))))))) (tt, (e₁, (e₂, (e₃, (tt, (tt, (tt, tt)))))))) $ says ! z $
@@ -183,7 +182,7 @@ module _ {M : Type 1} (𝓤 : URA M) (H : Heap 𝓤) (A : Atoms 𝓤) (W : Given
   Array-own = Array u32 4096 .own (replicate 4096 0) (arrayVal (replicate 4096 (vint w32 0)) ∷ [])
 
   made-zeros : (b : ℕ) → ent 𝓤 (sep 𝓤 (H .at fullShare (tyArray (lone (u32 .mir)) 4096) b 0 (arrayVal (replicate 4096 (vint w32 0)))) (sem 𝓤 H A Array-own)) (sem 𝓤 H A (cells (mem u32) zeros b 0))
-  unfolding zeros
+  unfolding noTrail
   made-zeros b = made 𝓤 H A W u32 tt 4096 0 (vint w32 0) b
 
   freed : (b : ℕ) (zs : List ℕ) → length zs ≡ length zeros → ent 𝓤 (sem 𝓤 H A (cells (mem u32) zs b 0)) (H .room (tyArray (lone (u32 .mir)) 4096) b 0)
@@ -229,7 +228,7 @@ module _ {M : Type 1} (𝓤 : URA M) (H : Heap 𝓤) (A : Atoms 𝓤) (W : Given
       await ! tt $ pick ! (λ δ₄. split ! $ rewrite ! 12 (λ (k : ℕ). ‵ (fat fullShare (ty 16) (l ls 16) 0 (sliceVal (l ls 8, 0) k))) (sym zeros-long) refl $
       move ! (46 ∷ 10 ∷ 7 ∷ 4 ∷ 2 ∷ 45 ∷ 9 ∷ 6 ∷ 3 ∷ 0 ∷ []) $
       cut (Driving (l ls 8) ν₁ δ₁ ν₂ δ₂ ν₃ δ₃ ν₄ δ₄) (raw (with-to 𝓤 H A mm run .pre (to-with (l ls 8) ν₁ δ₁ ν₂ δ₂ ν₃ δ₃ ν₄ δ₄)) ∷ []) _ (goes-with (l ls 8) ν₁ δ₁ ν₂ δ₂ ν₃ δ₃ ν₄ δ₄) $
-      calls-to drive-with.ended (drive-with.clauses 𝓤 H A mm run) (to-with (l ls 8) ν₁ δ₁ ν₂ δ₂ ν₃ δ₃ ν₄ δ₄) (λ r ws. Driven ps last (length ys) n used (rowsOf ys) us ms r (rowsOf (ws .1 .1 .0)) (ws .1 .0) (ws .1 .1 .1 .0)) (λ r ws. id⊢ 𝓤 _) S′.lowered answer-same ! fm known
+      calls-to drive-with.ended (drive-with.clauses 𝓤 H A mm run) (to-with (l ls 8) ν₁ δ₁ ν₂ δ₂ ν₃ δ₃ ν₄ δ₄) (λ r ws. outcome r (ws .1 .1 .0) (ws .1 .0) (ws .1 .1 .1 .0) ≡ drivenWith ps last n used ys us ms zeros) (λ r ws. id⊢ 𝓤 _) S′.lowered answer-same ! fm known
       (and-then ! (var ! 34 refl) (and-then ! (var ! 17 refl) (and-then ! (var ! 13 refl) (and-then ! (var ! 9 refl) (and-then ! (var ! 5 refl) (and-then ! (var ! 26 refl) (and-then ! (var ! 24 refl) (and-then ! (var ! 22 refl) (no-more !))))))))) (λ r ws driven is-r.
       use1 W (‵ (flft κ₀ q₀) ⊛ (‵ (flft (ν₁ ∷ []) fullShare) ⊛ (‵ (flft (ν₂ ∷ []) fullShare) ⊛ (‵ (flft (ν₃ ∷ []) fullShare) ⊛ (‵ (flft (ν₄ ∷ []) fullShare) ⊛ ‵ ftrue))))) (id⊢ 𝓤 _) $
       split ! $ move ! (1 ∷ []) $ split ! $ move ! (1 ∷ []) $ split ! $ move ! (1 ∷ []) $ split ! $ move ! (1 ∷ []) $ split ! $ move ! (1 ∷ []) $
