@@ -1,7 +1,7 @@
 // The operation, with lent stores.
-use crate::cost::claim_for;
-use crate::cost::judge;
 use checker::check;
+use cost_bound::claim_for;
+use cost_bound::judge;
 use model::evaluate;
 use scope::BestAnswer;
 use store::directory::Row;
