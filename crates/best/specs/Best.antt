@@ -1,4 +1,4 @@
--- What is claimed of an evaluated model, what a check makes of it, and that this is what the operation is to answer.
+-- An evaluation, the claim that is made of it and what a check makes of that claim together are what the operation is to answer.
 use mathlib.Core.Path.{_≡_, refl, sym, ap, _∙_}
 use mathlib.Core.Bool.{Bool, true, false, cond}
 use mathlib.Core.List.{List}
@@ -13,30 +13,11 @@ use Rattle.scope.specs.declared.Refusal.{Refusal}
 use Rattle.scope.specs.declared.Objective.{Objective}
 use Rattle.scope.specs.declared.CheckAnswer.{CheckAnswer}
 use Rattle.scope.specs.declared.BestAnswer.{BestAnswer}
-use Rattle.model.specs.declared.operations.Evaluation.{Evaluation}
+use Rattle.evaluation.specs.declared.Evaluation.{Evaluation}
 use Rattle.model.specs.Answers.{EvaluatedAs}
 use Rattle.claims.specs.declared.claim.Claim.{Claim}
 use Rattle.claims.specs.Prepared.{asked}
-
--- above every bound that is allowed
-abbrev pub noBound : ℕ
-noBound = 18446744073709551615
-
-abbrev pub claimFor : Evaluation → Claim
-claimFor (Evaluation.Holds n w) = Claim.Bound (cond (leb (w .0) 0) noBound (w .0 - 1))
-claimFor (Evaluation.Refused f) = Claim.Bound noBound
-
-abbrev pub shownFor : Objective → CheckAnswer → BestAnswer
-shownFor w (CheckAnswer.NoTimetable n) = BestAnswer.Best w n
-shownFor w (CheckAnswer.Refused f) = BestAnswer.Refused f
-
-abbrev pub judged : Evaluation → CheckAnswer → BestAnswer
-judged (Evaluation.Holds n w) c = cond (leb (w .0) 0) (BestAnswer.Best w 0) (shownFor w c)
-judged (Evaluation.Refused f) c = BestAnswer.Refused f
-
--- a cost that is not within 0
-pub above-zero : {v : ℕ} {t : Bool} → t ≡ leb v 0 → t ≡ false → 1 ≤ v
-above-zero {v} e f = leb-false v 0 (sym e ∙ f)
+use Rattle.cost_bound.specs.Claimed.{claimFor, shownFor, judged}
 
 -- the cost beside the number of steps
 abbrev beside : Objective → Answer ℕ → Answer (Objective × ℕ)

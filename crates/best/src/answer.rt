@@ -1,10 +1,10 @@
 // The operation, with lent stores.
-use crate::cost::claim_for;
-use crate::cost::judge;
 use checker::check;
-use directory::Row;
+use cost_bound::claim_for;
+use cost_bound::judge;
 use model::evaluate;
 use scope::BestAnswer;
+use directory::Row;
 ghost use mathlib.Core.Path.{_≡_};
 ghost use lib.ListN.{length, replicate};
 ghost use Rattle.scope.specs.Answers.{bestMeans};

@@ -1,6 +1,4 @@
 // Whether a model is the best: it is decoded, and a proof is checked at the bound one below its cost.
 mod answer;
-mod cost;
 
 pub use answer::best;
-pub use cost::within;

@@ -17,11 +17,6 @@ abbrev pub called : {A B : Type 0} → Answer A → (A → ℕ × B) → B → C
 called (answered a) written before = call 0 (written a .0) (written a .1)
 called (refusal k v) written before = call k v before
 
--- an answer's number in *value, and the same outputs whether it is accepted or refused
-abbrev pub leaving : {B : Type 0} → Answer ℕ → B → Call B
-leaving (answered n) outputs = call 0 n outputs
-leaving (refusal k v) outputs = call k v outputs
-
--- and no other output
-abbrev pub alone : Answer ℕ → Call Unit
-alone a = leaving a tt
+-- the answer itself is written to the outputs, and *value, which held v, is kept
+abbrev pub leaves : {B : Type 0} → Answer B → ℕ → B → Call B
+leaves a v before = called a (λ outputs. (v, outputs)) before

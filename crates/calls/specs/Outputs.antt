@@ -1,5 +1,4 @@
--- What each sort of answer leaves with a caller, from what stood at *value and in the other outputs before. The outputs are
--- the answer's own structs.
+-- The outputs of a call as the answer's own structs, and what a comparison leaves.
 use mathlib.Core.Bool.{Bool, cond}
 use Prim.Native.Nat.{ℕ}
 use Rattle.scope.specs.Parsed.{Answer}
@@ -19,26 +18,6 @@ formulaSize variables clauses words = record { variables = variables; clauses = 
 abbrev pub amounts : (infeasibility objective : ℕ) → Infeasibility × Objective
 amounts infeasibility objective = (record { 0 = infeasibility }, record { 0 = objective })
 
-abbrev pub cost : ℕ → Objective
-cost objective = record { 0 = objective }
-
--- they are written, and *value is kept
-abbrev pub leavesCounts : Answer InstanceSize → ℕ → InstanceSize → Call InstanceSize
-leavesCounts a value counts = called a (λ z. (value, z)) counts
-
-abbrev pub leavesSizes : Answer FormulaSize → ℕ → FormulaSize → Call FormulaSize
-leavesSizes a value sizes = called a (λ z. (value, z)) sizes
-
-abbrev pub leavesAmounts : Answer (Infeasibility × Objective) → ℕ → Infeasibility × Objective → Call (Infeasibility × Objective)
-leavesAmounts a value before = called a (λ s. (value, s)) before
-
-abbrev pub leavesLength : Answer ℕ → ℕ → ℕ → Call ℕ
-leavesLength a value bytes = called a (λ n. (value, n)) bytes
-
 -- *value is 1 if they are the same sheet, and 0 if not
 abbrev pub leavesSameness : Answer Bool → Call Unit
 leavesSameness a = called a (λ same. (cond same 1 0, tt)) tt
-
--- the cost is written, and *value is the number of steps
-abbrev pub leavesBest : Answer (Objective × ℕ) → Objective → Call Objective
-leavesBest a before = called a (λ b. (b .1, b .0)) before

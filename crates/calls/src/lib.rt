@@ -1,19 +1,17 @@
 // What an answer leaves with a caller in C: the number that is returned, *value and the other outputs.
 //
 // One function for each sort of answer, so that the exported functions are an operation and one of these. Its contract is one
-// equation with specs/Call.antt, for every answer and whatever stood in the outputs.
+// equation with specs/Call.antt, for every answer and whatever stood in the outputs. Crate many_outputs has the answers of
+// several numbers.
 use scope::BestAnswer;
 use scope::CheckAnswer;
-use scope::ReadAnswer;
 use scope::Refusal;
-use scope::ScoreAnswer;
 use scope::SheetAnswer;
-use scope::SizesAnswer;
 use scope::TextAnswer;
 ghost use mathlib.Core.Path.{_≡_};
-ghost use Rattle.scope.specs.Answers.{bestMeans, checkMeans, readMeans, scoreMeans, sheetMeans, sizesMeans, textMeans};
-ghost use Rattle.calls.specs.Call.{alone, call};
-ghost use Rattle.calls.specs.Outputs.{amounts, cost, formulaSize, instanceSize, leavesAmounts, leavesBest, leavesCounts, leavesLength, leavesSameness, leavesSizes};
+ghost use Rattle.scope.specs.Answers.{bestMeans, checkMeans, sheetMeans, textMeans};
+ghost use Rattle.calls.specs.Call.{call, called, leaves};
+ghost use Rattle.calls.specs.Outputs.{leavesSameness};
 
 // A refusal: its value goes to *value, its number is returned.
 pub fn refuse(f: Refusal, value: &mut u64) -> u32
@@ -21,77 +19,6 @@ pub fn refuse(f: Refusal, value: &mut u64) -> u32
 {
     *value = f.value;
     f.number as u32
-}
-
-// How much an instance holds.
-pub fn leave_counts(
-    answer: ReadAnswer,
-    times: &mut u64,
-    events: &mut u64,
-    resources: &mut u64,
-    groups: &mut u64,
-    constraints: &mut u64,
-    value: &mut u64,
-) -> u32
-    ensures { λ r. ⌜ call r (now (value .exit))
-        (instanceSize (now (times .exit)) (now (events .exit)) (now (resources .exit)) (now (groups .exit)) (now (constraints .exit)))
-        ≡ leavesCounts (readMeans answer) (now (value .entry))
-        (instanceSize (now (times .entry)) (now (events .entry)) (now (resources .entry)) (now (groups .entry)) (now (constraints .entry))) ⌝ }
-{
-    match answer {
-        ReadAnswer::Refused(f) => refuse(f, value),
-        ReadAnswer::Accepted(z) => {
-            *times = z.times as u64;
-            *events = z.events as u64;
-            *resources = z.resources as u64;
-            *groups = z.groups as u64;
-            *constraints = z.constraints as u64;
-            0
-        }
-    }
-}
-
-// What a formula needs of the stores.
-pub fn leave_sizes(
-    answer: SizesAnswer,
-    variables: &mut u64,
-    clauses: &mut u64,
-    words: &mut u64,
-    value: &mut u64,
-) -> u32
-    ensures { λ r. ⌜ call r (now (value .exit)) (formulaSize (now (variables .exit)) (now (clauses .exit)) (now (words .exit)))
-        ≡ leavesSizes (sizesMeans answer) (now (value .entry))
-        (formulaSize (now (variables .entry)) (now (clauses .entry)) (now (words .entry))) ⌝ }
-{
-    match answer {
-        SizesAnswer::Refused(f) => refuse(f, value),
-        SizesAnswer::Sizes(z) => {
-            *variables = z.variables;
-            *clauses = z.clauses;
-            *words = z.words;
-            0
-        }
-    }
-}
-
-// A score's two amounts.
-pub fn leave_amounts(
-    answer: ScoreAnswer,
-    infeasibility: &mut u64,
-    objective: &mut u64,
-    value: &mut u64,
-) -> u32
-    ensures { λ r. ⌜ call r (now (value .exit)) (amounts (now (infeasibility .exit)) (now (objective .exit)))
-        ≡ leavesAmounts (scoreMeans answer) (now (value .entry)) (amounts (now (infeasibility .entry)) (now (objective .entry))) ⌝ }
-{
-    match answer {
-        ScoreAnswer::Refused(f) => refuse(f, value),
-        ScoreAnswer::Scored(i, o) => {
-            *infeasibility = i.0;
-            *objective = o.0;
-            0
-        }
-    }
 }
 
 // Whether two timetables are the same sheet.
@@ -114,7 +41,7 @@ pub fn leave_sameness(answer: SheetAnswer, value: &mut u64) -> u32
 // A length in an output of its own.
 pub fn leave_length(answer: TextAnswer, bytes: &mut u64, value: &mut u64) -> u32
     ensures { λ r. ⌜ call r (now (value .exit)) (now (bytes .exit))
-        ≡ leavesLength (textMeans answer) (now (value .entry)) (now (bytes .entry)) ⌝ }
+        ≡ leaves (textMeans answer) (now (value .entry)) (now (bytes .entry)) ⌝ }
 {
     match answer {
         TextAnswer::Refused(f) => refuse(f, value),
@@ -127,7 +54,7 @@ pub fn leave_length(answer: TextAnswer, bytes: &mut u64, value: &mut u64) -> u32
 
 // The length of what was written, in *value.
 pub fn leave_written(answer: TextAnswer, value: &mut u64) -> u32
-    ensures { λ r. ⌜ call r (now (value .exit)) tt ≡ alone (textMeans answer) ⌝ }
+    ensures { λ r. ⌜ call r (now (value .exit)) tt ≡ called {B = Unit} (textMeans answer) (λ n. (n, tt)) tt ⌝ }
 {
     match answer {
         TextAnswer::Refused(f) => refuse(f, value),
@@ -140,7 +67,7 @@ pub fn leave_written(answer: TextAnswer, value: &mut u64) -> u32
 
 // The number of a proof's steps, in *value.
 pub fn leave_steps(answer: CheckAnswer, value: &mut u64) -> u32
-    ensures { λ r. ⌜ call r (now (value .exit)) tt ≡ alone (checkMeans answer) ⌝ }
+    ensures { λ r. ⌜ call r (now (value .exit)) tt ≡ called {B = Unit} (checkMeans answer) (λ n. (n, tt)) tt ⌝ }
 {
     match answer {
         CheckAnswer::Refused(f) => refuse(f, value),
@@ -153,8 +80,8 @@ pub fn leave_steps(answer: CheckAnswer, value: &mut u64) -> u32
 
 // A best model's cost, and in *value the number of a proof's steps.
 pub fn leave_best(answer: BestAnswer, objective: &mut u64, value: &mut u64) -> u32
-    ensures { λ r. ⌜ call r (now (value .exit)) (cost (now (objective .exit)))
-        ≡ leavesBest (bestMeans answer) (cost (now (objective .entry))) ⌝ }
+    ensures { λ r. ⌜ call r (now (value .exit)) (now (objective .exit))
+        ≡ called (bestMeans answer) (λ b. (b .1, b .0 .0)) (now (objective .entry)) ⌝ }
 {
     match answer {
         BestAnswer::Refused(f) => refuse(f, value),

@@ -2,9 +2,9 @@
 use crate::fields::after;
 use crate::fields::field;
 use crate::fields::number_field;
-use crate::show::put;
-use crate::show::put_number;
-use crate::show::put_refusal;
+use crate::put;
+use crate::put_number;
+use crate::put_refusal;
 use claims::claim::Claim;
 use directory::Row;
 use scope::CheckAnswer;

@@ -2,17 +2,35 @@
 // line with the name and the answer is printed. The answers in stdout come from a reading of document 01 that knows nothing of this
 // code.
 mod checked;
-mod decoded;
 mod fields;
 mod scored;
-mod show;
 
 use fields::colon;
 use fields::past;
 use libc::STDIN_FILENO;
-use show::put;
+use libc::STDOUT_FILENO;
+use scope::Refusal;
 ghost use Prim.Native.Nat.{_≤_};
 ghost use lib.ListN.{length};
+
+fn put(text: &[u8]) {
+    io::write_all(STDOUT_FILENO, text);
+}
+
+fn put_number(n: u64) {
+    io::print_decimal(STDOUT_FILENO, n);
+}
+
+fn put_pair(word: &[u8], a: u64, b: u64) {
+    put(word);
+    put_number(a);
+    put(b" ");
+    put_number(b);
+}
+
+fn put_refusal(f: Refusal) {
+    put_pair(b"refused ", f.number as u64, f.value);
+}
 
 // The operation that a letter stands for, on the fields from a place on; where the next line begins.
 fn answer(letter: u8, text: &mut [u8], at: usize) -> usize
@@ -32,7 +50,7 @@ fn answer(letter: u8, text: &mut [u8], at: usize) -> usize
         return scored::text_line(text, at);
     }
     if letter == b'd' {
-        return decoded::decode_line(text, at);
+        return scored::decode_line(text, at);
     }
     if letter == b'c' {
         return checked::check_line(text, at);

@@ -1,10 +1,13 @@
-// Reading, the text, scoring and same sheet.
+// Reading, the text, scoring and same sheet; decoding, which scores what it decodes.
+mod decoded;
+
 use crate::fields::after;
 use crate::fields::field;
-use crate::show::put;
-use crate::show::put_number;
-use crate::show::put_pair;
-use crate::show::put_refusal;
+use crate::put;
+use crate::put_number;
+use crate::put_pair;
+use crate::put_refusal;
+pub use decoded::decode_line;
 use instance::read_instance;
 use scope::InstanceSize;
 use scope::ReadAnswer;
@@ -62,7 +65,7 @@ pub fn text_line(text: &mut [u8], at: usize) -> usize
     after(text, at, n)
 }
 
-pub fn put_score(file: &[u8], table: &[u8]) {
+fn put_score(file: &[u8], table: &[u8]) {
     match sheet::score(file, table) {
         ScoreAnswer::Scored(infeasibility, objective) => {
             put_pair(b"scored ", infeasibility.0, objective.0)

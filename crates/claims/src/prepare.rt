@@ -1,6 +1,6 @@
 // What comes before a proof's first step: refusals 1 to 9, and in the lent words the formula that the claim is about.
 use crate::claim::Claim;
-use claim_words::write_bounded;
+use bounded_words::write_bounded;
 use claim_words::write_hard;
 use lent::fits;
 use marks::clear_bytes;

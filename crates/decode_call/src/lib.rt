@@ -1,6 +1,6 @@
 // What an evaluation of a model leaves with a caller in C.
 use calls::refuse;
-use model::Evaluation;
+use evaluation::Evaluation;
 ghost use mathlib.Core.Path.{_≡_};
 ghost use Rattle.calls.specs.Call.{call};
 ghost use Rattle.decode_call.specs.Leaves.{leavesEvaluation};

@@ -11,9 +11,8 @@ use Rattle.scope.specs.Demands.{Accepted, KeepsHard, IsBest}
 use Rattle.scope.specs.declared.Objective.{Objective}
 use Rattle.laws.specs.Booleans.{impossible}
 use Rattle.theory.specs.Demands.{demandHard, demandBest}
-use Rattle.calls.specs.Outputs.{cost}
-use Rattle.engine.specs.Operations.{Stores, lentBy, zeroed, stepsCall, checkHardCall, bestCall}
-use Rattle.engine.specs.Numbers.{zero-accepted, check-hard-numbers, best-numbers}
+use Rattle.operation_calls.specs.Operations.{Stores, lentBy, zeroed, stepsCall, checkHardCall, bestCall}
+use Rattle.refusal_numbers.specs.Numbers.{zero-accepted, check-hard-numbers, best-numbers}
 use Rattle.demands.specs.Calls.{Read, was-read}
 
 module _ (file proof : List ℕ) (s : Stores) where
@@ -50,7 +49,7 @@ module _ (file proof : List ℕ) (s : Stores) where
             },
       )
 
-module _ (file m proof : List ℕ) (before : Objective) (s : Stores) where
+module _ (file m proof : List ℕ) (before : ℕ) (s : Stores) where
   best-read : {w : Objective} {n : ℕ} → bestOf file m proof (lentBy s) ≡ answered (w, n) → Read file
   unfolding bestOf decodeOf
   best-read {w} {n} h = was-read file (parse file) _ refl (decoded (decodeOf file m) refl h .1)
@@ -65,19 +64,19 @@ module _ (file m proof : List ℕ) (before : Objective) (s : Stores) where
   pub record ShownBest (w n : ℕ) : Type 0 where
     pub number : bestCall file m proof before s .number ≡ 0
     pub value : bestCall file m proof before s .value ≡ n
-    pub objective : bestCall file m proof before s .outputs .0 ≡ cost w
+    pub objective : bestCall file m proof before s .outputs .0 ≡ w
 
-  best-answers : {w n : ℕ} → ShownBest w n → bestOf file m proof (lentBy s) ≡ answered (cost w, n)
+  best-answers : {w n : ℕ} → ShownBest w n → bestOf file m proof (lentBy s) ≡ answered (record { 0 = w }, n)
   best-answers {w} {n} b =
-      let a = zero-accepted (λ (x : Objective × ℕ). (x .1, (x .0, zeroed s))) (before, zeroed s) refl (best-numbers file m proof (lentBy s)) (b .number) in
-      let costs : Objective → Answer (Objective × ℕ) = λ x. answered (x, a .result .1) in
-      let counts : ℕ → Answer (Objective × ℕ) = λ k. answered (cost w, k) in
-      let p : a .result .0 ≡ cost w = rw (a .eq) at (b .objective) in
+      let a = zero-accepted (λ (x : Objective × ℕ). (x .1, (x .0 .0, zeroed s))) (before, zeroed s) refl (best-numbers file m proof (lentBy s)) (b .number) in
+      let costs : ℕ → Answer (Objective × ℕ) = λ x. answered (record { 0 = x }, a .result .1) in
+      let counts : ℕ → Answer (Objective × ℕ) = λ k. answered (record { 0 = w }, k) in
+      let p : a .result .0 .0 ≡ w = rw (a .eq) at (b .objective) in
       let q : a .result .1 ≡ n = rw (a .eq) at (b .value) in
       a .eq ∙ ap costs p ∙ ap counts q
 
   -- then the model's part keeps every hard constraint at the cost w, and every timetable that does costs at least w
-  pub shown-best : {w n : ℕ} → ShownBest w n → (i : Instance) → Accepted file i → IsBest file i m (cost w)
+  pub shown-best : {w n : ℕ} → ShownBest w n → (i : Instance) → Accepted file i → IsBest file i m (record { 0 = w })
   shown-best b i a = demandBest file i m proof (lentBy s) _ _ a (best-answers b)
 
   pub least : {w n : ℕ} → ShownBest w n → (t : List ℕ) (u : Objective) → KeepsHard file t u → w ≤ u .0

@@ -11,7 +11,7 @@ use borrow.Author.Tests.{leb-true}
 use Rattle.scope.specs.Parsed.{Parsed, got, refused, Answer, answered, with, provided}
 use Rattle.scope.specs.Instance.{Instance, parse}
 use Rattle.scope.specs.Formula.{primary, variables, mostVariables}
-use Rattle.scope.specs.Operations.{decodeOf, checkOf, falsifiedSoft}
+use Rattle.scope.specs.Operations.{scoreOf, decodeOf, checkOf, falsifiedSoft}
 use Rattle.scope.specs.Refutation.{NoTimetable}
 use Rattle.scope.specs.Demands.{Accepted, KeepsHard, Model}
 use Rattle.scope.specs.declared.Infeasibility.{Infeasibility}
@@ -19,9 +19,9 @@ use Rattle.scope.specs.declared.Objective.{Objective}
 use Rattle.laws.specs.Booleans.{impossible}
 use Rattle.theory.specs.Demands.{demand2, demand3}
 use Rattle.calls.specs.Call.{called}
-use Rattle.engine.specs.Operations.{decodeCall, decodedOf, Stores, lentBy, zeroed, stepsCall, checkCall}
-use Rattle.engine.specs.Numbers.{zero-accepted, decode-numbers, check-numbers}
-use Rattle.engine.specs.Numbers as numbers
+use Rattle.operation_calls.specs.Operations.{decodeCall, Stores, lentBy, zeroed, stepsCall, checkCall}
+use Rattle.refusal_numbers.specs.Numbers.{zero-accepted, decode-numbers, check-numbers}
+use Rattle.refusal_numbers.specs.Numbers as numbers
 
 -- the instance of a file that gives none of 1 to 6
 pub record Read (file : List ℕ) : Type 0 where
@@ -104,6 +104,10 @@ decoded-part file m p cost h =
     let c : falsifiedSoft (r .instance) m ≡ cost = ap (λ (x : List ℕ × Objective). x .1) same in
     (rw (q, c) at (one .cost m model), rw q at (take-again (primary (r .instance)) m))
 
+-- what is told of a part and its cost
+abbrev decodedOf : List ℕ × Objective → ℕ × ℕ
+decodedOf d = (length (d .0), d .1 .0)
+
 module _ (file m : List ℕ) (before : ℕ) where
   -- timetable_decode returns 0, with k in *value and w in *objective
   pub record Decoded (k w : ℕ) : Type 0 where
@@ -126,7 +130,7 @@ module _ (file m : List ℕ) (before : ℕ) where
     pub keeps : KeepsHard file (take k m) (record { 0 = w })
     keeps =
         let p = decoded-part file m _ _ decoded-answers in
-        rw (sym (ap (λ (n : ℕ). take n m) decoded-length) ∙ p .1) (p .0)
+        ap (scoreOf file) (sym (ap (λ (n : ℕ). take n m) decoded-length) ∙ p .1) ∙ p .0
 
     -- "every other timetable that keeps its hard constraints costs at least w"
     pub best : (proof : List ℕ) (s : Stores) {n : ℕ} → 1 ≤ w → w ≤ 4096 → Refuted file (w - 1) proof s n

@@ -2,14 +2,19 @@
 use Prim.Native.Nat.{ℕ}
 use mathlib.Core.Path.{_≡_, refl, sym, ap, _∙_}
 use mathlib.Core.List.{List}
+use lib.ListN.{length}
 use lib.Seq.{length-take-le}
 use Rattle.scope.specs.declared.Objective.{Objective}
 use Rattle.scope.specs.declared.Refusal.{Refusal}
 use Rattle.model.specs.Answers.{EvaluatedAs}
-use Rattle.model.specs.declared.operations.Evaluation.{Evaluation}
+use Rattle.evaluation.specs.declared.Evaluation.{Evaluation}
 use Rattle.calls.specs.Call.{call, called}
 use Rattle.decode_call.specs.Leaves.{leavesEvaluation}
-use Rattle.engine.specs.Operations.{decodeCall, decodedOf}
+use Rattle.operation_calls.specs.Operations.{decodeCall}
+
+-- what is told of a part and its cost
+abbrev decodedOf : List ℕ × Objective → ℕ × ℕ
+decodedOf d = (length (d .0), d .1 .0)
 
 module _ (file model : List ℕ) (before : ℕ) {e : Evaluation} (a : EvaluatedAs file model e) where
   decoded-call : {n : ℕ} {cost : Objective} → e ≡ Evaluation.Holds n cost → call 0 n (cost .0) ≡ decodeCall file model before

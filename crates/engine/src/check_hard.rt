@@ -5,7 +5,7 @@ use claims::claim::Claim;
 use directory::Row;
 ghost use mathlib.Core.Path.{_≡_};
 ghost use Rattle.calls.specs.Call.{call};
-ghost use Rattle.engine.specs.Operations.{checkHardCall};
+ghost use Rattle.operation_calls.specs.Operations.{checkHardCall};
 
 // "No timetable" at any cost, with the number of steps in *value; or 1 to 6, 8, 9, 14 to 18. The stores are zero afterwards.
 #[no_mangle]

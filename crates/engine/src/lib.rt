@@ -1,18 +1,15 @@
 // The engine's operations as C functions, which include/timetable.h declares.
 //
 // Each answers 0 if it is accepted, and else the number of the first refusal in document 01's order. Its contract is one
-// equation: what the call leaves (the number returned, *value and every other output) is what specs/Operations.antt says of
-// the operation's answer by the definitions. An input is lent as `&`, so it keeps every byte. None asks anything of its caller
-// but good pointers. specs/Numbers.antt shows that 0 is returned for an accepted call alone.
+// equation: what the call leaves (the number returned, *value and every other output) is what the crates calls and
+// operation_calls say of the operation's answer by the definitions. An input is lent as `&`, so it keeps every byte. None asks
+// anything of its caller but good pointers. proofs/Demand1.antt has the ten equations together.
 mod best_model;
 mod check_hard;
 
 pub use best_model::timetable_best;
-use calls::leave_amounts;
-use calls::leave_counts;
 use calls::leave_length;
 use calls::leave_sameness;
-use calls::leave_sizes;
 use calls::leave_steps;
 use calls::leave_written;
 pub use check_hard::timetable_check_hard;
@@ -21,6 +18,9 @@ use claims::claim::Claim;
 use decode_call::leave_evaluation;
 use directory::Row;
 use instance::read_instance;
+use many_outputs::leave_amounts;
+use many_outputs::leave_counts;
+use many_outputs::leave_sizes;
 use model::evaluate;
 use sheet::same_sheet;
 use sheet::score;
@@ -28,9 +28,10 @@ use sizes::sizes;
 use text::text;
 use text::text_size;
 ghost use mathlib.Core.Path.{_≡_};
-ghost use Rattle.calls.specs.Call.{call};
-ghost use Rattle.calls.specs.Outputs.{amounts, formulaSize, instanceSize};
-ghost use Rattle.engine.specs.Operations.{checkCall, decodeCall, readCall, sameSheetCall, scoreCall, sizesCall, textCall, textSizeCall};
+ghost use Rattle.scope.specs.Operations.{readOf, sameSheetOf, scoreOf, sizesOf, textSizeOf};
+ghost use Rattle.calls.specs.Call.{call, leaves};
+ghost use Rattle.calls.specs.Outputs.{amounts, formulaSize, instanceSize, leavesSameness};
+ghost use Rattle.operation_calls.specs.Operations.{checkCall, decodeCall, textCall};
 
 // Reads an instance file: how much it holds, or 1 to 6.
 #[no_mangle]
@@ -45,7 +46,7 @@ pub extern "C" fn timetable_read(
 ) -> u32
     ensures { λ r. ⌜ call r (now (value .exit))
         (instanceSize (now (times .exit)) (now (events .exit)) (now (resources .exit)) (now (groups .exit)) (now (constraints .exit)))
-        ≡ readCall (now (file .entry)) (now (value .entry))
+        ≡ leaves (readOf (now (file .entry))) (now (value .entry))
         (instanceSize (now (times .entry)) (now (events .entry)) (now (resources .entry)) (now (groups .entry)) (now (constraints .entry))) ⌝ }
 {
     let answer = read_instance(file);
@@ -63,7 +64,7 @@ pub extern "C" fn timetable_sizes(
     value: &mut u64,
 ) -> u32
     ensures { λ r. ⌜ call r (now (value .exit)) (formulaSize (now (variables .exit)) (now (clauses .exit)) (now (words .exit)))
-        ≡ sizesCall (now (file .entry)) bound (now (value .entry))
+        ≡ leaves (sizesOf (now (file .entry)) bound) (now (value .entry))
         (formulaSize (now (variables .entry)) (now (clauses .entry)) (now (words .entry))) ⌝ }
 {
     let answer = sizes(file, bound);
@@ -80,7 +81,7 @@ pub extern "C" fn timetable_score(
     value: &mut u64,
 ) -> u32
     ensures { λ r. ⌜ call r (now (value .exit)) (amounts (now (infeasibility .exit)) (now (objective .exit)))
-        ≡ scoreCall (now (file .entry)) (now (table .entry)) (now (value .entry))
+        ≡ leaves (scoreOf (now (file .entry)) (now (table .entry))) (now (value .entry))
         (amounts (now (infeasibility .entry)) (now (objective .entry))) ⌝ }
 {
     let answer = score(file, table);
@@ -96,7 +97,7 @@ pub extern "C" fn timetable_same_sheet(
     value: &mut u64,
 ) -> u32
     ensures { λ r. ⌜ call r (now (value .exit)) tt
-        ≡ sameSheetCall (now (file .entry)) (now (first .entry)) (now (second .entry)) ⌝ }
+        ≡ leavesSameness (sameSheetOf (now (file .entry)) (now (first .entry)) (now (second .entry))) ⌝ }
 {
     let answer = same_sheet(file, first, second);
     leave_sameness(answer, value)
@@ -106,7 +107,7 @@ pub extern "C" fn timetable_same_sheet(
 #[no_mangle]
 pub extern "C" fn timetable_text_size(file: &[u8], bytes: &mut u64, value: &mut u64) -> u32
     ensures { λ r. ⌜ call r (now (value .exit)) (now (bytes .exit))
-        ≡ textSizeCall (now (file .entry)) (now (value .entry)) (now (bytes .entry)) ⌝ }
+        ≡ leaves (textSizeOf (now (file .entry))) (now (value .entry)) (now (bytes .entry)) ⌝ }
 {
     let answer = text_size(file);
     leave_length(answer, bytes, value)

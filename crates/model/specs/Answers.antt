@@ -26,8 +26,9 @@ use Rattle.sizing.specs.declared.Size.{Size}
 use Rattle.sizes.specs.Measured.{sizedOf, size-then, SizedBy, RefusedBy}
 use Rattle.sink.specs.declared.Sink.{Sink}
 use Rattle.model.specs.declared.size.Form.{Form}
-use Rattle.model.specs.declared.operations.Evaluation.{Evaluation}
-use Rattle.model.specs.Truth.{TruthOf, clause-false, clauses-true}
+use Rattle.evaluation.specs.declared.Evaluation.{Evaluation}
+use Rattle.evaluation.specs.Evaluated.{judgedOf, partOf, partLength, answerOf}
+use Rattle.model_truth.specs.Truth.{TruthOf, clause-false, clauses-true}
 
 -- a decoded model: the part that holds Y and S, and the cost
 abbrev pub Decoded : Type 0
@@ -55,47 +56,9 @@ module _ (n : ℕ) (m : List ℕ) where
     pub form-right : f ≡ Found.Nothing → FormOf n m Form.Right
     form-right t = record { says = λ a. rw (eq-eqb (length m) n h, ← e, t); long = λ _. h }
 
--- 13, or the length of the part and the weight
-abbrev pub judgedOf : Sink → Head → Evaluation
-judgedOf s h =
-    cond (eqb (s .bad) 0)
-    (Evaluation.Holds (2 * (h .events * h .times)) (record { 0 = s .lost }))
-    (Evaluation.Refused (record { number = 13; value = s .bad }))
-
--- the part of a model that an evaluation gives, empty where it is refused, and the answer beside it
-abbrev pub partOf : Evaluation → List ℕ → List ℕ
-partOf (Evaluation.Holds n o) m = take n m
-partOf (Evaluation.Refused f) m = []
-
-abbrev pub partLength : Evaluation → ℕ
-partLength (Evaluation.Holds n o) = n
-partLength (Evaluation.Refused f) = 0
-
-abbrev pub answerOf : Evaluation → DecodeAnswer
-answerOf (Evaluation.Holds n o) = DecodeAnswer.Decoded o
-answerOf (Evaluation.Refused f) = DecodeAnswer.Refused f
-
 pub record EvaluatedAs (s m : List ℕ) (e : Evaluation) : Type 0 where
   pub answer : decodeMeans (partOf e m) (answerOf e) ≡ decodeOf s m
   pub inside : partLength e ≤ length m
-
--- "a refused one gives an empty part"
-abbrev pub partGiven : Answer Decoded → List ℕ
-partGiven (answered x) = x .0
-partGiven (refusal k v) = []
-
--- what decoding gives of a file and a model: a part, and the answer beside it
-abbrev pub Gives : (s m p : List ℕ) (a : DecodeAnswer) → Type 0
-Gives s m p a = (decodeMeans p a ≡ decodeOf s m) × (p ≡ partGiven (decodeOf s m))
-
--- the part and the answer of an evaluation are such
-part-given : {s m : List ℕ} (e : Evaluation) → EvaluatedAs s m e → partOf e m ≡ partGiven (decodeOf s m)
-part-given (Evaluation.Holds n o) h = ap partGiven (h .answer)
-part-given (Evaluation.Refused f) h = ap partGiven (h .answer)
-
-pub decoded-as : {s m : List ℕ} {e : Evaluation} {p : List ℕ} {a : DecodeAnswer} → EvaluatedAs s m e → p ≡ partOf e m → a ≡ answerOf e
-    → Gives s m p a
-decoded-as {e = e} h f g = rw (f, g) (h .answer, part-given e h)
 
 -- what is asked of a model once the file is sized
 abbrev ofModel : List ℕ → Instance → Answer Decoded
@@ -144,5 +107,5 @@ module _ {s d te tg : List ℕ} {h : Head} {z : Size} (b : SizedBy s d te tg h z
           inside = omega arith;
         }
 
-    pub evaluation-judged : {e : Evaluation} → e ≡ judgedOf k h → EvaluatedAs s m e
-    evaluation-judged q = rw q (judged-by (eqb (k .bad) 0) refl)
+    pub evaluation-judged : {n : ℕ} {e : Evaluation} → n ≡ 2 * (h .events * h .times) → e ≡ judgedOf (k .bad) (k .lost) n → EvaluatedAs s m e
+    evaluation-judged l q = rw (q, l) (judged-by (eqb (k .bad) 0) refl)

@@ -1,3 +1,1 @@
-pub mod Truth
 pub mod Answers
-pub mod Demand

@@ -1,10 +1,6 @@
-// Decoding a model: whether every hard clause is true in it, the part of its bytes that holds Y and S, and the weight of the
-// soft clauses that it falsifies. specs/Demand.antt shows demand 2 of the answers.
+// Evaluating a model: whether every hard clause is true in it, how many of its bytes hold Y and S, and the weight of the soft
+// clauses that it falsifies.
 mod operations;
-mod run;
 mod size;
 
-pub use operations::Decoding;
-pub use operations::Evaluation;
-pub use operations::decode;
 pub use operations::evaluate;

@@ -56,9 +56,9 @@ use Rattle.checker.proofs.check as check
 use Rattle.checker.proofs.check.Symbol as check-def
 use Rattle.checker.proofs.check.Symbol.{name as #check}
 use Rattle.checker.proofs.check.Met as check-thm
-use Rattle.calls.specs.Call.{alone, call}
-use Rattle.engine.specs.Operations.{lentBy, zeros, zeroRows, checkCall}
-use Rattle.engine.specs.Returned.{check-told}
+use Rattle.calls.specs.Call.{call}
+use Rattle.operation_calls.specs.Operations.{lentBy, checkCall}
+use Rattle.operation_calls.specs.Returned.{alone, zeros, zeroRows, check-told}
 use Rattle.calls.proofs.leave_steps as told
 use Rattle.calls.proofs.leave_steps.Symbol as told-def
 use Rattle.calls.proofs.leave_steps.Symbol.{name as #told}

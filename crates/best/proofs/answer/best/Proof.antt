@@ -48,11 +48,11 @@ use Rattle.walks.proofs.Walk.{rotate, allocs-all, frees-all, var, part, fills}
 use Rattle.walks.proofs.Slices.{at-list, Whole, lent, back}
 use Rattle.walks.proofs.Calls.{both-said, and-said, calls-to, told, says-all}
 use Rattle.directory.proofs.Row as R
-use Rattle.model.specs.declared.operations.Evaluation.{Evaluation}
+use Rattle.evaluation.specs.declared.Evaluation.{Evaluation}
 use Rattle.model.specs.Answers.{EvaluatedAs}
-use Rattle.model.proofs.Values.{IsEvaluation, evaluation-same}
-use Rattle.model.proofs.operations.Evaluation as E
-use Rattle.model.proofs.operations.Evaluation.Laws as E′
+use Rattle.evaluation.proofs.Values.{IsEvaluation, evaluation-same}
+use Rattle.evaluation.proofs.Evaluation as E
+use Rattle.evaluation.proofs.Evaluation.Laws as E′
 use Rattle.model.proofs.evaluate as evaluate
 use Rattle.model.proofs.evaluate.Symbol as evaluate-def
 use Rattle.model.proofs.evaluate.Symbol.{name as #evaluate}
@@ -67,16 +67,17 @@ use Rattle.checker.proofs.check as check
 use Rattle.checker.proofs.check.Symbol as check-def
 use Rattle.checker.proofs.check.Symbol.{name as #check}
 use Rattle.checker.proofs.check.Met as check-thm
-use Rattle.best.specs.Best.{claimFor, judged, best-answered}
+use Rattle.cost_bound.specs.Claimed.{claimFor, judged}
+use Rattle.best.specs.Best.{best-answered}
 use Rattle.best.proofs.Values.{IsBestAnswer, best-same, best-typed, claim-same}
-use Rattle.best.proofs.cost.claim_for as claim-for
-use Rattle.best.proofs.cost.claim_for.Symbol as claim-for-def
-use Rattle.best.proofs.cost.claim_for.Symbol.{name as #claim-for}
-use Rattle.best.proofs.cost.claim_for.Met as claim-for-thm
-use Rattle.best.proofs.cost.judge as judge
-use Rattle.best.proofs.cost.judge.Symbol as judge-def
-use Rattle.best.proofs.cost.judge.Symbol.{name as #judge}
-use Rattle.best.proofs.cost.judge.Met as judge-thm
+use Rattle.cost_bound.proofs.claim_for as claim-for
+use Rattle.cost_bound.proofs.claim_for.Symbol as claim-for-def
+use Rattle.cost_bound.proofs.claim_for.Symbol.{name as #claim-for}
+use Rattle.cost_bound.proofs.claim_for.Met as claim-for-thm
+use Rattle.cost_bound.proofs.judge as judge
+use Rattle.cost_bound.proofs.judge.Symbol as judge-def
+use Rattle.cost_bound.proofs.judge.Symbol.{name as #judge}
+use Rattle.cost_bound.proofs.judge.Met as judge-thm
 use Rattle.best.proofs.answer.best.Key.{name as #best}
 use Rattle.best.proofs.answer.best as f
 use Rattle.best.proofs.answer.best.Statement as stated
@@ -287,7 +288,7 @@ best-spec 𝓤 H 𝓜 𝓖 𝓡 =
     (meets 𝓤 H (𝓖 .A) (givenOf 𝓤 H 𝓜 𝓖) (𝓜 .mem) (𝓡 .run) (tablesOf 𝓤 H 𝓜 (tables 𝓤 H 𝓜 𝓡 code.env))
     (record {
       evaluate = cited 𝓤 H (evaluate-to 𝓤 H (𝓖 .A) (𝓜 .mem) (𝓡 .run)) 𝓜 𝓡 code.env #evaluate evaluate-def.routine code.calls-model·evaluate (evaluate-thm.met 𝓤 H 𝓜 𝓖 𝓡);
-      claim-for = cited 𝓤 H (claim-for-to 𝓤 H (𝓖 .A) (𝓜 .mem) (𝓡 .run)) 𝓜 𝓡 code.env #claim-for claim-for-def.routine code.calls-best·cost·claim-for (claim-for-thm.met 𝓤 H 𝓜 𝓖 𝓡);
+      claim-for = cited 𝓤 H (claim-for-to 𝓤 H (𝓖 .A) (𝓜 .mem) (𝓡 .run)) 𝓜 𝓡 code.env #claim-for claim-for-def.routine code.calls-cost-bound·claim-for (claim-for-thm.met 𝓤 H 𝓜 𝓖 𝓡);
       check = cited 𝓤 H (check-to 𝓤 H (𝓖 .A) (𝓜 .mem) (𝓡 .run)) 𝓜 𝓡 code.env #check check-def.routine code.calls-checker·check (check-thm.met 𝓤 H 𝓜 𝓖 𝓡);
-      judge = cited 𝓤 H (judge-to 𝓤 H (𝓖 .A) (𝓜 .mem) (𝓡 .run)) 𝓜 𝓡 code.env #judge judge-def.routine code.calls-best·cost·judge (judge-thm.met 𝓤 H 𝓜 𝓖 𝓡);
+      judge = cited 𝓤 H (judge-to 𝓤 H (𝓖 .A) (𝓜 .mem) (𝓡 .run)) 𝓜 𝓡 code.env #judge judge-def.routine code.calls-cost-bound·judge (judge-thm.met 𝓤 H 𝓜 𝓖 𝓡);
     }))

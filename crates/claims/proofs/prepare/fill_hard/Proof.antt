@@ -2,7 +2,7 @@
 use borrow.Author.Needs.{needs}
 use mathlib.Core.Path.{refl, sym, _∙_}
 use native.Mathlib.Omega.{arith}
-use Rattle.claim_words.specs.Written.{hard-writable}
+use Rattle.bounded_words.specs.Bounded.{hard-writable}
 use Rattle.claims.specs.Prepared.{hard-refused, hard-short, hard-in, prepared-same}
 use Rattle.claims.proofs.prepare.fill_hard.Statement.{statement}
 use Rattle.claims.proofs.prepare.fill_hard.Tie as tie

@@ -54,9 +54,8 @@ use Rattle.best.proofs.best.Symbol as best-def
 use Rattle.best.proofs.best.Symbol.{name as #best}
 use Rattle.best.proofs.best.Met as best-thm
 use Rattle.calls.specs.Call.{call}
-use Rattle.calls.specs.Outputs.{cost, leavesBest}
-use Rattle.engine.specs.Operations.{lentBy, zeros, zeroRows, bestCall}
-use Rattle.engine.specs.Returned.{best-told}
+use Rattle.operation_calls.specs.Operations.{lentBy, bestCall}
+use Rattle.operation_calls.specs.Returned.{zeros, zeroRows, leavesBest, best-told}
 use Rattle.calls.proofs.leave_best as told
 use Rattle.calls.proofs.leave_best.Symbol as told-def
 use Rattle.calls.proofs.leave_best.Symbol.{name as #told}
@@ -140,7 +139,7 @@ module _ {M : Type 1} (𝓤 : URA M) (H : Heap 𝓤) (A : Atoms 𝓤) (W : Given
       ‵ (Whole u32 κ₁ q₁ γ₁ b₁ o₁ (named 3) xs) ∷ ‵ (flft κ₁ q₁) ∷ ‵ (Whole R.the-row κ₂ q₂ γ₂ b₂ o₂ (named 4) zs) ∷ ‵ (flft κ₂ q₂) ∷ ‵ (Whole u8 κ₃ q₃ γ₃ b₃ o₃ (named 5) vs) ∷ ‵ (flft κ₃ q₃) ∷ ‵ (flft κ₀ q₀) ∷ ‵ (flft κ₆ q₆) ∷ ‵ (flft κ₄ q₄) ∷ ‵ (Cost κ₇ γ₇ w) ∷ ‵ (flft κ₇ q₇) ∷ ‵ (Value κ₅ γ₅ m) ∷ ‵ (flft κ₅ q₅) ∷ []
 
   exits : (r : ℕ) → r < 2 ^ 32 → (xs : List ℕ) (zs : List Row) (vs : List ℕ) (w m : ℕ) → length xs ≡ length us → length zs ≡ length ys → length vs ≡ length ms
-      → call r m (cost w, (xs, zs, vs)) ≡ bestCall fs mo ps (cost p) (us, ys, ms) → ent 𝓤 (⋆ 𝓤 H A (Had xs zs vs w m)) (Post (vint w32 r))
+      → call r m (w, (xs, zs, vs)) ≡ bestCall fs mo ps p (us, ys, ms) → ent 𝓤 (⋆ 𝓤 H A (Had xs zs vs w m)) (Post (vint w32 r))
   exits r fits xs zs vs w m e₁ e₂ e₃ e =
       qed W (Had xs zs vs w m) ∵
       suffices ! _ (ends-at 𝓤 H A f.ended stayed (f.clauses 𝓤 H A mem run) W outside (vint w32 r) r (tt, (tt, (tt, (xs, (zs, (vs, (w, (m, tt)))))))) (tt, (tt, (tt, (e₁, (e₂, (e₃, (tt, (tt, tt))))))))) $
@@ -223,7 +222,7 @@ module _ {M : Type 1} (𝓤 : URA M) (H : Heap 𝓤) (A : Atoms 𝓤) (W : Given
       use2 W (later (exists (λ (ε : GName). ‵ (Value (β ∷ []) ε n) ⊛ ‵ (LentAgain u64 κ₅ (β ∷ []) q₅ γ₅ b₅ o₅ ε n)))) (lends-again 𝓤 H A W u64 (named 7) κ₅ (β ∷ []) q₅ γ₅ b₅ o₅ (named 7) n) $
       await ! tt $ pick ! (λ ε. split ! $
       move ! (5 ∷ 2 ∷ 3 ∷ 0 ∷ []) $ cut (Telling α δ β ε) (raw (told-to 𝓤 H A mem run .pre (to-told x α δ β ε)) ∷ []) _ (goes-told x α δ β ε is-x) $
-      calls-to told.ended (told.clauses 𝓤 H A mem run) (to-told x α δ β ε) (λ r vs. call r (vs .1 .1 .0) (cost (vs .1 .0)) ≡ leavesBest (bestMeans x) (cost p)) (λ r vs. id⊢ 𝓤 _) (vint w32) (uint-same w32) ! fm (known .told)
+      calls-to told.ended (told.clauses 𝓤 H A mem run) (to-told x α δ β ε) (λ r vs. call r (vs .1 .1 .0) (vs .1 .0) ≡ leavesBest (bestMeans x) p) (λ r vs. id⊢ 𝓤 _) (vint w32) (uint-same w32) ! fm (known .told)
       (and-then ! (var ! 19 refl) (and-then ! (var ! 5 refl) (and-then ! (var ! 3 refl) (no-more !)))) (λ r vs said is-r.
       use1 W (‵ (flft (α ∷ []) fullShare) ⊛ (‵ (flft (β ∷ []) fullShare) ⊛ ‵ ftrue)) (id⊢ 𝓤 _) $ split ! $ move ! (1 ∷ []) $ split ! $ move ! (1 ∷ []) $ drop ! $ move ! (2 ∷ []) $
       fsplit ! $ drop ! $ fsplit ! $ move ! (1 ∷ []) $ fsplit ! $ move ! (1 ∷ []) $ drop ! $
@@ -235,7 +234,7 @@ module _ {M : Type 1} (𝓤 : URA M) (H : Heap 𝓤) (A : Atoms 𝓤) (W : Given
       await ! tt $ split ! $
       land ! (from ! (stop !)) (init ! 38 refl (tt, record { fits = is-r .1 })) $ rotate ! 4 $ returns ! (look ! 34 refl) $
       frees-all ! body.locals ls (some _ ∷ some _ ∷ some _ ∷ some _ ∷ some _ ∷ some _ ∷ some _ ∷ some _ ∷ some _ ∷ some _ ∷ some _ ∷ some _ ∷ some _ ∷ some _ ∷ some _ ∷ some _ ∷ some _ ∷ some _ ∷ []) $
-      by ! (exits r (is-r .1) (ws .1 .1 .1 .0) (ws .1 .1 .1 .1 .0) (ws .1 .1 .1 .1 .1 .0) (vs .1 .0) (vs .1 .1 .0) k₁ k₂ k₃ (best-told (bestOf fs mo ps (lentBy (us, ys, ms))) (cost p) us ys ms x (checked .0) (checked .1 .0) (checked .1 .1 .0) (checked .1 .1 .1) said)))))))))))))))
+      by ! (exits r (is-r .1) (ws .1 .1 .1 .0) (ws .1 .1 .1 .1 .0) (ws .1 .1 .1 .1 .1 .0) (vs .1 .0) (vs .1 .1 .0) k₁ k₂ k₃ (best-told (bestOf fs mo ps (lentBy (us, ys, ms))) p us ys ms x (checked .0) (checked .1 .0) (checked .1 .1 .0) (checked .1 .1 .1) said)))))))))))))))
 
 meets : {M : Type 1} (𝓤 : URA M) (H : Heap 𝓤) (A : Atoms 𝓤) → Given 𝓤 H A → (mem : Memory → SProp 𝓤) (run : Routine → Fun 𝓤) (𝓣 : Tables 𝓤 H) → Known 𝓤 H A mem run (𝓣 .C)
     → Meets 𝓤 H A f.signature (WpFn 𝓤 H (𝓣 .C) (𝓣 .Λ) code.function) (f.spec 𝓤 H A mem run)

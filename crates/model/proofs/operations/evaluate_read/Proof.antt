@@ -13,6 +13,9 @@ enum-told c = search needs
 truth-of-requires : tie.Need-truth-of-requires
 truth-of-requires c κs = search needs
 
+part-size-requires : tie.Need-part-size-requires
+part-size-requires c κs = search needs
+
 judge-requires : tie.Need-judge-requires
 judge-requires c κs = search needs
 
@@ -23,7 +26,7 @@ same-length : tie.Need-same-length
 same-length c = search needs
 
 returns : tie.Need-returns
-returns c = evaluation-judged (c .before .before .before .before .before .before .before .before .before .before .before .before .before .before .pre .0) (c .before .before .before .before .before .before .before .form-of .ensures) (c .before .before .before .before .before .enum-told .given .1) (c .before .before .before .truth-of .ensures) (c .judge .ensures)
+returns c = evaluation-judged (c .before .before .before .before .before .before .before .before .before .before .before .before .before .before .before .pre .0) (c .before .before .before .before .before .before .before .before .form-of .ensures) (c .before .before .before .before .before .before .enum-told .given .1) (c .before .before .before .before .truth-of .ensures) (c .before .part-size .ensures) (c .judge .ensures)
 
 returns-2 : tie.Need-returns-2
 returns-2 c = evaluation-form (c .before .before .before .before .before .before .before .before .before .before .pre .0) (c .before .before .before .form-of .ensures) (c .before .form .given .1)
@@ -35,6 +38,7 @@ evaluate-read-spec =
     form-of-requires
     enum-told
     truth-of-requires
+    part-size-requires
     judge-requires
     enum-known-form
     same-length

@@ -1,0 +1,3 @@
+pub mod Within
+pub mod RunWithin
+pub mod Numbers
