@@ -2,9 +2,9 @@
 use checker::check;
 use cost_bound::claim_for;
 use cost_bound::judge;
+use directory::Row;
 use model::evaluate;
 use scope::BestAnswer;
-use directory::Row;
 ghost use mathlib.Core.Path.{_≡_};
 ghost use lib.ListN.{length, replicate};
 ghost use Rattle.scope.specs.Answers.{bestMeans};

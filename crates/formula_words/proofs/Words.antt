@@ -13,7 +13,8 @@ use Rattle.scope.specs.Instance.{Instance}
 use Rattle.scope.specs.Score.{eventCount, rules}
 use Rattle.scope.specs.Formula.{words, variables, hardOf, boundedVariables, boundedHard}
 use Rattle.scope.specs.declared.FormulaSize.{FormulaSize}
-use Rattle.theory.specs.Accepted.{ValidInstance, Ascending, ascending-length}
+use Rattle.parsing.specs.Numbers.{Ascending, ascending-length}
+use Rattle.theory.specs.Accepted.{ValidInstance}
 use Rattle.sizing.specs.declared.Size.{Size}
 use Rattle.sizing.specs.Sums.{none, sum, multiple, Within, within-more, within-multiple}
 use Rattle.sizing.specs.Gates.{orSize}

@@ -65,6 +65,10 @@ module _ (i : Instance) where
   tailAfter cols s [] = s
   tailAfter cols s (c ∷ cs) = tailAfter cols (tailAdd cols s ((constraintSize c) .units) (c .weight)) cs
 
+  -- the tail at a bound
+  unfoldable pub tailOf : ℕ → Size
+  tailOf B = tailAfter (B + 1) none (i .constraints)
+
 -- rules one after the other
 pub rules-append : (rs qs : List (ℕ × Rule)) → rulesSize (rs ++ qs) ≡ sum (rulesSize rs) (rulesSize qs)
 unfolding rulesSize
@@ -179,12 +183,8 @@ negated-proper (u ∷ us) p = (omega (arith, p .0), negated-proper us (p .1))
 
 -- with the tail for the bound B
 module _ (i : Instance) (B : ℕ) where
-  -- the tail's size, constraint by constraint
-  unfoldable pub tailOf : Size
-  tailOf = tailAfter i (B + 1) none (i .constraints)
-
   -- the tail's items
-  pub tail-of : ValidInstance i → sizeOf (tail B (negated (softOf i)) (variables i + 1)) ≡ tailOf
+  pub tail-of : ValidInstance i → sizeOf (tail B (negated (softOf i)) (variables i + 1)) ≡ tailOf i B
   unfolding tailOf tailSize
   tail-of s =
       let p = negated-proper (softOf i) (softs-proper i s) in
@@ -193,14 +193,14 @@ module _ (i : Instance) (B : ℕ) where
 
   -- the variables Y and S, the formula's items and the tail's
   bounded-items : ValidInstance i
-      → sum (primarySize i) (sizeAt (primary i + 1) (bounded i B)) ≡ sum (wholeSize i) tailOf
+      → sum (primarySize i) (sizeAt (primary i + 1) (bounded i B)) ≡ sum (wholeSize i) (tailOf i B)
   unfolding bounded wholeSize beforeSize startsSize primarySize
   bounded-items s =
       let e = size-any (bounded i B) (primary i + 1) (omega arith) in
       rw (e, size-append, tail-of s, items-size i s) (simp sum-assoc)
 
   -- the size of the hard clauses and the tail
-  pub bounded-size : ValidInstance i → formulaSize i B ≡ stored (sum (wholeSize i) tailOf)
+  pub bounded-size : ValidInstance i → formulaSize i B ≡ stored (sum (wholeSize i) (tailOf i B))
   unfolding stored
   bounded-size s =
       rw (← bounded-items s) (unfold sum primarySize sizeAt boundedVariables boundedHard in simp zero-add)
