@@ -1,3 +1,4 @@
 pub mod Aims
 pub mod Search
+pub mod Looks
 pub mod Elements
