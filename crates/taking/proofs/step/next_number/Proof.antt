@@ -1,4 +1,3 @@
--- `run_meaning::check::next_number` meets its contract.
 use native.Mathlib.Omega.{arith}
 use borrow.Author.Needs.{needs}
 use Rattle.taking.proofs.step.next_number.Statement.{statement}
