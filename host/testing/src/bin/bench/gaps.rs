@@ -40,20 +40,24 @@ pub fn table(bench: &Bench, learned: &[Learned]) {
 fn rows(bench: &Bench, name: &str, (file, bound): (&[u8], u64), steps: &[Step]) {
     let sizes = engine::sizes(file, bound).expect("an accepted file");
     let formula = sizes.clauses as usize;
-    let number = bound.to_string();
-    let row = |ids: &str, steps: &[Step]| {
-        let inputs: [&[u8]; 3] = [file, number.as_bytes(), &encode_steps(steps)];
-        bench.row("check", format!("{name}, {ids}"), &inputs, true)
-    };
     let first = renumbered(steps, |id| id + u32::from(id > formula as u32));
-    let base = row("no gap", steps);
-    println!("{}", base.against(&base));
-    for row in [
-        row("one skipped", &first),
-        row("every second skipped", &with_gaps(formula, steps, 1)),
-        row("up to nine skipped", &sparse(formula, steps)),
-    ] {
-        println!("{}", row.against(&base));
+    let proofs = [
+        ("no gap", encode_steps(steps)),
+        ("one skipped", encode_steps(&first)),
+        (
+            "every second skipped",
+            encode_steps(&with_gaps(formula, steps, 1)),
+        ),
+        ("up to nine skipped", encode_steps(&sparse(formula, steps))),
+    ];
+    let number = bound.to_string();
+    let inputs = proofs.each_ref().map(|(ids, proof)| {
+        let inputs: Vec<&[u8]> = vec![file, number.as_bytes(), proof];
+        (format!("{name}, {ids}"), inputs)
+    });
+    let rows = bench.rows("check", &inputs, true);
+    for row in &rows {
+        println!("{}", row.against(&rows[0]));
     }
 }
 

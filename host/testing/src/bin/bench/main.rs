@@ -21,7 +21,7 @@ mod table;
 mod worst;
 
 use schools::Learned;
-use side::{Side, Sides, Turns};
+use side::{Run, Side, Sides, Turns};
 use std::process::ExitCode;
 use std::time::{Duration, Instant};
 use table::Row;
@@ -83,14 +83,23 @@ pub struct Bench {
 impl Bench {
     /// A comparison of all three, or without the reference.
     fn row(&self, job: &'static str, input: String, inputs: &[&[u8]], reference: bool) -> Row {
-        let all = [Side::Engine, Side::C, Side::Reference];
-        let sides = if reference { &all[..] } else { &all[..2] };
-        Row {
+        let mut rows = self.rows(job, &[(input, inputs.to_vec())], reference);
+        rows.remove(0)
+    }
+
+    /// Several comparisons, whose sides all take turns.
+    fn rows(&self, job: &'static str, all: &[(String, Vec<&[u8]>)], reference: bool) -> Vec<Row> {
+        let sides = [Side::Engine, Side::C, Side::Reference];
+        let sides = if reference { &sides[..] } else { &sides[..2] };
+        let inputs: Vec<Vec<&[u8]>> = all.iter().map(|(_, inputs)| inputs.clone()).collect();
+        let runs = self.sides.compare(job, &inputs, sides);
+        let row = |((input, inputs), runs): (&(String, Vec<&[u8]>), Vec<Run>)| Row {
             job,
-            input,
+            input: input.clone(),
             bytes: inputs.iter().map(|input| input.len()).sum(),
-            runs: self.sides.compare(job, inputs, sides),
-        }
+            runs,
+        };
+        all.iter().zip(runs).map(row).collect()
     }
 }
 
