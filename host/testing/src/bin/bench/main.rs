@@ -7,7 +7,7 @@
 //! time on a processor: a call is made again and again in spans of 20 ms, and
 //! the median of the spans of several turns counts, in which the sides
 //! alternate, so that a busy machine disturbs all alike. Each turn is a process
-//! of its own: `tests/c/plain`, compiled by `cc -O2`, or this program as `bench
+//! of its own: `tests/c/plain`, compiled by `cc -O3`, or this program as `bench
 //! engine` or `bench reference` with the same arguments.
 
 mod clock;
@@ -46,7 +46,7 @@ const WHOLE: Scale = Scale {
     lessons: &[20, 50, 100, 200, 400, 800],
     shown: &[100, 400],
     learned: &[100, 400],
-    hints: 4_000_000,
+    hints: 2_000_000,
     copies: 250_000,
     ors: 200,
     part: 1,

@@ -98,7 +98,7 @@ impl Sides {
         fs::create_dir_all(&folder).expect("a folder for the C program");
         let files = ["check", "decode", "instance", "main", "score", "text"];
         let status = Command::new("cc")
-            .args(["-O2", "-std=c11", "-o"])
+            .args(["-O3", "-std=c11", "-o"])
             .arg(folder.join("plain"))
             .args(files.map(|file| sources.join(file).with_extension("c")))
             .status()
