@@ -115,14 +115,16 @@ fn main() -> ExitCode {
             return ExitCode::from(2);
         }
     };
+    tables(turns, scale);
+    ExitCode::SUCCESS
+}
+
+/// Prints all tables, and how busy the machine was meanwhile.
+fn tables(turns: Turns, scale: Scale) {
     let begin = Instant::now();
     let before = load();
-    let hints = scale.hints;
-    let learned = scale
-        .learned
-        .iter()
-        .map(|&lessons| Learned::new(lessons, hints));
-    let learned: Vec<Learned> = learned.collect();
+    let learn = |&lessons: &usize| Learned::new(lessons, scale.hints);
+    let learned: Vec<Learned> = scale.learned.iter().map(learn).collect();
     let bench = Bench {
         sides: Sides::new(turns),
         scale,
@@ -132,11 +134,10 @@ fn main() -> ExitCode {
     drop(learned);
     worst::table(&bench);
     let minutes = begin.elapsed().as_secs_f64() / 60.0;
+    let after = load();
     println!(
-        "\nThe run took {minutes:.1} minutes. Load average before it {before}, after it {}.",
-        load()
+        "\nThe run took {minutes:.1} minutes. Load average before it {before}, after it {after}."
     );
-    ExitCode::SUCCESS
 }
 
 /// How many programs wanted a processor in the last minute: on an idle machine
