@@ -240,6 +240,29 @@ mod tests {
         assert_eq!(row(2).worst(), worst);
     }
 
+    /// The page of benchmarks is the command's output, so it has the same tables.
+    #[test]
+    fn the_page_has_these_tables() {
+        let page = include_str!("../../../../../docs/BENCHMARKS.md");
+        for (title, columns) in [
+            ("Operations", &OPERATIONS[..]),
+            ("Growth", &GROWTH),
+            ("Memory", &MEMORY),
+            ("Gaps in ids", &GAPS),
+            ("Worst accepted inputs", &WORST),
+        ] {
+            let (_, table) = page
+                .split_once(&format!("\n### {title}\n"))
+                .expect("a heading");
+            let head = table.lines().find(|line| line.starts_with('|'));
+            let wanted = format!("| {} |", columns.join(" | "));
+            assert!(
+                head.is_some_and(|head| head.starts_with(&wanted)),
+                "{title}"
+            );
+        }
+    }
+
     #[test]
     fn a_line_has_a_cell_for_each_column() {
         let cells = |line: String| line.matches('|').count() - 1;
