@@ -23,9 +23,19 @@ static void load_counter(void *job, const uint32_t *literals, uint32_t n, uint32
     write_counter(job, load_clause, literals, n, columns, first);
 }
 
-static void load_or(void *job, uint32_t *literals, uint32_t n, uint32_t output)
+static void no_soft(void *job, uint32_t weight, uint32_t unit)
 {
-    write_or(job, load_clause, literals, n, output);
+    (void)job, (void)weight, (void)unit;
+}
+
+static void no_hard(void *job, const uint32_t *clause, uint32_t n)
+{
+    (void)job, (void)clause, (void)n;
+}
+
+static void no_counter(void *job, const uint32_t *literals, uint32_t n, uint32_t columns, uint32_t first)
+{
+    (void)job, (void)literals, (void)n, (void)columns, (void)first;
 }
 
 /* A row of the tail's counter. */
@@ -42,16 +52,13 @@ struct run {
     uint32_t words, rows, set, last;
 };
 
-/* Ids ascend, so that a row is at most as far from the first and the last as its id is. */
 static struct row *find(struct run *r, uint32_t id)
 {
     struct row *rows = r->stores->rows;
     if (id - 1 < r->rows && rows[id - 1].id == id)
         return &rows[id - 1];
-    if (!r->rows || id > rows[r->rows - 1].id)
-        return 0;
-    uint32_t back = rows[r->rows - 1].id - id, lo = back < r->rows ? r->rows - 1 - back : 0, hi = id < r->rows ? id : r->rows;
-    while (lo < hi && rows[lo].id != id) {
+    uint32_t lo = 0, hi = r->rows;
+    while (lo < hi) {
         uint32_t mid = lo + (hi - lo) / 2;
         if (rows[mid].id < id)
             lo = mid + 1;
@@ -83,25 +90,34 @@ static uint32_t open_literal(const struct run *r, const struct row *row)
     return open;
 }
 
-/* A refusal of an id, unless one of the ids after it up to a 0 is misformed: that comes first. */
-static int refused(int number, const uint8_t *proof, size_t length, size_t at)
+static int number_at(const uint8_t *proof, size_t length, size_t *at, uint32_t *value)
+{
+    if (*at < length && proof[*at] < 128) {
+        *value = proof[(*at)++];
+        return 0;
+    }
+    return read_number(proof, length, at, value);
+}
+
+/* Passes over the ids up to a 0. */
+static int skip_ids(const uint8_t *proof, size_t length, size_t *at)
 {
     uint32_t id;
     do
-        if (read_number(proof, length, &at, &id))
+        if (number_at(proof, length, at, &id))
             return 14;
     while (id);
-    return number;
+    return 0;
 }
 
 /* A step that adds a clause; *empty says whether it has no literal. */
 static int add(struct run *r, const uint8_t *proof, size_t length, size_t *at, int *empty)
 {
     uint32_t id, l, hint, *words = r->stores->words + r->words, n = 0;
-    if (read_number(proof, length, at, &id) || (r->rows && id <= r->stores->rows[r->rows - 1].id) || !id)
+    if (number_at(proof, length, at, &id) || (r->rows && id <= r->stores->rows[r->rows - 1].id) || !id)
         return 14;
     for (;;) {
-        if (read_number(proof, length, at, &l))
+        if (number_at(proof, length, at, &l))
             return 14;
         if (!l)
             break;
@@ -110,18 +126,20 @@ static int add(struct run *r, const uint8_t *proof, size_t length, size_t *at, i
         falsify(r, l);
         words[n++] = l;
     }
-    int done = 0;
+    size_t hints = *at;
+    int bad = skip_ids(proof, length, at), done = 0;
+    if (bad)
+        return bad;
     for (;;) {
-        if (read_number(proof, length, at, &hint))
-            return 14;
+        number_at(proof, length, &hints, &hint);
         if (!hint)
             break;
         struct row *row = find(r, hint);
         if (!row || !row->length)
-            return refused(15, proof, length, *at);
+            return 15;
         uint32_t open = done ? 1 : open_literal(r, row);
         if (open == 1)
-            return refused(16, proof, length, *at);
+            return 16;
         if (open)
             falsify(r, open ^ 1);
         else
@@ -141,15 +159,18 @@ static int add(struct run *r, const uint8_t *proof, size_t length, size_t *at, i
 
 static int delete(struct run *r, const uint8_t *proof, size_t length, size_t *at)
 {
+    size_t ids = *at;
     uint32_t id;
+    int bad = skip_ids(proof, length, at);
+    if (bad)
+        return bad;
     for (;;) {
-        if (read_number(proof, length, at, &id))
-            return 14;
+        number_at(proof, length, &ids, &id);
         if (!id)
             return 0;
         struct row *row = find(r, id);
         if (!row || !row->length)
-            return refused(15, proof, length, *at);
+            return 15;
         row->length = 0;
     }
 }
@@ -158,9 +179,9 @@ static int delete(struct run *r, const uint8_t *proof, size_t length, size_t *at
 int check(const struct instance *in, uint32_t bound, const uint8_t *proof, size_t length, struct stores *stores, uint64_t *steps)
 {
     struct loader l = {stores, 0, 0, 0, 0, bound + 1};
-    uint32_t last = write_formula(in, &l, (struct parts){load_clause, no_soft, load_counter, load_or});
+    uint32_t last = write_formula(in, &l, load_clause, no_soft, load_counter);
     l.next = last + 1;
-    write_formula(in, &l, (struct parts){no_hard, load_tail, no_counter, no_or});
+    write_formula(in, &l, no_hard, load_tail, no_counter);
     if (l.prev) {
         uint32_t unit = 2 * (l.prev + bound) + 1;
         load_clause(&l, &unit, 1);

@@ -13,54 +13,46 @@ typedef void hard_function(void *job, const uint32_t *clause, uint32_t n);
 typedef void soft_function(void *job, uint32_t weight, uint32_t unit);
 /* A counter's cells: literals of the weight 1, n rows of so many columns, from the variable first on. */
 typedef void counter_function(void *job, const uint32_t *literals, uint32_t n, uint32_t columns, uint32_t first);
-/* An OR of n literals; after these there is room for one more. */
-typedef void or_function(void *job, uint32_t *literals, uint32_t n, uint32_t output);
-
-/* What a job does with each part of a formula. */
-struct parts {
-    hard_function *hard;
-    soft_function *soft;
-    counter_function *counter;
-    or_function *or;
-};
 
 struct walk {
     const struct instance *in;
     void *job;
-    struct parts parts;
+    hard_function *hard;
+    soft_function *soft;
+    counter_function *counter;
     uint32_t last;
 };
 
-#define CLAUSE(job, hard, ...) \
+#define HARD(w, ...) \
     do { \
         const uint32_t clause_[] = {__VA_ARGS__}; \
-        (hard)(job, clause_, sizeof clause_ / sizeof *clause_); \
+        (w)->hard((w)->job, clause_, sizeof clause_ / sizeof *clause_); \
     } while (0)
-#define HARD(w, ...) CLAUSE((w)->job, (w)->parts.hard, __VA_ARGS__)
 
 /* A row of a counter at the variable first, over the row at prev, or over none where that is 0. */
 INLINE void write_row(void *job, hard_function *hard, uint32_t x, uint32_t weight, uint32_t prev, uint32_t first, uint32_t columns)
 {
+    struct walk w = {0, job, hard, 0, 0, 0};
     for (uint32_t j = 0; j < columns; j++) {
         uint32_t c = 2 * (first + j), a = 2 * (prev + j);
         if (!prev) {
             if (j < weight) {
-                CLAUSE(job, hard, x ^ 1, c);
-                CLAUSE(job, hard, x, c ^ 1);
+                HARD(&w, x ^ 1, c);
+                HARD(&w, x, c ^ 1);
             } else {
-                CLAUSE(job, hard, x, c ^ 1);
-                CLAUSE(job, hard, c ^ 1);
+                HARD(&w, x, c ^ 1);
+                HARD(&w, c ^ 1);
             }
         } else if (j < weight) {
-            CLAUSE(job, hard, a ^ 1, c);
-            CLAUSE(job, hard, x ^ 1, c);
-            CLAUSE(job, hard, x, a, c ^ 1);
+            HARD(&w, a ^ 1, c);
+            HARD(&w, x ^ 1, c);
+            HARD(&w, x, a, c ^ 1);
         } else {
             uint32_t b = a - 2 * weight;
-            CLAUSE(job, hard, a ^ 1, c);
-            CLAUSE(job, hard, x ^ 1, b ^ 1, c);
-            CLAUSE(job, hard, x, a, c ^ 1);
-            CLAUSE(job, hard, b, a, c ^ 1);
+            HARD(&w, a ^ 1, c);
+            HARD(&w, x ^ 1, b ^ 1, c);
+            HARD(&w, x, a, c ^ 1);
+            HARD(&w, b, a, c ^ 1);
         }
     }
 }
@@ -71,27 +63,22 @@ INLINE void write_counter(void *job, hard_function *hard, const uint32_t *litera
         write_row(job, hard, literals[i], 1, i ? first + (i - 1) * columns : 0, first + i * columns, columns);
 }
 
-INLINE void write_or(void *job, hard_function *hard, uint32_t *literals, uint32_t n, uint32_t output)
+INLINE uint32_t write_or(struct walk *w, uint32_t *literals, uint32_t n)
 {
+    uint32_t o = 2 * ++w->last;
     for (uint32_t i = 0; i < n; i++)
-        CLAUSE(job, hard, literals[i] ^ 1, output);
+        HARD(w, literals[i] ^ 1, o);
     uint32_t kept = literals[n];
-    literals[n] = output ^ 1;
-    hard(job, literals, n + 1);
+    literals[n] = o ^ 1;
+    w->hard(w->job, literals, n + 1);
     literals[n] = kept;
-}
-
-INLINE uint32_t next_or(struct walk *w, uint32_t *literals, uint32_t n)
-{
-    uint32_t output = 2 * ++w->last;
-    w->parts.or(w->job, literals, n, output);
-    return output;
+    return o;
 }
 
 INLINE void write_unit(struct walk *w, uint32_t weight, uint32_t unit)
 {
     if (weight)
-        w->parts.soft(w->job, weight, unit);
+        w->soft(w->job, weight, unit);
     else
         HARD(w, unit);
 }
@@ -103,7 +90,7 @@ INLINE void write_counted(struct walk *w, const uint32_t *literals, uint32_t n, 
         hi = n;
     uint32_t columns = weight || n < hi + 1 ? n : hi + 1;
     uint32_t first = w->last + 1;
-    w->parts.counter(w->job, literals, n, columns, first);
+    w->counter(w->job, literals, n, columns, first);
     w->last += n * columns;
     uint32_t row = n ? first + (n - 1) * columns - 1 : 0;
     if (zero_free) {
@@ -116,13 +103,13 @@ INLINE void write_counted(struct walk *w, const uint32_t *literals, uint32_t n, 
         }
     } else if (weight) {
         for (uint32_t j = 1; j <= lo; j++)
-            w->parts.soft(w->job, weight, 2 * (row + j));
+            w->soft(w->job, weight, 2 * (row + j));
     } else if (lo) {
         HARD(w, 2 * (row + lo));
     }
     if (weight) {
         for (uint32_t j = hi + 1; j <= n; j++)
-            w->parts.soft(w->job, weight, 2 * (row + j) + 1);
+            w->soft(w->job, weight, 2 * (row + j) + 1);
     } else if (hi < n) {
         HARD(w, 2 * (row + hi + 1) + 1);
     }
@@ -143,7 +130,7 @@ INLINE uint32_t write_idle(struct walk *w, uint32_t *x, uint32_t n, uint32_t *ou
 {
     uint32_t count = 0;
     for (uint32_t p = 1; p + 1 < n; p++) {
-        uint32_t g = next_or(w, x, p), h = next_or(w, x + p + 1, n - p - 1), i = 2 * ++w->last;
+        uint32_t g = write_or(w, x, p), h = write_or(w, x + p + 1, n - p - 1), i = 2 * ++w->last;
         HARD(w, x[p] ^ 1, i ^ 1);
         HARD(w, g, i ^ 1);
         HARD(w, h, i ^ 1);
@@ -190,7 +177,7 @@ INLINE void write_constraint(struct walk *w, const struct constraint *c)
         for (uint32_t i = 0; i < c->many.count; i++) {
             uint32_t size = gather(in, c->one, store[c->many.first + i], x);
             if (c->kind == 7)
-                literals[n++] = next_or(w, x, size);
+                literals[n++] = write_or(w, x, size);
             else
                 n += write_idle(w, x, size, literals + n);
         }
@@ -198,31 +185,10 @@ INLINE void write_constraint(struct walk *w, const struct constraint *c)
     write_counted(w, literals, n, c->lo, c->hi, c->weight, c->kind == 6);
 }
 
-/* What a job does that wants soft units alone, or none. */
-static inline void no_soft(void *job, uint32_t weight, uint32_t unit)
-{
-    (void)job, (void)weight, (void)unit;
-}
-
-static inline void no_hard(void *job, const uint32_t *clause, uint32_t n)
-{
-    (void)job, (void)clause, (void)n;
-}
-
-static inline void no_counter(void *job, const uint32_t *literals, uint32_t n, uint32_t columns, uint32_t first)
-{
-    (void)job, (void)literals, (void)n, (void)columns, (void)first;
-}
-
-static inline void no_or(void *job, uint32_t *literals, uint32_t n, uint32_t output)
-{
-    (void)job, (void)literals, (void)n, (void)output;
-}
-
 /* The whole formula without the tail; gives the last variable. */
-INLINE uint32_t write_formula(const struct instance *in, void *job, struct parts parts)
+INLINE uint32_t write_formula(const struct instance *in, void *job, hard_function *hard, soft_function *soft, counter_function *counter)
 {
-    struct walk w = {in, job, parts, 2 * in->events * in->times};
+    struct walk w = {in, job, hard, soft, counter, 2 * in->events * in->times};
     uint32_t times = in->times, literals[MOST_EVENTS + 1];
     for (uint32_t e = 0; e < in->events; e++)
         for (uint32_t t = 1; t <= times; t++) {
@@ -238,7 +204,7 @@ INLINE uint32_t write_formula(const struct instance *in, void *job, struct parts
             struct list users = in->users[r];
             for (uint32_t i = 0; i < users.count; i++)
                 literals[i] = 2 * ((in->store[users.first + i] - 1u) * times + t);
-            next_or(&w, literals, users.count);
+            write_or(&w, literals, users.count);
         }
     for (uint32_t e = 0; e < in->events; e++) {
         for (uint32_t t = 1; t <= times; t++)

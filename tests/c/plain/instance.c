@@ -1,6 +1,28 @@
 /* Reading an instance file: refusals 1 to 6. */
 #include "plain.h"
 
+#include <string.h>
+
+/* A number in groups of seven bits, the lowest first; 1 if it is cut short, overlong or too large. */
+int read_number(const uint8_t *s, size_t length, size_t *at, uint32_t *value)
+{
+    uint64_t n = 0;
+    for (unsigned k = 0; k < 5; k++) {
+        if (*at + k >= length)
+            return 1;
+        uint8_t b = s[*at + k];
+        n |= (uint64_t)(b & 127) << (7 * k);
+        if (b < 128) {
+            if ((k && !b) || n > UINT32_MAX)
+                return 1;
+            *at += k + 1;
+            *value = (uint32_t)n;
+            return 0;
+        }
+    }
+    return 1;
+}
+
 struct reader {
     const uint8_t *s;
     size_t length, at;

@@ -51,26 +51,7 @@ struct stores {
     uint32_t *trail;
 };
 
-/* A number in groups of seven bits, the lowest first; 1 if it is cut short, overlong or too large. */
-static inline int read_number(const uint8_t *s, size_t length, size_t *at, uint32_t *value)
-{
-    uint64_t n = 0;
-    for (unsigned k = 0; k < 5; k++) {
-        if (*at + k >= length)
-            return 1;
-        uint8_t b = s[*at + k];
-        n |= (uint64_t)(b & 127) << (7 * k);
-        if (b < 128) {
-            if ((k && !b) || n > UINT32_MAX)
-                return 1;
-            *at += k + 1;
-            *value = (uint32_t)n;
-            return 0;
-        }
-    }
-    return 1;
-}
-
+int read_number(const uint8_t *s, size_t length, size_t *at, uint32_t *value);
 int read_instance(struct instance *in, const uint8_t *file, size_t length);
 struct sizes sizes_of(const struct instance *in);
 int score(const struct instance *in, const uint8_t *table, size_t length, uint64_t *infeasibility, uint64_t *objective);

@@ -6,11 +6,11 @@
 /* Whether an event keeps the rules: its taken times, and its starts. */
 static int keeps(const uint8_t *y, const uint8_t *s, uint32_t times, uint32_t duration)
 {
-    uint32_t taken = y[0];
-    uint8_t bad = y[0] ^ s[0];
-    for (uint32_t t = 1; t < times; t++) {
+    uint32_t taken = 0, bad = 0, before = 0;
+    for (uint32_t t = 0; t < times; t++) {
         taken += y[t];
-        bad |= (s[t] & ~y[t]) | (y[t] & ~y[t - 1] & ~s[t]);
+        bad |= (uint32_t)(s[t] & ~y[t]) | (uint32_t)(y[t] & ~before & ~s[t] & 1);
+        before = y[t];
     }
     return !bad && taken == duration;
 }

@@ -27,17 +27,10 @@ static void count_counter(void *job, const uint32_t *literals, uint32_t n, uint3
     }
 }
 
-static void count_or(void *job, uint32_t *literals, uint32_t n, uint32_t output)
-{
-    (void)literals, (void)output;
-    ((struct sizes *)job)->clauses += n + 1;
-    ((struct sizes *)job)->words += 3 * (uint64_t)n + 1;
-}
-
 struct sizes sizes_of(const struct instance *in)
 {
     struct sizes sizes = {0, 0, 0, 0, 1};
-    sizes.variables = write_formula(in, &sizes, (struct parts){count_hard, count_soft, count_counter, count_or});
+    sizes.variables = write_formula(in, &sizes, count_hard, count_soft, count_counter);
     return sizes;
 }
 
@@ -78,34 +71,12 @@ static inline uint8_t *number(uint8_t *p, uint32_t v)
     return end;
 }
 
-/* A variable as "-12 ", and its length without the sign. */
-struct spelt {
-    uint32_t variable, length;
-    uint8_t bytes[24];
-};
-
-/* The variables spelt last, each at its number modulo SPELT: two rows of a counter fit. */
-enum { SPELT = 512 };
-static struct spelt spelt[SPELT];
-
-static inline const struct spelt *spell(uint32_t variable)
-{
-    struct spelt *s = &spelt[variable % SPELT];
-    if (s->variable != variable) {
-        uint8_t *end = number(s->bytes + 1, variable);
-        s->bytes[0] = '-';
-        *end = ' ';
-        s->variable = variable;
-        s->length = (uint32_t)(end - s->bytes);
-    }
-    return s;
-}
-
 static inline uint8_t *literal(uint8_t *p, uint32_t l)
 {
-    const struct spelt *s = spell(l / 2);
-    memcpy(p, s->bytes + !(l & 1), 16);
-    return p + s->length + (l & 1);
+    *p = '-';
+    p = number(p + (l & 1), l / 2);
+    *p = ' ';
+    return p + 1;
 }
 
 static inline void write_line(void *job, const uint32_t *clause, uint32_t n)
@@ -129,9 +100,19 @@ static void write_lines(void *job, const uint32_t *literals, uint32_t n, uint32_
     write_counter(job, write_line, literals, n, columns, first);
 }
 
-static void write_or_lines(void *job, uint32_t *literals, uint32_t n, uint32_t output)
+static void no_soft(void *job, uint32_t weight, uint32_t unit)
 {
-    write_or(job, write_line, literals, n, output);
+    (void)job, (void)weight, (void)unit;
+}
+
+static void no_hard(void *job, const uint32_t *clause, uint32_t n)
+{
+    (void)job, (void)clause, (void)n;
+}
+
+static void no_counter(void *job, const uint32_t *literals, uint32_t n, uint32_t columns, uint32_t first)
+{
+    (void)job, (void)literals, (void)n, (void)columns, (void)first;
 }
 
 static void set_weight(struct writer *w, uint32_t weight)
@@ -164,8 +145,8 @@ int text(const struct instance *in, uint8_t *out, size_t room, uint64_t *length)
     w.at = number(w.at, (uint32_t)sizes.top);
     *w.at++ = '\n';
     set_weight(&w, (uint32_t)sizes.top);
-    write_formula(in, &w, (struct parts){write_line, no_soft, write_lines, write_or_lines});
-    write_formula(in, &w, (struct parts){no_hard, write_soft, no_counter, no_or});
+    write_formula(in, &w, write_line, no_soft, write_lines);
+    write_formula(in, &w, no_hard, write_soft, no_counter);
     *length = (uint64_t)(w.at - out);
     return w.full ? 9 : 0;
 }

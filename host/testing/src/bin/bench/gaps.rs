@@ -3,7 +3,7 @@
 use crate::proofs::{second_copies, steps_of, Clauses};
 use crate::schools::{generated, recorded, Learned, BOUND};
 use crate::table::{head, GAPS};
-use crate::Bench;
+use crate::{Bench, WITHOUT_TUNED};
 use testing::generate::Random;
 use testing::steps::{encode_steps, renumbered, with_gaps, Step};
 use timetable::engine;
@@ -55,7 +55,7 @@ fn rows(bench: &Bench, name: &str, (file, bound): (&[u8], u64), steps: &[Step]) 
         let inputs: Vec<&[u8]> = vec![file, number.as_bytes(), proof];
         (format!("{name}, {ids}"), inputs)
     });
-    let rows = bench.rows("check", &inputs, true);
+    let rows = bench.rows("check", &inputs, &WITHOUT_TUNED);
     for row in &rows {
         println!("{}", row.against(&rows[0]));
     }

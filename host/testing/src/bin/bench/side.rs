@@ -1,23 +1,15 @@
-//! The three that are compared, each as a program with the same arguments:
+//! The sides' turns: each turn is a process that is given
 //! `JOB SPAN TURN INSTANCE [TABLE | MODEL | BOUND PROOF]`.
 
+use crate::programs::{command, compile, Side};
 use crate::spans::median;
 use std::fs;
-use std::path::{Path, PathBuf};
-use std::process::Command;
+use std::path::PathBuf;
 use std::time::{Duration, Instant};
 
 /// Milliseconds of a span, and of the spans of one process.
 const SPAN: u64 = 20;
 const TURN: u64 = 60;
-
-/// Who does a job.
-#[derive(Clone, Copy, PartialEq, Eq)]
-pub enum Side {
-    Engine,
-    C,
-    Reference,
-}
 
 /// What a program printed: the refusal's number, two numbers of the answer, the
 /// bytes of output and stores, the most bytes held, and microseconds of a call
@@ -91,19 +83,11 @@ pub struct Sides {
 }
 
 impl Sides {
-    /// Compiles the C program.
+    /// Compiles the C programs.
     pub fn new(turns: Turns) -> Sides {
-        let sources = Path::new(env!("CARGO_MANIFEST_DIR")).join("../../tests/c/plain");
-        let folder = std::env::temp_dir().join(format!("plain-{}", std::process::id()));
-        fs::create_dir_all(&folder).expect("a folder for the C program");
-        let files = ["check", "decode", "instance", "main", "score", "text"];
-        let status = Command::new("cc")
-            .args(["-O3", "-std=c11", "-o"])
-            .arg(folder.join("plain"))
-            .args(files.map(|file| sources.join(file).with_extension("c")))
-            .status()
-            .expect("cc runs");
-        assert!(status.success(), "the C program compiles");
+        let folder = std::env::temp_dir().join(format!("bench-{}", std::process::id()));
+        fs::create_dir_all(&folder).expect("a folder for the C programs");
+        compile(&folder);
         Sides { folder, turns }
     }
 
@@ -152,18 +136,7 @@ impl Sides {
     }
 
     fn run(&self, side: Side, job: &str, arguments: &[String]) -> Run {
-        let this = || Command::new(std::env::current_exe().expect("this program's path"));
-        let mut command = match side {
-            Side::C => Command::new(self.folder.join("plain")),
-            Side::Engine => this(),
-            Side::Reference => this(),
-        };
-        match side {
-            Side::C => &mut command,
-            Side::Engine => command.arg("engine"),
-            Side::Reference => command.arg("reference"),
-        };
-        let output = command
+        let output = command(side, &self.folder)
             .args([job, &SPAN.to_string(), &TURN.to_string()])
             .args(arguments)
             .output()
