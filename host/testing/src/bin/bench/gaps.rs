@@ -3,7 +3,7 @@
 use crate::proofs::{second_copies, steps_of, Clauses};
 use crate::schools::{generated, recorded, Learned, BOUND};
 use crate::table::{head, GAPS};
-use crate::Bench;
+use crate::{Bench, WITHOUT_TUNED};
 use testing::generate::Random;
 use testing::steps::{encode_steps, renumbered, with_gaps, Step};
 use timetable::engine;
@@ -40,20 +40,24 @@ pub fn table(bench: &Bench, learned: &[Learned]) {
 fn rows(bench: &Bench, name: &str, (file, bound): (&[u8], u64), steps: &[Step]) {
     let sizes = engine::sizes(file, bound).expect("an accepted file");
     let formula = sizes.clauses as usize;
-    let number = bound.to_string();
-    let row = |ids: &str, steps: &[Step]| {
-        let inputs: [&[u8]; 3] = [file, number.as_bytes(), &encode_steps(steps)];
-        bench.row("check", format!("{name}, {ids}"), &inputs, true)
-    };
     let first = renumbered(steps, |id| id + u32::from(id > formula as u32));
-    let base = row("no gap", steps);
-    println!("{}", base.against(&base));
-    for row in [
-        row("one skipped", &first),
-        row("every second skipped", &with_gaps(formula, steps, 1)),
-        row("up to nine skipped", &sparse(formula, steps)),
-    ] {
-        println!("{}", row.against(&base));
+    let proofs = [
+        ("no gap", encode_steps(steps)),
+        ("one skipped", encode_steps(&first)),
+        (
+            "every second skipped",
+            encode_steps(&with_gaps(formula, steps, 1)),
+        ),
+        ("up to nine skipped", encode_steps(&sparse(formula, steps))),
+    ];
+    let number = bound.to_string();
+    let inputs = proofs.each_ref().map(|(ids, proof)| {
+        let inputs: Vec<&[u8]> = vec![file, number.as_bytes(), proof];
+        (format!("{name}, {ids}"), inputs)
+    });
+    let rows = bench.rows("check", &inputs, &WITHOUT_TUNED);
+    for row in &rows {
+        println!("{}", row.against(&rows[0]));
     }
 }
 

@@ -1,7 +1,8 @@
 //! A job done by the engine or by the reference in a process of its own, as the
 //! C program does it: at least once untimed, then again and again in spans.
 
-use crate::side::{Run, Side};
+use crate::programs::Side;
+use crate::side::Run;
 use crate::spans::measured;
 use std::fs;
 use std::hint::black_box;

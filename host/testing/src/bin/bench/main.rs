@@ -1,4 +1,4 @@
-//! Times the engine against plain C and against the reference: schools of
+//! Times the engine against plain C, tuned C and the reference: schools of
 //! growing size, formulas of many ORs, proofs of many hints and with gaps in
 //! their ids, and the worst inputs that are accepted, with the memory of each.
 //!
@@ -7,12 +7,14 @@
 //! time on a processor: a call is made again and again in spans of 20 ms, and
 //! the median of the spans of several turns counts, in which the sides
 //! alternate, so that a busy machine disturbs all alike. Each turn is a process
-//! of its own: `tests/c/plain`, compiled by `cc -O2`, or this program as `bench
-//! engine` or `bench reference` with the same arguments.
+//! of its own: `tests/c/plain`, compiled by `cc -O2`, `tests/c/tuned`, compiled
+//! by `cc -O3`, or this program as `bench engine` or `bench reference` with the
+//! same arguments.
 
 mod clock;
 mod gaps;
 mod job;
+mod programs;
 mod proofs;
 mod schools;
 mod side;
@@ -20,8 +22,9 @@ mod spans;
 mod table;
 mod worst;
 
+use programs::Side;
 use schools::Learned;
-use side::{Side, Sides, Turns};
+use side::{Run, Sides, Turns};
 use std::process::ExitCode;
 use std::time::{Duration, Instant};
 use table::Row;
@@ -46,7 +49,7 @@ const WHOLE: Scale = Scale {
     lessons: &[20, 50, 100, 200, 400, 800],
     shown: &[100, 400],
     learned: &[100, 400],
-    hints: 4_000_000,
+    hints: 2_000_000,
     copies: 250_000,
     ors: 200,
     part: 1,
@@ -74,6 +77,12 @@ const FEW: Turns = Turns {
     enough: Duration::from_secs(1),
 };
 
+/// Who takes part in a row of the table of operations, of the table of gaps, and
+/// of the others.
+pub const ALL: [Side; 4] = [Side::Engine, Side::Plain, Side::Tuned, Side::Reference];
+pub const WITHOUT_TUNED: [Side; 3] = [Side::Engine, Side::Plain, Side::Reference];
+pub const TWO: [Side; 2] = [Side::Engine, Side::Plain];
+
 /// The sides, and the size of what they are given.
 pub struct Bench {
     sides: Sides,
@@ -81,16 +90,23 @@ pub struct Bench {
 }
 
 impl Bench {
-    /// A comparison of all three, or without the reference.
-    fn row(&self, job: &'static str, input: String, inputs: &[&[u8]], reference: bool) -> Row {
-        let all = [Side::Engine, Side::C, Side::Reference];
-        let sides = if reference { &all[..] } else { &all[..2] };
-        Row {
+    /// A comparison of these sides.
+    fn row(&self, job: &'static str, input: String, inputs: &[&[u8]], sides: &[Side]) -> Row {
+        let mut rows = self.rows(job, &[(input, inputs.to_vec())], sides);
+        rows.remove(0)
+    }
+
+    /// Several comparisons, whose sides all take turns.
+    fn rows(&self, job: &'static str, all: &[(String, Vec<&[u8]>)], sides: &[Side]) -> Vec<Row> {
+        let inputs: Vec<Vec<&[u8]>> = all.iter().map(|(_, inputs)| inputs.clone()).collect();
+        let runs = self.sides.compare(job, &inputs, sides);
+        let row = |((input, inputs), runs): (&(String, Vec<&[u8]>), Vec<Run>)| Row {
             job,
-            input,
+            input: input.clone(),
             bytes: inputs.iter().map(|input| input.len()).sum(),
-            runs: self.sides.compare(job, inputs, sides),
-        }
+            runs: sides.iter().copied().zip(runs).collect(),
+        };
+        all.iter().zip(runs).map(row).collect()
     }
 }
 
@@ -106,14 +122,16 @@ fn main() -> ExitCode {
             return ExitCode::from(2);
         }
     };
+    tables(turns, scale);
+    ExitCode::SUCCESS
+}
+
+/// Prints all tables, and how busy the machine was meanwhile.
+fn tables(turns: Turns, scale: Scale) {
     let begin = Instant::now();
     let before = load();
-    let hints = scale.hints;
-    let learned = scale
-        .learned
-        .iter()
-        .map(|&lessons| Learned::new(lessons, hints));
-    let learned: Vec<Learned> = learned.collect();
+    let learn = |&lessons: &usize| Learned::new(lessons, scale.hints);
+    let learned: Vec<Learned> = scale.learned.iter().map(learn).collect();
     let bench = Bench {
         sides: Sides::new(turns),
         scale,
@@ -123,11 +141,10 @@ fn main() -> ExitCode {
     drop(learned);
     worst::table(&bench);
     let minutes = begin.elapsed().as_secs_f64() / 60.0;
+    let after = load();
     println!(
-        "\nThe run took {minutes:.1} minutes. Load average before it {before}, after it {}.",
-        load()
+        "\nThe run took {minutes:.1} minutes. Load average before it {before}, after it {after}."
     );
-    ExitCode::SUCCESS
 }
 
 /// How many programs wanted a processor in the last minute: on an idle machine

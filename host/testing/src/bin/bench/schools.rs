@@ -1,9 +1,10 @@
 //! The operations on schools of growing size, on a formula of many ORs and on
 //! proofs of many hints; then growth and memory from the same runs.
 
+use crate::programs::Side;
 use crate::proofs::{copies, Clauses};
 use crate::table::{grouped, head, Row, GROWTH, MEMORY, OPERATIONS};
-use crate::Bench;
+use crate::{Bench, ALL, TWO};
 use testing::generate::{encode, many_ors, model, planned_school, school, timetable, Plan, Random};
 use testing::prover::{clause_list, lemmas};
 use testing::reference::{Instance, Sizes};
@@ -123,18 +124,27 @@ impl School {
     pub fn name(&self) -> String {
         format!("{} lessons", self.lessons)
     }
+
+    /// Growth and memory are the engine's and plain C's alone.
+    fn sides(&self) -> &'static [Side] {
+        if self.shown {
+            &ALL
+        } else {
+            &TWO
+        }
+    }
 }
 
 fn small_operations(bench: &Bench, schools: &[School]) -> Vec<Measured> {
     let read = schools.iter().map(|school| {
-        let row = bench.row("read", school.name(), &[&school.file], school.shown);
+        let row = bench.row("read", school.name(), &[&school.file], school.sides());
         let amount = row.bytes as u64;
         school.measured(row, amount)
     });
     let read: Vec<Measured> = read.collect();
     let score = schools.iter().map(|school| {
         let inputs: [&[u8]; 2] = [&school.file, &school.table];
-        let row = bench.row("score", school.name(), &inputs, school.shown);
+        let row = bench.row("score", school.name(), &inputs, school.sides());
         let amount = row.bytes as u64;
         school.measured(row, amount)
     });
@@ -155,12 +165,12 @@ fn formulas(bench: &Bench, schools: &[School]) -> Vec<Measured> {
     let files: Vec<(Vec<u8>, Vec<u8>)> = schools.iter().map(soft).collect();
     let mut all = Vec::new();
     for (school, (file, _)) in schools.iter().zip(&files) {
-        let row = bench.row("text", school.name(), &[file], school.shown);
+        let row = bench.row("text", school.name(), &[file], school.sides());
         let amount = row.engine().answer[0];
         all.push(school.measured(row, amount));
     }
     for (school, (file, model)) in schools.iter().zip(&files) {
-        let row = bench.row("decode", school.name(), &[file, model], school.shown);
+        let row = bench.row("decode", school.name(), &[file, model], school.sides());
         all.push(school.measured(row, model.len() as u64));
     }
     all
@@ -187,7 +197,7 @@ fn empty_proofs(bench: &Bench, schools: &[School]) -> Vec<Measured> {
 fn check(bench: &Bench, school: &School, job: &'static str, bound: u64, proof: &[u8]) -> Measured {
     let number = bound.to_string();
     let inputs: [&[u8]; 3] = [&school.file, number.as_bytes(), proof];
-    let row = bench.row(job, school.name(), &inputs, school.shown);
+    let row = bench.row(job, school.name(), &inputs, school.sides());
     let sizes = engine::sizes(&school.file, bound).expect("an accepted file");
     let amount = sizes.clauses + row.engine().answer[0];
     school.measured(row, amount)
@@ -203,9 +213,9 @@ fn ors(bench: &Bench) {
     let name = || format!("ORs, {} clauses", grouped(clauses.count() as u64));
     let number = BOUND.to_string();
     let rows = [
-        bench.row("text", name(), &[&file], true),
-        bench.row("decode", name(), &[&file, &model], true),
-        bench.row("check", name(), &[&file, number.as_bytes(), &proof], true),
+        bench.row("text", name(), &[&file], &ALL),
+        bench.row("decode", name(), &[&file, &model], &ALL),
+        bench.row("check", name(), &[&file, number.as_bytes(), &proof], &ALL),
     ];
     for row in rows {
         println!("{}", row.line());
@@ -218,7 +228,7 @@ fn many_hints(bench: &Bench, learned: &[Learned]) {
         let number = BOUND.to_string();
         let proof = encode_steps(&learned.steps);
         let inputs: [&[u8]; 3] = [&learned.file, number.as_bytes(), &proof];
-        let row = bench.row("check", learned.name(), &inputs, true);
+        let row = bench.row("check", learned.name(), &inputs, &ALL);
         println!("{}", row.line());
     }
 }
@@ -259,7 +269,7 @@ fn growth(all: &[Measured]) {
     for (job, each) in JOBS {
         let same = generated.iter().filter(|one| one.row.job == job);
         let same: Vec<(&Row, u64)> = same.map(|one| (&one.row, one.amount)).collect();
-        for (side, name) in ["engine", "C"].into_iter().enumerate() {
+        for (side, name) in [(Side::Engine, "engine"), (Side::Plain, "plain C")] {
             let cell = |(row, amount): &(&Row, u64)| row.nanoseconds(side, *amount);
             let cells: Vec<String> = same.iter().map(cell).collect();
             println!("| {job} | {each} | {name} | {} |", cells.join(" | "));

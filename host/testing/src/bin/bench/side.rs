@@ -1,23 +1,15 @@
-//! The three that are compared, each as a program with the same arguments:
+//! The sides' turns: each turn is a process that is given
 //! `JOB SPAN TURN INSTANCE [TABLE | MODEL | BOUND PROOF]`.
 
+use crate::programs::{command, compile, Side};
 use crate::spans::median;
 use std::fs;
-use std::path::{Path, PathBuf};
-use std::process::Command;
+use std::path::PathBuf;
 use std::time::{Duration, Instant};
 
 /// Milliseconds of a span, and of the spans of one process.
 const SPAN: u64 = 20;
 const TURN: u64 = 60;
-
-/// Who does a job.
-#[derive(Clone, Copy, PartialEq, Eq)]
-pub enum Side {
-    Engine,
-    C,
-    Reference,
-}
 
 /// What a program printed: the refusal's number, two numbers of the answer, the
 /// bytes of output and stores, the most bytes held, and microseconds of a call
@@ -91,59 +83,52 @@ pub struct Sides {
 }
 
 impl Sides {
-    /// Compiles the C program.
+    /// Compiles the C programs.
     pub fn new(turns: Turns) -> Sides {
-        let sources = Path::new(env!("CARGO_MANIFEST_DIR")).join("../../tests/c/plain");
-        let folder = std::env::temp_dir().join(format!("plain-{}", std::process::id()));
-        fs::create_dir_all(&folder).expect("a folder for the C program");
-        let files = ["check", "decode", "instance", "main", "score", "text"];
-        let status = Command::new("cc")
-            .args(["-O2", "-std=c11", "-o"])
-            .arg(folder.join("plain"))
-            .args(files.map(|file| sources.join(file).with_extension("c")))
-            .status()
-            .expect("cc runs");
-        assert!(status.success(), "the C program compiles");
+        let folder = std::env::temp_dir().join(format!("bench-{}", std::process::id()));
+        fs::create_dir_all(&folder).expect("a folder for the C programs");
+        compile(&folder);
         Sides { folder, turns }
     }
 
-    /// The spans of each side, which take turns. All must answer alike, with
-    /// acceptance or, for a proof without the empty clause, with 18.
+    /// The spans of each side on each of several inputs, which all take turns, so
+    /// that what is compared is done in the same minute. All sides must answer
+    /// alike, with acceptance or, for a proof without the empty clause, with 18.
     /// A job's name may say more after a comma.
-    pub fn compare(&self, job: &str, inputs: &[&[u8]], sides: &[Side]) -> Vec<Run> {
+    pub fn compare(&self, job: &str, inputs: &[Vec<&[u8]>], sides: &[Side]) -> Vec<Vec<Run>> {
         let begin = Instant::now();
-        let arguments = self.written(inputs);
+        let written = inputs.iter().enumerate();
+        let arguments: Vec<Vec<String>> = written.map(|(at, all)| self.written(at, all)).collect();
         let job = job.split(',').next().unwrap_or(job);
-        let turn = || -> Vec<Run> {
-            let run = |&side: &Side| self.run(side, job, &arguments);
+        let turn = |words: &Vec<String>| -> Vec<Run> {
+            let run = |&side: &Side| self.run(side, job, words);
             sides.iter().map(run).collect()
         };
-        let mut all = turn();
+        let mut all: Vec<Vec<Run>> = arguments.iter().map(turn).collect();
         for done in 1..self.turns.most {
             if done >= self.turns.least && begin.elapsed() >= self.turns.enough {
                 break;
             }
-            let later = turn();
-            all.iter_mut().zip(later).for_each(|(run, later)| {
-                assert!(run.same(&later), "{job}: {run:?} and {later:?}");
-                run.add(later);
-            });
+            for (runs, words) in all.iter_mut().zip(&arguments) {
+                runs.iter_mut().zip(turn(words)).for_each(|(run, later)| {
+                    assert!(run.same(&later), "{job}: {run:?} and {later:?}");
+                    run.add(later);
+                });
+            }
         }
-        let accepted = matches!(all[0].refusal, 0 | 18);
-        assert!(accepted, "{job} is refused with {}", all[0].refusal);
-        for run in &all {
-            assert!(run.same(&all[0]), "{job}: {run:?} and {:?}", all[0]);
+        for runs in &all {
+            alike(job, runs);
         }
         all
     }
 
     /// Inputs as files, but a bound, which stands between two of them, as it is.
-    fn written(&self, inputs: &[&[u8]]) -> Vec<String> {
+    fn written(&self, at: usize, inputs: &[&[u8]]) -> Vec<String> {
         let file = |(index, input): (usize, &&[u8])| {
             if inputs.len() == 3 && index == 1 {
                 return String::from_utf8_lossy(input).into_owned();
             }
-            let path = self.folder.join(format!("input-{index}"));
+            let path = self.folder.join(format!("input-{at}-{index}"));
             fs::write(&path, input).expect("an input is written");
             path.display().to_string()
         };
@@ -151,18 +136,7 @@ impl Sides {
     }
 
     fn run(&self, side: Side, job: &str, arguments: &[String]) -> Run {
-        let this = || Command::new(std::env::current_exe().expect("this program's path"));
-        let mut command = match side {
-            Side::C => Command::new(self.folder.join("plain")),
-            Side::Engine => this(),
-            Side::Reference => this(),
-        };
-        match side {
-            Side::C => &mut command,
-            Side::Engine => command.arg("engine"),
-            Side::Reference => command.arg("reference"),
-        };
-        let output = command
+        let output = command(side, &self.folder)
             .args([job, &SPAN.to_string(), &TURN.to_string()])
             .args(arguments)
             .output()
@@ -172,6 +146,15 @@ impl Sides {
             let error = String::from_utf8_lossy(&output.stderr);
             panic!("{job}: the program said {said:?} {error}")
         })
+    }
+}
+
+/// Panics unless all sides gave the same answer, which is one that is wanted.
+fn alike(job: &str, runs: &[Run]) {
+    let refusal = runs[0].refusal;
+    assert!(matches!(refusal, 0 | 18), "{job} is refused with {refusal}");
+    for run in runs {
+        assert!(run.same(&runs[0]), "{job}: {run:?} and {:?}", runs[0]);
     }
 }
 

@@ -1,88 +1,102 @@
 //! The tables, in Markdown.
 
+use crate::programs::Side;
 use crate::side::Run;
 
-/// A comparison: an operation on an input, with a run of the engine, of C, and
-/// of the reference if it took part.
+/// A comparison: an operation on an input, with the runs of those who took part,
+/// among whom are always the engine and plain C.
 pub struct Row {
     pub job: &'static str,
     pub input: String,
     pub bytes: usize,
-    pub runs: Vec<Run>,
+    pub runs: Vec<(Side, Run)>,
 }
 
 impl Row {
     pub fn engine(&self) -> &Run {
-        &self.runs[0]
+        self.took_part(Side::Engine)
     }
 
-    fn c(&self) -> &Run {
-        &self.runs[1]
+    fn plain(&self) -> &Run {
+        self.took_part(Side::Plain)
+    }
+
+    fn took_part(&self, side: Side) -> &Run {
+        self.run(side).expect("a side of every row")
+    }
+
+    fn run(&self, side: Side) -> Option<&Run> {
+        let mut runs = self.runs.iter();
+        runs.find_map(|(one, run)| Some(run).filter(|_| *one == side))
     }
 
     /// A line of the table of operations.
     pub fn line(&self) -> String {
-        let reference = self.runs.get(2);
+        let [engine, plain] = [self.engine(), self.plain()];
+        let [tuned, reference] = [Side::Tuned, Side::Reference].map(|side| self.run(side));
         line(&[
             self.job.into(),
             self.input.clone(),
             grouped(self.bytes as u64),
-            time(self.engine()),
-            time(self.c()),
+            time(engine),
+            time(plain),
+            tuned.map_or(NONE.into(), time),
             reference.map_or(NONE.into(), time),
-            ratio(self.engine(), Some(self.c())),
-            ratio(self.engine(), reference),
+            ratio(engine, Some(plain)),
+            ratio(engine, tuned),
+            ratio(engine, reference),
         ])
     }
 
     /// A line of the table of memory.
     pub fn memory(&self) -> String {
-        let [engine, c] = [self.engine(), self.c()];
+        let [engine, plain] = [self.engine(), self.plain()];
         line(&[
             self.job.into(),
             self.input.clone(),
             grouped(self.bytes as u64),
             megabytes(engine.lent),
             megabytes(engine.peak),
-            megabytes(c.peak),
-            format!("{:.2}", engine.peak as f64 / c.peak as f64),
+            megabytes(plain.peak),
+            format!("{:.2}", engine.peak as f64 / plain.peak as f64),
         ])
     }
 
     /// A line of the table of worst inputs.
     pub fn worst(&self) -> String {
-        let [engine, c] = [self.engine(), self.c()];
+        let [engine, plain] = [self.engine(), self.plain()];
         line(&[
             self.job.into(),
             self.input.clone(),
             grouped(self.bytes as u64),
             time(engine),
-            time(c),
-            ratio(engine, Some(c)),
+            time(plain),
+            ratio(engine, Some(plain)),
             megabytes(engine.lent),
             megabytes(engine.peak),
-            megabytes(c.peak),
+            megabytes(plain.peak),
         ])
     }
 
     /// A line of the table of gaps, against the same proof without gaps.
     pub fn against(&self, without: &Row) -> String {
-        let [engine, c] = [self.engine(), self.c()];
+        let [engine, plain] = [self.engine(), self.plain()];
+        let reference = self.run(Side::Reference);
         line(&[
             self.input.clone(),
             time(engine),
-            time(c),
-            self.runs.get(2).map_or(NONE.into(), time),
+            time(plain),
+            reference.map_or(NONE.into(), time),
             ratio(engine, Some(without.engine())),
-            ratio(c, Some(without.c())),
-            ratio(engine, Some(c)),
-            ratio(engine, self.runs.get(2)),
+            ratio(plain, Some(without.plain())),
+            ratio(engine, Some(plain)),
+            ratio(engine, reference),
         ])
     }
 
     /// Nanoseconds of a side for each of so many, for the table of growth.
-    pub fn nanoseconds(&self, side: usize, amount: u64) -> String {
-        format!("{:.2}", 1e3 * self.runs[side].time() / amount as f64)
+    pub fn nanoseconds(&self, side: Side, amount: u64) -> String {
+        format!("{:.2}", 1e3 * self.took_part(side).time() / amount as f64)
     }
 }
 
@@ -107,14 +121,16 @@ pub fn head(title: &str, said: &str, columns: &[&str]) {
     println!("|{}", "---|".repeat(columns.len()));
 }
 
-pub const OPERATIONS: [&str; 8] = [
+pub const OPERATIONS: [&str; 10] = [
     "operation",
     "input",
     "bytes of input",
     "engine",
-    "C",
+    "plain C",
+    "tuned C",
     "reference",
-    "engine / C",
+    "engine / plain C",
+    "engine / tuned C",
     "engine / reference",
 ];
 
@@ -126,18 +142,18 @@ pub const MEMORY: [&str; 7] = [
     "bytes of input",
     "output and stores",
     "engine's process",
-    "C's process",
-    "engine / C",
+    "plain C's process",
+    "engine / plain C",
 ];
 
 pub const GAPS: [&str; 8] = [
     "proof, ids",
     "engine",
-    "C",
+    "plain C",
     "reference",
     "engine / the same without gaps",
-    "C / the same without gaps",
-    "engine / C",
+    "plain C / the same without gaps",
+    "engine / plain C",
     "engine / reference",
 ];
 
@@ -146,11 +162,11 @@ pub const WORST: [&str; 9] = [
     "input",
     "bytes of input",
     "engine",
-    "C",
-    "engine / C",
+    "plain C",
+    "engine / plain C",
     "output and stores",
     "engine's process",
-    "C's process",
+    "plain C's process",
 ];
 
 fn time(run: &Run) -> String {
@@ -181,6 +197,7 @@ pub fn grouped(number: u64) -> String {
 #[cfg(test)]
 mod tests {
     use super::*;
+    use crate::{ALL, TWO, WITHOUT_TUNED};
 
     fn run(spans: &[f64], peak: u64) -> Run {
         Run {
@@ -192,60 +209,89 @@ mod tests {
         }
     }
 
-    /// The medians are 30 µs of the engine, 20 µs of C and 1.2 ms of the
-    /// reference; neither the fastest spans nor the means have these ratios.
-    fn row(runs: usize) -> Row {
-        let all = [
-            run(&[30.0, 1.0, 500.0], 6_000_000),
-            run(&[19.0, 900.0, 2.0, 21.0], 4_000_000),
-            run(&[1_200.0], 9_000_000),
-        ];
+    /// The medians are 30 µs of the engine, 20 µs of plain C, 12 µs of tuned C and
+    /// 1.2 ms of the reference; neither the fastest spans nor the means have these
+    /// ratios.
+    fn row(sides: &[Side]) -> Row {
+        let run = |&side: &Side| match side {
+            Side::Engine => (side, run(&[30.0, 1.0, 500.0], 6_000_000)),
+            Side::Plain => (side, run(&[19.0, 900.0, 2.0, 21.0], 4_000_000)),
+            Side::Tuned => (side, run(&[800.0, 12.0, 3.0], 5_000_000)),
+            Side::Reference => (side, run(&[1_200.0], 9_000_000)),
+        };
         Row {
             job: "check",
             input: "6 lessons".into(),
             bytes: 1_234_567,
-            runs: all[..runs].to_vec(),
+            runs: sides.iter().map(run).collect(),
         }
     }
 
     #[test]
     fn a_line_has_the_ratios_of_medians() {
-        let line = "| check | 6 lessons | 1,234,567 | 30.0 µs | 20.0 µs | 1.20 ms | 1.50 | 0.03 |";
-        assert_eq!(row(3).line(), line);
-        let two = "| check | 6 lessons | 1,234,567 | 30.0 µs | 20.0 µs | – | 1.50 | – |";
-        assert_eq!(row(2).line(), two);
+        let line = "| check | 6 lessons | 1,234,567 \
+                    | 30.0 µs | 20.0 µs | 12.0 µs | 1.20 ms | 1.50 | 2.50 | 0.03 |";
+        assert_eq!(row(&ALL).line(), line);
+        let two = "| check | 6 lessons | 1,234,567 | 30.0 µs | 20.0 µs | – | – | 1.50 | – | – |";
+        assert_eq!(row(&TWO).line(), two);
     }
 
     #[test]
     fn gaps_are_set_against_the_same_proof_without_them() {
-        let mut gaps = row(3);
+        let without = row(&WITHOUT_TUNED);
+        let mut gaps = row(&WITHOUT_TUNED);
         gaps.input = "6 lessons, one skipped".into();
-        gaps.runs[0].spans = vec![45.0];
-        gaps.runs[1].spans = vec![22.0];
+        gaps.runs[0].1.spans = vec![45.0];
+        gaps.runs[1].1.spans = vec![22.0];
         let line =
             "| 6 lessons, one skipped | 45.0 µs | 22.0 µs | 1.20 ms | 1.50 | 1.10 | 2.05 | 0.04 |";
-        assert_eq!(gaps.against(&row(3)), line);
+        assert_eq!(gaps.against(&without), line);
         let itself = "| 6 lessons | 30.0 µs | 20.0 µs | 1.20 ms | 1.00 | 1.00 | 1.50 | 0.03 |";
-        assert_eq!(row(3).against(&row(3)), itself);
+        assert_eq!(without.against(&without), itself);
     }
 
     #[test]
     fn growth_and_memory() {
-        assert_eq!(row(2).nanoseconds(0, 400), "75.00");
-        assert_eq!(row(2).nanoseconds(1, 400), "50.00");
-        let memory = "| check | 6 lessons | 1,234,567 | 1.5 MB | 6.0 MB | 4.0 MB | 1.50 |";
-        assert_eq!(row(2).memory(), memory);
-        let worst =
-            "| check | 6 lessons | 1,234,567 | 30.0 µs | 20.0 µs | 1.50 | 1.5 MB | 6.0 MB | 4.0 MB |";
-        assert_eq!(row(2).worst(), worst);
+        for row in [row(&TWO), row(&ALL)] {
+            assert_eq!(row.nanoseconds(Side::Engine, 400), "75.00");
+            assert_eq!(row.nanoseconds(Side::Plain, 400), "50.00");
+            let memory = "| check | 6 lessons | 1,234,567 | 1.5 MB | 6.0 MB | 4.0 MB | 1.50 |";
+            assert_eq!(row.memory(), memory);
+            let worst = "| check | 6 lessons | 1,234,567 \
+                         | 30.0 µs | 20.0 µs | 1.50 | 1.5 MB | 6.0 MB | 4.0 MB |";
+            assert_eq!(row.worst(), worst);
+        }
+    }
+
+    /// The page of benchmarks is the command's output, so it has the same tables.
+    #[test]
+    fn the_page_has_these_tables() {
+        let page = include_str!("../../../../../docs/BENCHMARKS.md");
+        for (title, columns) in [
+            ("Operations", &OPERATIONS[..]),
+            ("Growth", &GROWTH),
+            ("Memory", &MEMORY),
+            ("Gaps in ids", &GAPS),
+            ("Worst accepted inputs", &WORST),
+        ] {
+            let (_, table) = page
+                .split_once(&format!("\n### {title}\n"))
+                .expect("a heading");
+            let head = table.lines().find(|line| line.starts_with('|'));
+            let wanted = format!("| {} |", columns.join(" | "));
+            assert!(
+                head.is_some_and(|head| head.starts_with(&wanted)),
+                "{title}"
+            );
+        }
     }
 
     #[test]
     fn a_line_has_a_cell_for_each_column() {
         let cells = |line: String| line.matches('|').count() - 1;
-        assert_eq!(cells(row(3).line()), OPERATIONS.len());
-        assert_eq!(cells(row(3).memory()), MEMORY.len());
-        assert_eq!(cells(row(3).against(&row(3))), GAPS.len());
-        assert_eq!(cells(row(3).worst()), WORST.len());
+        assert_eq!(cells(row(&ALL).line()), OPERATIONS.len());
+        assert_eq!(cells(row(&ALL).memory()), MEMORY.len());
+        assert_eq!(cells(row(&ALL).against(&row(&ALL))), GAPS.len());
+        assert_eq!(cells(row(&ALL).worst()), WORST.len());
     }
 }

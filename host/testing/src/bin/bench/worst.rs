@@ -4,7 +4,7 @@ use crate::gaps::sparse;
 use crate::proofs::{long_clauses, second_copies, Clauses};
 use crate::schools::{generated, BOUND};
 use crate::table::{grouped, head, WORST};
-use crate::Bench;
+use crate::{Bench, TWO};
 use testing::generate::{encode, idle_limits, long_tail, many_variables, model, Random};
 use testing::reference::{Instance, LARGEST_BOUND, LARGEST_FORMULA};
 use testing::steps::encode_steps;
@@ -67,7 +67,7 @@ fn all_jobs(bench: &Bench, name: &str, (instance, table): &(Instance, Vec<u8>), 
         ("decode", vec![&file, &model]),
     ];
     for (job, inputs) in jobs {
-        let row = bench.row(job, name.clone(), &inputs, false);
+        let row = bench.row(job, name.clone(), &inputs, &TWO);
         println!("{}", row.worst());
     }
     check(bench, &name, &file, bound, &[]);
@@ -76,6 +76,6 @@ fn all_jobs(bench: &Bench, name: &str, (instance, table): &(Instance, Vec<u8>), 
 fn check(bench: &Bench, name: &str, file: &[u8], bound: u64, proof: &[u8]) {
     let number = bound.to_string();
     let inputs = [file, number.as_bytes(), proof];
-    let row = bench.row("check", name.to_string(), &inputs, false);
+    let row = bench.row("check", name.to_string(), &inputs, &TWO);
     println!("{}", row.worst());
 }
