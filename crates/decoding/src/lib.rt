@@ -1,4 +1,4 @@
-// Decoding a model: the part of its bytes that holds Y and S, with its cost. specs/Demand.antt shows demand 2 of the answers.
+// Decoding a model: the part of its bytes that holds Y and S, with its cost. proofs/laws/Demand.antt shows demand 2 of the answers.
 use evaluation::answer_of;
 use evaluation::part_of;
 use model::evaluate;

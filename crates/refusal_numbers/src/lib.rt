@@ -1,1 +1,1 @@
-// Which numbers the refusals of each operation have is shown in specs/Numbers.antt; there is no code.
+// Which numbers the refusals of each operation have is shown in proofs/laws/Numbers.antt; there is no code.

@@ -1,2 +1,2 @@
 // What the run of a check means: its answer is the plain run's answer for the formula that stands in the stores. All of it stands
-// in specs/, with no code in it.
+// in proofs/laws, with no code in it.

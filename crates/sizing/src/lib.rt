@@ -1,5 +1,5 @@
 // The sizes of a formula by arithmetic, with no walk over its clauses: variables, hard clauses, words, soft units and the
-// sum of their weights. specs/ ties each size to the items that it stands for.
+// sum of their weights. Crate measuring ties each size to the items that it stands for.
 pub mod blocks;
 pub mod counts;
 pub mod nodes;
