@@ -9,7 +9,8 @@ use lib.Seq.{drop-cons, getD-take, length-take-le}
 use Rattle.scope.specs.Kinds.{upTo}
 use Rattle.parsing.specs.Each.{Each}
 use Rattle.literals.specs.Variables.{yAt, Within}
-use Rattle.literals.specs.Proper.{Proper, times-proper, upTo-within}
+use Rattle.literals.specs.Proper.{Proper}
+use Rattle.literals.proofs.laws.Proper.{times-proper, upTo-within}
 use Rattle.literals.specs.Numbered.{Numbered, plain, durationLists}
 use Rattle.items.specs.Numbers.{length-upTo}
 

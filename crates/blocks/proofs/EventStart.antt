@@ -10,6 +10,7 @@ use Rattle.sink.specs.Run.{Ran}
 use Rattle.sink.specs.Lines.{Line, clauseLine, lines}
 use Rattle.sink.specs.World.{World}
 use Rattle.gates.specs.Units as units
+use Rattle.gates.proofs.laws.Units as unitsLaws
 use Rattle.literals.specs.Variables.{baseOf, literalAt}
 use Rattle.literals.specs.Numbered.{startClauses}
 use Rattle.items.specs.Written.{Wrote}

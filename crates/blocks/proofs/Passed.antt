@@ -6,9 +6,11 @@ use Prim.Native.Nat.{ℕ, _+_}
 use Rattle.scope.specs.Kinds.{upTo}
 use Rattle.scope.specs.Cnf.{Gate, Item, gate, hard, gates}
 use Rattle.sink.specs.Run.{Ran, none, then, same}
-use Rattle.sink.specs.Lines.{lines, lines-append, gatesClauses, lines-gates}
+use Rattle.sink.specs.Lines.{lines, lines-append, gatesClauses}
+use Rattle.sink.proofs.laws.Lines.{lines-gates}
 use Rattle.sink.specs.World.{World, step}
-use Rattle.sink.specs.Skipped.{skipping, skipped}
+use Rattle.sink.specs.Skipped.{skipping}
+use Rattle.sink.proofs.laws.Skipped.{skipped}
 use Rattle.sink.specs.declared.Job.{Job}
 use Rattle.literals.specs.Numbered.{startClauses}
 

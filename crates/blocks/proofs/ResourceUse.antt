@@ -8,18 +8,21 @@ use Rattle.scope.specs.Kinds.{upTo}
 use Rattle.scope.specs.Cnf.{or, Item, gate, gates}
 use Rattle.parsing.specs.Each.{Each}
 use Rattle.sink.specs.Run.{Ran}
-use Rattle.sink.specs.Lines.{Line, clauseLine, lines, map-append}
+use Rattle.sink.specs.Lines.{Line, clauseLine, lines}
+use Rattle.sink.proofs.laws.Lines.{map-append}
 use Rattle.sink.specs.World.{World}
 use Rattle.counters.specs.Literals.{LiteralsTo}
 use Rattle.counters.specs.Rows.{gates-map}
-use Rattle.node_clauses.specs.LongClauses.{LongClause, nodeClauses, or-long, or-ran}
+use Rattle.node_clauses.specs.LongClauses.{LongClause, nodeClauses}
+use Rattle.node_clauses.proofs.laws.LongClauses.{or-long, or-ran}
 use Rattle.literals.specs.Variables.{yAt, Within}
 use Rattle.literals.specs.Words.{Holds}
-use Rattle.literals.specs.Proper.{events-proper}
+use Rattle.literals.proofs.laws.Proper.{events-proper}
 use Rattle.literals.specs.Numbered.{useGates}
-use Rattle.items.specs.Held.{held-literals}
+use Rattle.items.proofs.laws.Held.{held-literals}
 use Rattle.items.specs.Written.{Wrote}
-use Rattle.items.specs.Numbers.{length-upTo, after, after-start, map-turn, map-end, flat-turn, flat-end}
+use Rattle.items.specs.Numbers.{length-upTo}
+use Rattle.items.proofs.laws.Numbers.{after, after-start, map-turn, map-end, flat-turn, flat-end}
 
 -- Y of some events at a time
 abbrev pub ysAt : (T : ℕ) (us : List ℕ) (t : ℕ) → List ℕ

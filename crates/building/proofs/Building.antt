@@ -11,8 +11,9 @@ use lib.Seq.{sets, slice, slice-cons, slice-empty, append-snoc, length-take-le, 
 use borrow.Author.Tests.{le-leb, lt-leb}
 use Rattle.scope.specs.Formula.{words}
 use Rattle.directory.specs.declared.Row.{Row}
-use Rattle.standing.specs.Clauses.{drop-take, slice-past}
-use Rattle.building.specs.Marked.{flat, firstClause, parted, rowsFor, rowBetween, flat-snoc, length-flat, parted-head, length-rows, rows-snoc, sets-snoc}
+use Rattle.standing.proofs.laws.Clauses.{drop-take, slice-past}
+use Rattle.building.specs.Marked.{flat, firstClause, parted, rowsFor, rowBetween}
+use Rattle.building.proofs.laws.Marked.{flat-snoc, length-flat, parted-head, length-rows, rows-snoc, sets-snoc}
 
 -- words up to j, where first ≤ j
 module _ (ws : List ℕ) (first : ℕ) where

@@ -1,4 +1,1 @@
-pub mod NonEmpty
-pub mod Storable
-pub mod Standing
 pub mod Prepared

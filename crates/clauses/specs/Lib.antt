@@ -1,4 +1,1 @@
-pub mod Known
-pub mod Position
-pub mod Whole
 pub mod Writable

@@ -7,11 +7,11 @@ use Rattle.scope.specs.Number.{limited}
 use Rattle.scope.specs.Instance.{Counts, fieldsRead}
 use Rattle.number.specs.declared.Number.{Number}
 use Rattle.number.specs.Answers.{said}
-use Rattle.parsing.specs.Numbers.{limited-got}
+use Rattle.parsing.proofs.laws.Numbers.{limited-got}
 use Rattle.fields.specs.declared.read.FlatRead.{FlatRead}
 use Rattle.fields.specs.Answers.{saidFlat}
 use Rattle.fields.specs.Flat.{rowOf}
-use Rattle.fields.specs.Table.{totalsOf}
+use Rattle.fields.proofs.laws.Table.{totalsOf}
 use Rattle.fields.proofs.Rows.{row-right}
 use Rattle.constraint.specs.Decoded.{decodedAt}
 

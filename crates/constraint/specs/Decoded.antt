@@ -1,12 +1,11 @@
 -- A constraint without the checks at its end: kind, weight and fields.
 use Prim.Native.Nat.{ℕ}
-use mathlib.Core.Path.{_≡_, refl, _∙_}
 use mathlib.Core.List.{List}
-use Rattle.scope.specs.Parsed.{Parsed, got, refused, andThen}
+use Rattle.scope.specs.Parsed.{Parsed, got, andThen}
 use Rattle.scope.specs.Number.{limited}
 use Rattle.scope.specs.Kinds.{Kind, Constraint, Event, users, groupAt, countedOf, longest}
-use Rattle.scope.specs.Instance.{Counts, countsOf, fieldsRead, fieldsOf, ended, endedAs, constraintAt}
-use Rattle.constraint.specs.Bounds.{lowOf, highOf, bounds-right}
+use Rattle.scope.specs.Instance.{Counts, fieldsRead, fieldsOf, ended}
+use Rattle.constraint.specs.Bounds.{lowOf, highOf}
 
 unfoldable pub decodedAt : Counts → List ℕ → ℕ → Parsed Constraint
 decodedAt n s at =
@@ -23,57 +22,6 @@ endedBy len at c end = ended at (lowOf (c .kind)) (highOf (c .kind)) (len (c .ki
 unfoldable pub checkedAt : Counts → (Kind → ℕ) → List ℕ → ℕ → Parsed Constraint
 checkedAt n len s at = andThen (decodedAt n s at) (endedBy len at)
 
-fields-checked : (p : Parsed Kind) (weight : ℕ) (e : Constraint → ℕ → Parsed Constraint)
-    → andThen p (λ k end. e (record { weight = weight; kind = k }) end)
-    ≡ andThen (andThen p (λ k end. got (record { weight = weight; kind = k }) end)) e
-fields-checked (got k end) weight e = refl
-fields-checked (refused k v) weight e = refl
-
-weight-checked : (p : Parsed ℕ) (f : ℕ → Parsed Kind) (e : Constraint → ℕ → Parsed Constraint)
-    → andThen p (λ weight more. andThen (f more) (λ k end. e (record { weight = weight; kind = k }) end))
-    ≡ andThen (andThen p (λ weight more. andThen (f more) (λ k end. got (record { weight = weight; kind = k }) end))) e
-weight-checked (got weight more) f e = fields-checked (f more) weight e
-weight-checked (refused k v) f e = refl
-
-kind-checked : (p : Parsed ℕ) (q : ℕ → Parsed ℕ) (f : ℕ → ℕ → Parsed Kind) (e : Constraint → ℕ → Parsed Constraint)
-    → andThen p
-    (λ kind next.
-    andThen (q next) (λ weight more. andThen (f kind more) (λ k end. e (record { weight = weight; kind = k }) end)))
-    ≡ andThen
-    (andThen p
-    (λ kind next.
-    andThen (q next) (λ weight more. andThen (f kind more) (λ k end. got (record { weight = weight; kind = k }) end))))
-    e
-kind-checked (got kind next) q f e = weight-checked (q next) (f kind) e
-kind-checked (refused k v) q f e = refl
-
 -- how long the longest counted list of a kind is, in an instance
 abbrev pub longestOf : ℕ → List Event → List (List ℕ) → Kind → ℕ
 longestOf T es gs k = longest (countedOf T (λ r. users r es) (groupAt gs) k .lists)
-
--- a constraint of an instance is one that is read and then checked
-pub constraint-checked : (T R : ℕ) (es : List Event) (gs : List (List ℕ)) (s : List ℕ) (at : ℕ)
-    → constraintAt T R es gs s at ≡ checkedAt (countsOf T R es gs) (longestOf T es gs) s at
-unfolding constraintAt checkedAt decodedAt
-constraint-checked T R es gs s at = parts ∙ by (decodedAt (countsOf T R es gs) s at)
-  where
-    endedIn : Constraint → ℕ → Parsed Constraint
-    endedIn c end = endedAs at (countedOf T (λ r. users r es) (groupAt gs) (c .kind)) (c .weight) (c .kind) end
-
-    parts : constraintAt T R es gs s at ≡ andThen (decodedAt (countsOf T R es gs) s at) endedIn
-    parts = kind-checked (limited 1 8 s at) (limited 0 1000 s) (λ kind more. fieldsRead (fieldsOf (countsOf T R es gs) kind) s more) endedIn
-
-    by : (p : Parsed Constraint) → andThen p endedIn ≡ andThen p (endedBy (longestOf T es gs) at)
-    by (got c end) = let b = bounds-right T (λ r. users r es) (groupAt gs) (c .kind) in rw (b .lo, b .hi)
-    by (refused k v) = refl
-
--- two measures of the list that agree check alike
-pub checked-same : (n : Counts) (len len′ : Kind → ℕ) (s : List ℕ) (at : ℕ)
-    → ((k : Kind) → len k ≡ len′ k)
-    → checkedAt n len s at ≡ checkedAt n len′ s at
-unfolding checkedAt
-checked-same n len len′ s at h = by (decodedAt n s at)
-  where
-    by : (p : Parsed Constraint) → andThen p (endedBy len at) ≡ andThen p (endedBy len′ at)
-    by (got c end) = rw (h (c .kind))
-    by (refused k v) = refl

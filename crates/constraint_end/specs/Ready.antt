@@ -1,17 +1,17 @@
 -- What the functions that check constraints are lent: how many events use each resource, the groups, a store for a list.
-use Prim.Native.Nat.{ℕ, zero, suc, _≤_}
-use mathlib.Core.Path.{_≡_, refl, _∙_}
+use Prim.Native.Nat.{ℕ, _≤_}
+use mathlib.Core.Path.{_≡_}
 use mathlib.Core.List.{List}
-use lib.ListN.{length, getD, replicate}
+use lib.ListN.{length, getD}
 use Rattle.scope.specs.Parsed.{Parsed, repeat}
 use Rattle.scope.specs.Kinds.{Kind, Constraint}
 use Rattle.tables.specs.Rows.{rows, RowsIn}
 use Rattle.tables.specs.Occurrences.{occurrencesIn}
 use Rattle.constraint.specs.declared.kinds.Head.{Head}
 use Rattle.constraint.specs.Answers.{countsIn}
-use Rattle.constraint.specs.Decoded.{checkedAt, checked-same}
+use Rattle.constraint.specs.Decoded.{checkedAt}
 use Rattle.constraint_end.specs.Ends.{wholeAt}
-use Rattle.constraint_end.specs.Length.{listLength, length-same}
+use Rattle.constraint_end.specs.Length.{listLength}
 
 pub record Ready (loads groups list : List ℕ) (h : Head) : Type 0 where
   pub counts : length loads ≡ 256
@@ -20,18 +20,6 @@ pub record Ready (loads groups list : List ℕ) (h : Head) : Type 0 where
   pub numbers : h .groups ≤ 2048
   pub events : h .events ≤ 2048
   pub rows : RowsIn groups (h .groups)
-
--- a list of the same length in the store changes nothing
-pub ready-kept : {loads groups list after : List ℕ} {h : Head} → Ready loads groups list h → length after ≡ length list → Ready loads groups after h
-ready-kept r e =
-    record {
-      counts = r .counts;
-      room = e ∙ r .room;
-      resources = r .resources;
-      numbers = r .numbers;
-      events = r .events;
-      rows = r .rows;
-    }
 
 -- the same, where the rows of the events are lent instead of the counts
 pub record Lent (resources groups list : List ℕ) (h : Head) : Type 0 where
@@ -61,17 +49,3 @@ byCounts loads r = getD loads r 0
 
 abbrev pub byRows : List ℕ → ℕ → ℕ → ℕ
 byRows resources n r = occurrencesIn r (rows resources n)
-
--- the same counts check alike
-pub checkedBy-same : (used used′ : ℕ → ℕ) (groups : List ℕ) (h : Head) (s : List ℕ)
-    → ((r : ℕ) → used r ≡ used′ r)
-    → (at : ℕ) → checkedBy used groups h s at ≡ checkedBy used′ groups h s at
-checkedBy-same used used′ groups h s e at =
-    checked-same (countsIn h) (lengthBy used groups h) (lengthBy used′ groups h) s at
-    (λ k. length-same (h .times) used used′ (rows groups (h .groups)) k e)
-
--- counts of 0
-pub zeros : (n x : ℕ) → _≡_ {A = ℕ} (getD (replicate n 0) x 0) 0
-zeros zero x = refl
-zeros (suc n) zero = refl
-zeros (suc n) (suc x) = zeros n x

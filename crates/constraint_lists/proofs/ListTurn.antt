@@ -9,10 +9,12 @@ use lib.Seq.{drop-cons}
 use Rattle.scope.specs.Cnf.{Gate, Item, gate}
 use Rattle.scope.specs.Kinds.{Kind, Listed, Counted}
 use Rattle.scope.specs.Formula.{refLiteral, nodeGate}
-use Rattle.parsing.specs.Each.{Each, each-at}
+use Rattle.parsing.specs.Each.{Each}
+use Rattle.parsing.proofs.laws.Each.{each-at}
 use Rattle.constraint.specs.declared.kinds.Head.{Head}
 use Rattle.constraint.specs.declared.kinds.Bounds.{Bounds}
-use Rattle.constraint.specs.Bounds.{lowOf, highOf, freeOf, bounds-right}
+use Rattle.constraint.specs.Bounds.{lowOf, highOf, freeOf}
+use Rattle.constraint.proofs.laws.Bounds.{bounds-right}
 use Rattle.sink.specs.Lines.{Line}
 use Rattle.sink.specs.World.{World}
 use Rattle.counters.specs.Rows.{gates-map}
@@ -24,13 +26,15 @@ use Rattle.literals.specs.Numbered.{Numbered, noList, numberOf, numbered, numbe
 use Rattle.list_nodes.specs.declared.filled.Filled.{Filled}
 use Rattle.list_nodes.specs.Stored.{countedIn, listIn, numOf, Stored, Short, Fits}
 use Rattle.list.specs.Fillable.{Fillable}
-use Rattle.list.specs.Literals.{OverLiterals, list-literals}
+use Rattle.list.proofs.laws.Literals.{OverLiterals, list-literals}
 use Rattle.items.specs.Counted.{counted}
-use Rattle.items.specs.Written.{Room, Wrote, Left, gates-both, room-same, wrote-same}
-use Rattle.items.specs.Lists.{boundsOf, list-items, lists-turn, lists-room}
+use Rattle.items.specs.Written.{Room, Wrote, Left, gates-both, wrote-same}
+use Rattle.items.proofs.laws.Written.{room-same}
+use Rattle.items.proofs.laws.Lists.{boundsOf, list-items, lists-turn, lists-room}
 use Rattle.list_clauses.specs.Stored.{ListStored, members}
-use Rattle.list_clauses.specs.Filled.{InStore, filled-list, filled-wrote}
+use Rattle.list_clauses.proofs.laws.Filled.{InStore, filled-list, filled-wrote}
 use Rattle.list_clauses.specs.Filled as nodes
+use Rattle.list_clauses.proofs.laws.Filled as nodesLaws
 use Rattle.constraint_lists.specs.Fits.{listsIn}
 
 module _ (users groups : List ℕ) (h : Head) (k : Kind) where

@@ -1,2 +1,2 @@
 -- Literals that can be written as words.
-pub use Rattle.row_words.specs.Literals.{Literal, LiteralsTo, Literals, literal-opposite, small-all, literals-take}
+pub use Rattle.row_words.specs.Literals.{Literal, LiteralsTo, Literals}

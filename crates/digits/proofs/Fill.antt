@@ -6,7 +6,8 @@ use native.Mathlib.Nat.{add-zero}
 use native.Mathlib.Omega.{arith}
 use lib.ListN.{length, set}
 use lib.Seq.{sets, set-comm}
-use Rattle.digits.specs.Decimal.{lastDigits, last-length}
+use Rattle.digits.specs.Decimal.{lastDigits}
+use Rattle.digits.proofs.laws.Decimal.{last-length}
 
 -- a store past a run of stores may come first
 past : (xs l : List ℕ) (a i y : ℕ) → a + length xs ≤ i → set (sets l a xs) i y ≡ sets (set l i y) a xs

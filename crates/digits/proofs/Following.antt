@@ -7,7 +7,7 @@ use native.Mathlib.Omega.{arith}
 use lib.ListN.{length, take, drop, getD, length-append}
 use lib.Seq.{drop-at}
 use Rattle.scope.specs.Text.{digits, decimal, space}
-use Rattle.digits.specs.Decimal.{digits-some, digits-small, digits-more}
+use Rattle.digits.proofs.laws.Decimal.{digits-some, digits-small, digits-more}
 use Rattle.digits.specs.Spelled.{fourBytes, Spelt}
 use Rattle.digits.specs.declared.spelled.Spelled.{Spelled}
 

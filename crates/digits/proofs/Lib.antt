@@ -1,3 +1,4 @@
+pub mod laws
 pub mod Fill
 pub mod Following
 pub mod Literal

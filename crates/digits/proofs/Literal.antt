@@ -10,8 +10,10 @@ use lib.Dec.{eqb}
 use borrow.Author.Tests.{eq-eqb, ne-eqb, eqb-true, eqb-false}
 use Rattle.scope.specs.Text.{decimal, space, literalText}
 use Rattle.digits.specs.Run.{run, Ran, then, same}
-use Rattle.digits.specs.Store.{Out, out, put, further, ran-sets, run-at}
-use Rattle.digits.specs.Decimal.{lastDigits, digits-last}
+use Rattle.digits.specs.Store.{Out, out, put, further}
+use Rattle.digits.proofs.laws.Store.{ran-sets, run-at}
+use Rattle.digits.specs.Decimal.{lastDigits}
+use Rattle.digits.proofs.laws.Decimal.{digits-last}
 
 -- digits written at once are a run of stores
 pub number-ran : (v a n : ℕ) (l : List ℕ) {l′ : List ℕ} → n ≡ length (decimal v) → a + n ≤ 9223372036854775807

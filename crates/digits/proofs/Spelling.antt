@@ -7,8 +7,10 @@ use lib.ListN.{length, take, drop}
 use lib.Seq.{sets}
 use Rattle.scope.specs.Text.{decimal, space}
 use Rattle.digits.specs.Run.{Ran}
-use Rattle.digits.specs.Store.{out, put, ran-sets}
-use Rattle.digits.specs.Decimal.{lastDigits, digits-last, digits-length}
+use Rattle.digits.specs.Store.{out, put}
+use Rattle.digits.proofs.laws.Store.{ran-sets}
+use Rattle.digits.specs.Decimal.{lastDigits}
+use Rattle.digits.proofs.laws.Decimal.{digits-last, digits-length}
 use Rattle.digits.specs.Spelled.{fourBytes, Spelt}
 use Rattle.digits.specs.declared.spelled.Spelled.{Spelled}
 use Rattle.digits.proofs.Overlap.{overlap}

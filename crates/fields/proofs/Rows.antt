@@ -5,7 +5,8 @@ use native.Mathlib.Omega.{arith}
 use Rattle.scope.specs.Instance.{Counts, fieldsTable, fieldsOf}
 use Rattle.fields.specs.Made.{kindFrom}
 use Rattle.fields.specs.Flat.{left, rowOf}
-use Rattle.fields.specs.Table.{totalsOf, firstOf, secondOf, fieldAt, countOf, fieldsFrom}
+use Rattle.fields.specs.Table.{firstOf, secondOf, fieldAt, countOf, fieldsFrom}
+use Rattle.fields.proofs.laws.Table.{totalsOf}
 
 pub row-right : (n : Counts) (k : ℕ) → 1 ≤ k → k ≤ 8 → fieldsOf n k ≡ rowOf (totalsOf n) k
 unfolding fieldsTable left fieldsFrom fieldAt firstOf secondOf countOf kindFrom

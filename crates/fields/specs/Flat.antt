@@ -1,18 +1,16 @@
 -- The numbers of a constraint's fields, read one after another.
 use Prim.Native.Nat.{ℕ}
-use mathlib.Core.Path.{_≡_, refl}
+use mathlib.Core.Path.{_≡_}
 use mathlib.Core.List.{List, [], _∷_}
 use lib.ListN.{length}
 use Rattle.scope.specs.Parsed.{andThen}
-use Rattle.scope.specs.Number.{limited, reference, listed}
 use Rattle.scope.specs.Instance.{Fields, aReference, aList, aNumber, theKind, fieldsRead}
 use Rattle.number.specs.declared.Number.{Number}
 use Rattle.number.specs.Answers.{said}
-use Rattle.number.specs.Lists.{leading, length-leading}
+use Rattle.number.specs.Lists.{leading}
 use Rattle.fields.specs.declared.table.Field.{Field}
 use Rattle.fields.specs.declared.table.Totals.{Totals}
 use Rattle.fields.specs.declared.flat.Flat.{Flat}
-use Rattle.fields.specs.Answers.{saidList}
 use Rattle.fields.specs.Made.{kindFrom}
 use Rattle.fields.specs.Table.{countOf, fieldsFrom}
 
@@ -51,24 +49,3 @@ pub record FieldRead (f : Field) (l l′ s : List ℕ) (at : ℕ) (x : Number) :
   pub eq : (fs : List Field) (k : ℕ) (w : Flat)
       → fieldsRead (leftIn (f ∷ fs) k w l) s at
       ≡ andThen (said x) (λ v next. fieldsRead (leftIn fs k (putOf f v w) l′) s next)
-
-module _ (n : ℕ) (l s : List ℕ) (at : ℕ) (x : Number) where
-  pub reference-read : said x ≡ reference 0 n s at → FieldRead (Field.Reference n) l l s at x
-  unfolding fieldsRead left
-  reference-read e = record { eq = λ fs k w. rw e }
-
-  pub list-read : (l′ : List ℕ) → saidList l′ x ≡ listed n s at → FieldRead (Field.List n) l l′ s at x
-  unfolding fieldsRead left
-  list-read l′ e = record { eq = λ fs k w. rw (← e) (by fs k w x) }
-    where
-      by : (fs : List Field) (k : ℕ) (w : Flat) (x : Number)
-          → andThen (saidList l′ x) (λ vs next. fieldsRead (left fs k (counting (length vs) w) vs) s next)
-          ≡ andThen (said x) (λ v next. fieldsRead (leftIn fs k (counting v w) l′) s next)
-      by fs k w (Number.Value v next) = rw (length-leading v l′)
-      by fs k w (Number.Refused f) = refl
-
-pub number-read : (lo hi : ℕ) (l s : List ℕ) (at : ℕ) (x : Number)
-    → said x ≡ limited lo hi s at
-    → FieldRead (Field.Number lo hi) l l s at x
-unfolding fieldsRead left
-number-read lo hi l s at x e = record { eq = λ fs k w. rw e }

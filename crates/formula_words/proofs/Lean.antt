@@ -12,7 +12,8 @@ use Rattle.sizing.specs.Gates.{orSize, softSize, hardUnit, unitSize}
 use Rattle.sizing.specs.Rows.{firstRow, laterRow, equalRows}
 use Rattle.sizing.specs.NodeSizes.{nodeSizes}
 use Rattle.sizing.specs.Tail.{tailAdd}
-use Rattle.sizing.specs.Counts.{unitsSize, shortsSize, lowSize, countSize, units-hard, units-soft, shorts-hard, shorts-soft}
+use Rattle.sizing.specs.Counts.{unitsSize, shortsSize, lowSize, countSize}
+use Rattle.sizing.proofs.laws.Counts.{units-hard, units-soft, shorts-hard, shorts-soft}
 
 pub record Lean (extra : ℕ) (z : Size) : Type 0 where
   pub few : z .words ≤ 376 * z .variables + extra

@@ -13,18 +13,21 @@ use Rattle.scope.specs.Instance.{Instance}
 use Rattle.scope.specs.Score.{eventCount, rules}
 use Rattle.scope.specs.Formula.{words, variables, hardOf, boundedVariables, boundedHard}
 use Rattle.scope.specs.declared.FormulaSize.{FormulaSize}
-use Rattle.parsing.specs.Numbers.{Ascending, ascending-length}
+use Rattle.parsing.specs.Numbers.{Ascending}
+use Rattle.parsing.proofs.laws.Numbers.{ascending-length}
 use Rattle.theory.specs.Accepted.{ValidInstance}
 use Rattle.sizing.specs.declared.Size.{Size}
-use Rattle.sizing.specs.Sums.{none, sum, multiple, Within, within-more, within-multiple}
+use Rattle.sizing.specs.Sums.{none, sum, multiple, Within}
+use Rattle.sizing.proofs.laws.Sums.{within-more, within-multiple}
 use Rattle.sizing.specs.Gates.{orSize}
 use Rattle.sizing.specs.Blocks.{startsSize, useSize}
 use Rattle.sizing.specs.Counts.{listSize}
-use Rattle.sizing.specs.Limits.{or-within, starts-within}
+use Rattle.sizing.proofs.laws.Limits.{or-within, starts-within}
 use Rattle.sizing.specs.Whole.{stored}
 use Rattle.measuring.specs.Rules.{ruleSize, rulesSize}
 use Rattle.measuring.specs.Blocks.{usesSize, durationsSize}
-use Rattle.measuring.specs.Whole.{formulaOf, weighedRules, constraintSize, constraintsSize, beforeSize, wholeSize, tailAfter, tailOf, whole-size, bounded-size}
+use Rattle.measuring.specs.Whole.{weighedRules, constraintSize, constraintsSize, beforeSize, wholeSize, tailAfter, tailOf}
+use Rattle.measuring.proofs.laws.Whole.{formulaOf, whole-size, bounded-size}
 use Rattle.formula_words.proofs.Inputs.{Modest, Few, kind-few}
 use Rattle.formula_words.proofs.Lean.{Lean, lean-more, lean-none, lean-sum, lean-within, count-lean, nodes-lean, tail-lean}
 
@@ -69,8 +72,8 @@ module _ (i : Instance) (v : ValidInstance i) where
     where
       go : (t : Bool) → ltb (g - 1) (length (i .groups)) ≡ t → length (groupAt (i .groups) g) ≤ 125
       go true t =
-          let a = All-at (Ascending 0 (i .times)) [] (i .groups) (g - 1) (ltb-true (g - 1) (length (i .groups)) t) (v .groups) in
-          omega (arith, ascending-length 0 (i .times) (groupAt (i .groups) g) (omega arith) a, v .times .high)
+          let a = All-at (Ascending (i .times) 0) [] (i .groups) (g - 1) (ltb-true (g - 1) (length (i .groups)) t) (v .groups) in
+          omega (arith, ascending-length (i .times) 0 (groupAt (i .groups) g) a (omega arith), v .times .high)
       go false t =
           let e = List·getD-eq-default (i .groups) [] (ltb-false (g - 1) (length (i .groups)) t) in
           rw e (omega arith)

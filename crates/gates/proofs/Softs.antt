@@ -11,8 +11,8 @@ use Rattle.sink.specs.Run.{Ran}
 use Rattle.sink.specs.Lines.{clauseLine, softLine, lines, gatesClauses}
 use Rattle.sink.specs.Block.{mark, split, Marks}
 use Rattle.sink.specs.World.{World, world, chargedSink, putWords, rowOver, rowClauses, tailRow, step}
-use Rattle.sink.specs.Meaning.{words-lines}
-use Rattle.sink.specs.Tails.{row-fits}
+use Rattle.sink.proofs.laws.Meaning.{words-lines}
+use Rattle.sink.proofs.laws.Tails.{row-fits}
 use Rattle.sink.specs.declared.Sink.{Sink}
 use Rattle.sink.specs.declared.Job.{Job}
 use Rattle.sink.specs.declared.Mode.{Mode}

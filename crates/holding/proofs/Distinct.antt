@@ -9,7 +9,8 @@ use lib.ListN.{length}
 use borrow.Author.Tests.{eq-eqb, ne-eqb, eqb-true, eqb-false, leb-true}
 use Rattle.laws.specs.Booleans.{and-true}
 use Rattle.scope.specs.Steps.{put}
-use Rattle.theory.specs.Marked.{Marks, allOpen, makeFalse, literalsOk}
+use Rattle.theory.specs.Marked.{Marks}
+use Rattle.theory.proofs.laws.Marked.{allOpen, makeFalse, literalsOk}
 
 -- one where a mark is open
 abbrev isOpen : ℕ → ℕ

@@ -1,5 +1,3 @@
 pub mod Written
 pub mod Numbers
-pub mod Held
 pub mod Counted
-pub mod Lists

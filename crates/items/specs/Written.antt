@@ -30,18 +30,6 @@ pub record Left (f : Line → World → World) (v : ℕ) (is : List Item) (v₀ 
   pub todo : Todo f (lines v is) (lines v₀ all) w₀ w
   pub last : v + gates is ≡ v₀ + gates all
 
--- the same room
-pub room-same : {v : ℕ} {is js : List Item} → is ≡ js → Room v is → Room v js
-room-same e r = rw e at r
-
--- some items and then others
-module _ {v : ℕ} (is js : List Item) where
-  pub room-first : Room v (is ++ js) → Room v is
-  room-first r = record { some = r .some; small = omega (arith, gates-both is js, r .small) }
-
-  pub room-rest : Room v (is ++ js) → Room (v + gates is) js
-  room-rest r = record { some = omega (arith, r .some); small = omega (arith, gates-both is js, r .small) }
-
 module _ {f : Line → World → World} where
   -- the items of an equal list
   pub wrote-same : {v : ℕ} {is js : List Item} {w w′ : World} {n : ℕ} → is ≡ js → Wrote f v is w w′ n → Wrote f v js w w′ n

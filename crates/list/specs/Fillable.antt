@@ -1,28 +1,12 @@
 -- What is given where a list is filled, and what it says of each kind.
-use Prim.Native.Nat.{ℕ, zero, suc, _+_, _-_, _*_, _≤_}
-use mathlib.Core.Path.{_≡_, refl, sym, ap, _∙_}
-use mathlib.Core.List.{List, [], _∷_, map, flatMap}
-use native.Mathlib.Omega.{arith}
-use lib.ListN.{length, length-append, length-map}
-use Rattle.scope.specs.Cnf.{Gate, or}
-use Rattle.scope.specs.Formula.{refLiteral, nodeGate}
-use Rattle.scope.specs.Kinds.{Kind, clash, spread, cluster, idle, Atom, Y, Entry, atom, entries, entriesNodes, entriesMembers, from, upTo, countedOf}
-use Rattle.parsing.specs.Each.{each-head}
-use Rattle.number.specs.Lists.{leading, length-leading}
-use Rattle.tables.specs.Rows.{rowAt}
+use Prim.Native.Nat.{ℕ, _+_, _-_, _≤_}
+use mathlib.Core.Path.{_≡_}
+use mathlib.Core.List.{List}
+use lib.ListN.{length}
+use Rattle.scope.specs.Kinds.{Kind}
 use Rattle.constraint.specs.declared.kinds.Head.{Head}
-use Rattle.literals.specs.Outputs.{every}
-use Rattle.literals.specs.Variables.{sAt, xAt, Within}
 use Rattle.user_table.specs.Filled.{usersAt}
-use Rattle.literals.specs.Tables.{groupIn}
-use Rattle.literals.specs.Entries.{Adds}
-use Rattle.list_nodes.specs.Ground.{layoutOf, ground-groups}
-use Rattle.list_nodes.proofs.GroupRows.{known-row}
 use Rattle.list_nodes.specs.Stored.{countedIn, listIn, Fits}
-use Rattle.plain_lists.specs.Atoms.{spread-add}
-use Rattle.node_lists.specs.Cluster.{rowIn, xsOf, cluster-adds}
-use Rattle.node_lists.proofs.XsRows.{xs-rows}
-use Rattle.node_lists.specs.Idle.{innerCount, length-idle, idle-adds}
 
 -- list number t of a constraint that fits, its nodes the variables from v on, and the store
 pub record Fillable (users groups list : List ℕ) (h : Head) (k : Kind) (t v : ℕ) (words : List ℕ) : Type 0 where
@@ -31,103 +15,3 @@ pub record Fillable (users groups list : List ℕ) (h : Head) (k : Kind) (t v : 
   pub last : t ≤ length (countedIn (usersAt users) groups h k .lists)
   pub small : v + length (listIn (usersAt users) groups h k t .nodes) ≤ 8000001
   pub room : length words ≡ 34816
-
--- how long lists of literals and of gates are
-pub length-from : (n k : ℕ) → length (from n k) ≡ k
-unfolding from
-length-from n zero = refl
-length-from n (suc k) = ap suc (length-from (suc n) k)
-
-pub length-every : (step v n : ℕ) → length (every step v n) ≡ n
-unfolding every
-length-every step v zero = refl
-length-every step v (suc n) = ap suc (length-every step (v + step) n)
-
-length-each : (f : ℕ → ℕ → ℕ) (ts es : List ℕ) → length (flatMap (λ e. map (f e) ts) es) ≡ length es * length ts
-unfolding flatMap
-length-each f ts [] = omega arith
-length-each f ts (e ∷ es) =
-    length-append (map (f e) ts) (flatMap (λ e. map (f e) ts) es) ∙ omega (arith, length-map ts (f e), length-each f ts es)
-
-module _ {num : Atom → ℕ} {l : List Entry} {v k : ℕ} {gs : List Gate} {xs : List ℕ} (a : Adds num l v k gs xs) where
-  pub nodes-length : length (entriesNodes l k) ≡ length gs
-  nodes-length = sym (length-map (entriesNodes l k) (nodeGate num v)) ∙ ap length (a .gates)
-
-  pub members-length : length (entriesMembers l k) ≡ length xs
-  members-length = sym (length-map (entriesMembers l k) (refLiteral num v)) ∙ ap length (a .literals)
-
--- the times of a clash
-pub clash-time : {users groups list words : List ℕ} {h : Head} {r t v : ℕ} → Fillable users groups list h (clash r) t v words
-    → Within (h .times) t
-unfolding countedOf
-clash-time {users} {h = h} {r = r} f =
-    record {
-      low = f .first;
-      high =
-          omega (
-            arith,
-            f .last,
-            length-map (upTo (h .times)) (λ t. entries (map (λ e. atom (Y e t)) (usersAt users r))),
-            length-from 1 (h .times),
-          );
-    }
-
--- the list of a kind that has one
-pub only-one : {users groups list words : List ℕ} {h : Head} {k : Kind} {t v : ℕ} → Fillable users groups list h k t v words
-    → length (countedIn (usersAt users) groups h k .lists) ≡ 1
-    → t ≡ 1
-only-one f e = omega (arith, f .first, f .last)
-
--- how many members a spread, a cluster and an idle limit have
-module _ (users groups list : List ℕ) (h : Head) where
-  pub spread-short : (n g lo hi : ℕ) → Fits users groups list h (spread (leading n list) g lo hi) → n * length (rowAt groups (g - 1)) ≤ 255
-  unfolding countedOf
-  spread-short n g lo hi f =
-      let s = each-head (f .short) .most in
-      let a = spread-add (h .times) (layoutOf h) (groupIn (h .groups) groups g) (leading n list) 0 0 in
-      let c = rw (length-leading n list) at (length-each (sAt (h .times) (layoutOf h)) (groupIn (h .groups) groups g) (leading n list)) in
-      rw (← (known-row groups h g (f .range .1))) (omega (arith, s, members-length a, c))
-
-  pub cluster-short : (r n lo hi : ℕ) → Fits users groups list h (cluster r (leading n list) lo hi) → n ≤ 255
-  unfolding countedOf
-  cluster-short r n lo hi f =
-      let s = each-head (f .short) .most in
-      let a = cluster-adds (h .times) (layoutOf h) (groupIn (h .groups) groups) r (leading n list) 0 in
-      omega (arith, s, members-length a, length-every 1 0 (length (leading n list)), length-leading n list)
-
-  pub idle-short : (r n lo hi : ℕ) → Fits users groups list h (idle r (leading n list) lo hi)
-      → innerCount (xsOf (h .times) (layoutOf h .uses) (rowIn groups) r (leading n list)) ≤ 255
-  unfolding countedOf
-  idle-short r n lo hi f =
-      let xss = xsOf (h .times) (layoutOf h .uses) (groupIn (h .groups) groups) r (leading n list) in
-      let s = each-head (f .short) .most in
-      let a = idle-adds (h .times) (layoutOf h) (groupIn (h .groups) groups) r (leading n list) 0 in
-      let os = ground-groups (f .ground) (f .range .1) in
-      rw (← (xs-rows (h .times) (layoutOf h .uses) groups h r os)) (omega (arith, s, members-length a, length-every 3 2 (innerCount xss)))
-
-  -- the variables of their nodes
-  module _ (r n lo hi t v : ℕ) (words : List ℕ) where
-    pub cluster-small : Fillable users groups list h (cluster r (leading n list) lo hi) t v words → v + n ≤ 8000001
-    unfolding countedOf
-    cluster-small f =
-        let s = rw (only-one f refl) at (f .small) in
-        let hs = leading n list in
-        let xss = xsOf (h .times) (layoutOf h .uses) (groupIn (h .groups) groups) r hs in
-        let a = cluster-adds (h .times) (layoutOf h) (groupIn (h .groups) groups) r hs v in
-        omega (
-          arith,
-          nodes-length a,
-          length-map xss or,
-          length-map hs (λ g. map (xAt (h .times) (layoutOf h) r) (groupIn (h .groups) groups g)),
-          length-leading n list,
-        )
-
-    pub idle-small : Fillable users groups list h (idle r (leading n list) lo hi) t v words
-        → v + 3 * innerCount (xsOf (h .times) (layoutOf h .uses) (rowIn groups) r (leading n list)) ≤ 8000001
-    unfolding countedOf
-    idle-small f =
-        let s = rw (only-one f refl) at (f .small) in
-        let xss = xsOf (h .times) (layoutOf h .uses) (groupIn (h .groups) groups) r (leading n list) in
-        let a = idle-adds (h .times) (layoutOf h) (groupIn (h .groups) groups) r (leading n list) v in
-        let os = ground-groups (f .fits .ground) (f .fits .range .1) in
-        rw (← (xs-rows (h .times) (layoutOf h .uses) groups h r os)) (omega (arith, nodes-length a, length-idle xss v))

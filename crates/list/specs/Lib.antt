@@ -1,3 +1,2 @@
 pub mod Fillable
 pub mod ListsOf
-pub mod Literals

@@ -1,18 +1,11 @@
 -- How many lists a kind has: it goes by its fields alone.
 use Prim.Native.Nat.{ℕ}
-use mathlib.Core.Path.{_≡_, sym, _∙_}
-use mathlib.Core.List.{List, map}
-use lib.ListN.{length, length-map}
-use Rattle.scope.specs.Kinds.{clash, Y, atom, entries, upTo, countedOf}
+use mathlib.Core.Path.{_≡_}
+use mathlib.Core.List.{List}
+use lib.ListN.{length}
+use Rattle.scope.specs.Kinds.{countedOf}
 use Rattle.constraint.specs.declared.kinds.Kind.{Kind}
 use Rattle.constraint.specs.Answers.{kindOf}
-use Rattle.list.specs.Fillable.{length-from}
 
 pub record ListsOf (k : Kind) (T n : ℕ) : Type 0 where
   pub eq : (us group : ℕ → List ℕ) (l : List ℕ) → n ≡ length (countedOf T us group (kindOf l k) .lists)
-
--- those of a clash
-pub clash-lists : (T : ℕ) (us group : ℕ → List ℕ) (r : ℕ) → T ≡ length (countedOf T us group (clash r) .lists)
-unfolding countedOf
-clash-lists T us group r =
-    sym (length-map (upTo T) (λ t. entries (map (λ e. atom (Y e t)) (us r))) ∙ length-from 1 T)

@@ -3,7 +3,7 @@ use Prim.Native.Nat.{ℕ, _-_}
 use mathlib.Core.Path.{_≡_}
 use mathlib.Core.List.{List}
 use Rattle.tables.specs.Rows.{rowAt}
-use Rattle.tables.specs.Laws.{group-row}
+use Rattle.tables.proofs.laws.Laws.{group-row}
 use Rattle.constraint.specs.declared.kinds.Head.{Head}
 use Rattle.constraint.specs.Valid.{OneOf}
 use Rattle.literals.specs.Tables.{groupIn}

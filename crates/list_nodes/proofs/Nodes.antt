@@ -7,8 +7,10 @@ use native.Mathlib.Numerals.{add-one}
 use lib.ListN.{length, getD, take, drop, set, length-set, length-append, length-drop, drop-of-length-le}
 use lib.Seq.{take-suc, take-suc-set, length-take-le, drop-append-le}
 use Rattle.scope.specs.Cnf.{pos, neg, opp, or, and}
-use Rattle.literals.specs.Words.{Holds, holds-as, holds-more}
-use Rattle.literals.specs.NodeWords.{nodeWords, or-words, and-words}
+use Rattle.literals.specs.Words.{Holds}
+use Rattle.literals.proofs.laws.Words.{holds-as, holds-more}
+use Rattle.literals.specs.NodeWords.{nodeWords}
+use Rattle.literals.proofs.laws.NodeWords.{or-words, and-words}
 
 -- a list and then more
 pub holds-then : {words after xs : List ℕ} {n m : ℕ} (ys : List ℕ) → Holds words n xs → Holds after m (take n words ++ ys) → Holds after m (xs ++ ys)

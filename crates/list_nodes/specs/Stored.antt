@@ -1,10 +1,9 @@
 -- A counted list in a store of words: its nodes one after another, and then its members.
 use Prim.Native.Nat.{ℕ, _-_, _≤_}
-use mathlib.Core.Path.{_≡_, refl}
+use mathlib.Core.Path.{_≡_}
 use mathlib.Core.List.{List, [], _++_, map}
 use lib.ListN.{length, getD}
-use Rattle.scope.specs.Kinds.{Kind, Atom, Listed, Entry, entries, Counted, countedOf}
-use Rattle.scope.specs.Cnf.{Gate}
+use Rattle.scope.specs.Kinds.{Kind, Atom, Listed, Counted, countedOf}
 use Rattle.scope.specs.Formula.{refLiteral, nodeGate}
 use Rattle.parsing.specs.Each.{Each}
 use Rattle.constraint.specs.declared.kinds.Head.{Head}
@@ -15,7 +14,6 @@ use Rattle.user_table.specs.Filled.{usersAt, UserRows}
 use Rattle.literals.specs.Tables.{groupIn}
 use Rattle.literals.specs.Numbered.{noList, numAt}
 use Rattle.literals.specs.NodeWords.{nodesWords}
-use Rattle.literals.specs.Entries.{Adds}
 use Rattle.list_nodes.specs.declared.filled.Filled.{Filled}
 use Rattle.list_nodes.specs.Ground.{Ground, layoutOf}
 
@@ -62,19 +60,3 @@ pub record Fits (users groups list : List ℕ) (h : Head) (k : Kind) : Type 0 wh
   pub rows : UserRows users
   pub resources : h .resources ≤ 99
   pub short : Each (Short (countedIn (usersAt users) groups h k)) (countedIn (usersAt users) groups h k .lists)
-
--- entries whose gates and literals stand in the words
-pub adds-stored : {num : Atom → ℕ} {l : List Entry} {v : ℕ} {gs : List Gate} {xs words : List ℕ} {r : Filled}
-    → Adds num l v 0 gs xs
-    → Holds words (r .end) (nodesWords v gs ++ xs)
-    → r .nodes ≡ length gs
-    → r .at ≡ length (nodesWords v gs)
-    → Stored num (entries l) v words r
-adds-stored a h n e = record { holds = rw (a .gates, a .literals) h; nodes = rw (a .gates) n; at = rw (a .gates) e }
-
-pub adds-plain : {num : Atom → ℕ} {l : List Entry} {xs words : List ℕ} {n : ℕ}
-    → ((v : ℕ) → Adds num l v 0 [] xs)
-    → Holds words n xs
-    → Plain num (entries l) words (record { nodes = 0; at = 0; end = n })
-unfolding nodesWords
-adds-plain a h = record { stored = λ v. adds-stored (a v) h refl refl }

@@ -10,7 +10,8 @@ use lib.ListN.{length, drop, set}
 use lib.Seq.{drop-drop}
 use Rattle.scope.specs.Kinds.{from, member, outside}
 use Rattle.parsing.specs.Numbers.{Ascending, none, more}
-use Rattle.literals.specs.Words.{Holds, Indicator, holds-as, holds-unless, startsWith, cond-append}
+use Rattle.literals.specs.Words.{Holds, Indicator, startsWith}
+use Rattle.literals.proofs.laws.Words.{holds-as, holds-unless, cond-append}
 use Rattle.literals.proofs.Turns.{times-more}
 
 -- an ascending list has no member up to where it startsWith

@@ -8,10 +8,13 @@ use native.Mathlib.Nat.{add-zero}
 use lib.ListN.{length, getD, take, set, length-append}
 use lib.Seq.{take-suc, take-all, getD-take, length-take-le}
 use Rattle.scope.specs.Kinds.{from}
-use Rattle.parsing.specs.Each.{Each, each-at}
+use Rattle.parsing.specs.Each.{Each}
+use Rattle.parsing.proofs.laws.Each.{each-at}
 use Rattle.literals.specs.Variables.{Within}
-use Rattle.literals.specs.Outputs.{every, every-both}
-use Rattle.literals.specs.Words.{Holds, holds-none, holds-as, holds-more}
+use Rattle.literals.specs.Outputs.{every}
+use Rattle.literals.proofs.laws.Outputs.{every-both}
+use Rattle.literals.specs.Words.{Holds}
+use Rattle.literals.proofs.laws.Words.{holds-none, holds-as, holds-more}
 
 map-more : (f : ℕ → ℕ) (l : List ℕ) (k : ℕ) → k < length l → map f (take (k + 1) l) ≡ map f (take k l) ++ (f (getD l k 0) ∷ [])
 map-more f l k h = rw (add-one k, take-suc l k 0 h) (map-append f (take k l) (getD l k 0 ∷ []))

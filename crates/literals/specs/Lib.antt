@@ -4,7 +4,4 @@ pub mod Outputs
 pub mod Proper
 pub mod NodeWords
 pub mod Numbered
-pub mod Entries
-pub mod Laws
-pub mod Blocks
 pub mod Tables

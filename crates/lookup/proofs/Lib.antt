@@ -1,3 +1,4 @@
+pub mod laws
 pub mod Aims
 pub mod Search
 pub mod Looks

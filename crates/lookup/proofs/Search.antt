@@ -9,8 +9,10 @@ use lib.Dec.{ltb, eqb}
 use lib.ListN.{length}
 use Rattle.directory.specs.declared.Row.{Row}
 use Rattle.lookup.specs.declared.Probe.{Probe}
-use Rattle.directory.specs.Rows.{noRow, Rising}
-use Rattle.lookup.specs.Lookup.{started, upward, downward, narrowed, seek, Found, hit, miss, Finds}
+use Rattle.directory.specs.Rows.{noRow}
+use Rattle.directory.proofs.laws.Rows.{Rising}
+use Rattle.lookup.specs.Lookup.{started, upward, downward, narrowed, seek}
+use Rattle.lookup.proofs.laws.Lookup.{Found, hit, miss, Finds}
 use Rattle.directory.specs.Directory.{rowsOf}
 use Rattle.lookup.specs.Lookup.{lookUp}
 use Rattle.lookup.proofs.Aims.{aimed-within}

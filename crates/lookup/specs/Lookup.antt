@@ -1,12 +1,11 @@
 -- How a directory is searched for an id, and what is found.
-use mathlib.Core.Path.{_≡_}
 use mathlib.Core.Bool.{cond}
 use mathlib.Core.List.{List}
-use Prim.Native.Nat.{ℕ, zero, suc, _<_, _≤_, _+_, _-_, _*_, _/_, min}
+use Prim.Native.Nat.{ℕ, zero, suc, _+_, _-_, _*_, _/_, min}
 use lib.Dec.{eqb, ltb}
 use lib.ListN.{length}
 use Rattle.directory.specs.declared.Row.{Row}
-use Rattle.directory.specs.Rows.{noRow, Rising}
+use Rattle.directory.specs.Rows.{noRow}
 use Rattle.directory.specs.Directory.{rowsOf}
 use Rattle.lookup.specs.declared.Probe.{Probe}
 
@@ -74,12 +73,3 @@ seek (suc k) R id s = cond (ltb (s .lo) (s .hi)) (seek k R id (narrowed s (R (s 
 -- the search of the first n of some rows for an id
 abbrev pub lookUp : List Row → ℕ → ℕ → Probe
 lookUp xs n id = seek (length xs) (rowsOf xs) id (started (min n (length xs)) id)
-
--- what a search of the first n rows for an id finds
-pub data Found (R : ℕ → Row) (n id : ℕ) (p : Probe) : Type 0 where
-  hit : p .at < n → p .hit ≡ R (p .at) → p .hit .id ≡ id → Found R n id p
-  miss : p .hit ≡ noRow → ((i : ℕ) → i < n → R i .id ≡ id → ⊥) → Found R n id p
-
--- a search in a directory of cap rows
-pub record Finds (cap : ℕ) (R : ℕ → Row) (n id : ℕ) (p : Probe) : Type 0 where
-  pub found : n ≤ cap → Rising R n → Found R n id p

@@ -1,18 +1,10 @@
 -- The size of a list's nodes is that of their gates.
-use mathlib.Core.Path.{_≡_, ap, _∙_}
-use mathlib.Core.List.{List, [], _∷_, map}
-use Prim.Native.Nat.{ℕ, suc, _+_}
-use native.Mathlib.Omega.{arith}
-use lib.ListN.{length, length-map}
-use Rattle.scope.specs.Kinds.{Atom, Node, someOf, allOf}
-use Rattle.scope.specs.Formula.{refLiteral, nodeGate}
+use mathlib.Core.List.{List, [], _∷_}
+use Prim.Native.Nat.{ℕ, _+_}
+use lib.ListN.{length}
+use Rattle.scope.specs.Kinds.{Node, someOf, allOf}
 use Rattle.sizing.specs.declared.Size.{Size}
-use Rattle.sizing.specs.Sums.{equal, none, sum}
-use Rattle.sizing.specs.Gates.{orSize}
 use Rattle.sizing.specs.NodeSizes.{nodeSizes}
-use Rattle.measuring.specs.Measure.{gateSize, size-nil, size-gate}
-use Rattle.measuring.specs.Gates.{or-size, and-size}
-use Rattle.measuring.specs.Rows.{gatesSize}
 
 -- how many inputs a node has, and some nodes have in all
 abbrev pub inputs : Node → ℕ
@@ -25,19 +17,3 @@ allInputs (n ∷ ns) = inputs n + allInputs ns
 
 abbrev pub nodesSize : List Node → Size
 nodesSize ns = nodeSizes (length ns) (allInputs ns)
-
--- one node more
-node-more : (n k j : ℕ) → sum (orSize j) (nodeSizes n k) ≡ nodeSizes (suc n) (j + k)
-unfolding orSize nodeSizes sum
-node-more n k j = equal (omega arith)
-
-module _ (num : Atom → ℕ) (v : ℕ) where
-  node-size : (n : Node) → gateSize (nodeGate num v n) ≡ orSize (inputs n)
-  node-size (someOf rs) = or-size (map (refLiteral num v) rs) ∙ ap orSize (length-map rs (refLiteral num v))
-  node-size (allOf rs) = and-size (map (refLiteral num v) rs) ∙ ap orSize (length-map rs (refLiteral num v))
-
-  pub nodes-size : (ns : List Node) → gatesSize (map (nodeGate num v) ns) ≡ nodesSize ns
-  unfolding allInputs nodeSizes none
-  nodes-size [] = size-nil
-  nodes-size (n ∷ ns) =
-      rw (size-gate, node-size n, nodes-size ns) (node-more (length ns) (allInputs ns) (inputs n))

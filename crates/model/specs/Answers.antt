@@ -1,34 +1,16 @@
 -- What the answers of this crate say of a file and a model.
-use Prim.Native.Nat.{ℕ, _*_, _≤_}
-use mathlib.Core.Path.{_≡_, refl, sym, ap, _∙_}
-use mathlib.Core.Bool.{Bool, true, false, cond}
-use mathlib.Core.List.{List, []}
-use native.Mathlib.Omega.{arith}
-use lib.Dec.{eqb}
-use lib.ListN.{length, take}
-use borrow.Author.Tests.{eq-eqb, ne-eqb, eqb-true, eqb-false}
-use Rattle.scope.specs.Parsed.{Answer, answered, refusal}
-use Rattle.scope.specs.Instance.{Instance}
-use Rattle.scope.specs.Cnf.{bit}
-use Rattle.scope.specs.Score.{firstAbove, unlessFound, ofBytes}
-use Rattle.scope.specs.Formula.{primary, variables, hardOf}
-use Rattle.scope.specs.Operations.{lowestFalse, part, falsifiedSoft, decodeOf}
+use Prim.Native.Nat.{ℕ, _≤_}
+use mathlib.Core.Path.{_≡_}
+use mathlib.Core.List.{List}
+use lib.ListN.{length}
+use Rattle.scope.specs.Parsed.{Answer}
+use Rattle.scope.specs.Score.{ofBytes}
+use Rattle.scope.specs.Operations.{decodeOf}
 use Rattle.scope.specs.Answers.{given, decodeMeans}
-use Rattle.scope.specs.declared.Refusal.{Refusal}
 use Rattle.scope.specs.declared.Objective.{Objective}
-use Rattle.scope.specs.declared.DecodeAnswer.{DecodeAnswer}
-use Rattle.timetable.specs.declared.bytes.Found.{Found}
-use Rattle.timetable.specs.Answers.{foundAt}
-use Rattle.tables.specs.Laws.{length-events}
-use Rattle.constraint.specs.declared.kinds.Head.{Head}
-use Rattle.instance.specs.Answers.{instanceOf}
-use Rattle.sizing.specs.declared.Size.{Size}
-use Rattle.sizes.specs.Measured.{sizedOf, size-then, SizedBy, RefusedBy}
-use Rattle.sink.specs.declared.Sink.{Sink}
 use Rattle.model.specs.declared.size.Form.{Form}
 use Rattle.evaluation.specs.declared.Evaluation.{Evaluation}
-use Rattle.evaluation.specs.Evaluated.{judgedOf, partOf, partLength, answerOf}
-use Rattle.model_truth.specs.Truth.{TruthOf, clause-false, clauses-true}
+use Rattle.evaluation.specs.Evaluated.{partOf, partLength, answerOf}
 
 -- a decoded model: the part that holds Y and S, and the cost
 abbrev pub Decoded : Type 0
@@ -43,69 +25,6 @@ pub record FormOf (n : ℕ) (m : List ℕ) (f : Form) : Type 0 where
   pub says : (a : Answer Decoded) → formThen f a ≡ ofBytes n m a
   pub long : f ≡ Form.Right → length m ≡ n
 
-module _ (n : ℕ) (m : List ℕ) where
-  -- the length first
-  pub form-short : (length m ≡ n → ⊥) → FormOf n m (Form.Refused (record { number = 10; value = n }))
-  form-short h = record { says = λ a. rw (ne-eqb (length m) n h); long = λ e. let z : _≡_ {A = ℕ} 0 1 = cc in omega arith }
-
-  -- then the bytes
-  module _ (h : length m ≡ n) {f : Found} (e : foundAt f ≡ firstAbove 0 m) where
-    pub form-above : {v : ℕ} → f ≡ Found.At v → FormOf n m (Form.Refused (record { number = 11; value = v }))
-    form-above t = record { says = λ a. rw (eq-eqb (length m) n h, ← e, t); long = λ _. h }
-
-    pub form-right : f ≡ Found.Nothing → FormOf n m Form.Right
-    form-right t = record { says = λ a. rw (eq-eqb (length m) n h, ← e, t); long = λ _. h }
-
 pub record EvaluatedAs (s m : List ℕ) (e : Evaluation) : Type 0 where
   pub answer : decodeMeans (partOf e m) (answerOf e) ≡ decodeOf s m
   pub inside : partLength e ≤ length m
-
--- what is asked of a model once the file is sized
-abbrev ofModel : List ℕ → Instance → Answer Decoded
-ofModel m i = ofBytes (variables i) m (unlessFound 13 (lowestFalse (bit m) 1 (hardOf i)) (answered (part i m, falsifiedSoft i m)))
-
--- a file that is refused
-pub evaluation-refused : {s : List ℕ} (m : List ℕ) {f : Refusal} → RefusedBy (sizedOf s) f → EvaluatedAs s m (Evaluation.Refused f)
-unfolding decodeOf
-evaluation-refused {s} m r = record { answer = sym (size-then s (ofModel m) ∙ rw (r .answer)); inside = omega arith }
-
--- a file that is sized
-module _ {s d te tg : List ℕ} {h : Head} {z : Size} (b : SizedBy s d te tg h z) {m : List ℕ} {f : Form} (o : FormOf (z .variables) m f) where
-  abbrev i : Instance
-  i = instanceOf s d te tg h
-
-  -- 10 and 11, then 13
-  after-form : formThen f (unlessFound 13 (lowestFalse (bit m) 1 (hardOf i)) (answered (part i m, falsifiedSoft i m))) ≡ decodeOf s m
-  unfolding decodeOf
-  after-form =
-      (rw (b .numbers .variables) at (o .says (unlessFound 13 (lowestFalse (bit m) 1 (hardOf i)) (answered (part i m, falsifiedSoft i m)))))
-      ∙ sym (size-then s (ofModel m) ∙ rw (b .answer))
-
-  pub evaluation-form : {g : Refusal} → f ≡ Form.Refused g → EvaluatedAs s m (Evaluation.Refused g)
-  evaluation-form t = record { answer = rw t at after-form; inside = omega arith }
-
-  -- the part is the first 2 × E × T bytes
-  module _ (t : f ≡ Form.Right) {k : Sink} (j : TruthOf i m k) where
-    part-long : 2 * (h .events * h .times) ≡ primary i
-    part-long = rw (length-events d te (h .events))
-
-    part-inside : 2 * (h .events * h .times) ≤ length m
-    unfolding variables
-    part-inside = omega (arith, part-long, o .long t, b .numbers .variables)
-
-    judged-by : (x : Bool) → eqb (k .bad) 0 ≡ x
-        → EvaluatedAs s m
-        (cond x (Evaluation.Holds (2 * (h .events * h .times)) (record { 0 = k .lost })) (Evaluation.Refused (record { number = 13; value = k .bad })))
-    judged-by true e =
-        record {
-          answer = rw (part-long, j .lost) (clauses-true (answered (part i m, falsifiedSoft i m)) j (eqb-true (k .bad) 0 e)) ∙ (rw t at after-form);
-          inside = part-inside;
-        }
-    judged-by false e =
-        record {
-          answer = clause-false (answered (part i m, falsifiedSoft i m)) j (eqb-false (k .bad) 0 e) ∙ (rw t at after-form);
-          inside = omega arith;
-        }
-
-    pub evaluation-judged : {n : ℕ} {e : Evaluation} → n ≡ 2 * (h .events * h .times) → e ≡ judgedOf (k .bad) (k .lost) n → EvaluatedAs s m e
-    evaluation-judged l q = rw (q, l) (judged-by (eqb (k .bad) 0) refl)

@@ -1,4 +1,2 @@
-pub mod Evaluate
 pub mod LongClauses
-pub mod Long
 pub mod Pairs

@@ -7,17 +7,22 @@ use lib.ListN.{length, getD, take, length-map}
 use Rattle.scope.specs.Cnf.{or}
 use Rattle.scope.specs.Kinds.{cluster, countedOf}
 use Rattle.parsing.specs.Each.{Each}
-use Rattle.number.specs.Lists.{leading, length-leading}
+use Rattle.number.specs.Lists.{leading}
+use Rattle.number.proofs.laws.Lists.{length-leading}
 use Rattle.constraint.specs.declared.kinds.Head.{Head}
 use Rattle.constraint.specs.Valid.{OneOf}
 use Rattle.literals.specs.Variables.{inBlock}
-use Rattle.literals.specs.Words.{Holds, holds-as, holds-none}
+use Rattle.literals.specs.Words.{Holds}
+use Rattle.literals.proofs.laws.Words.{holds-as, holds-none}
 use Rattle.literals.specs.Outputs.{every}
-use Rattle.literals.specs.NodeWords.{nodeWords, nodesWords, nodes-words-both}
+use Rattle.literals.specs.NodeWords.{nodeWords, nodesWords}
+use Rattle.literals.proofs.laws.NodeWords.{nodes-words-both}
 use Rattle.literals.specs.Tables.{groupIn}
 use Rattle.list_nodes.specs.Ground.{layoutOf}
-use Rattle.list_nodes.specs.Stored.{onlyIn, numOf, Stored, adds-stored}
-use Rattle.node_lists.specs.Cluster.{rowIn, xsOf, cluster-adds}
+use Rattle.list_nodes.specs.Stored.{onlyIn, numOf, Stored}
+use Rattle.list_nodes.proofs.laws.Stored.{adds-stored}
+use Rattle.node_lists.specs.Cluster.{rowIn, xsOf}
+use Rattle.node_lists.proofs.laws.Cluster.{cluster-adds}
 use Rattle.list_nodes.proofs.Nodes.{holds-then}
 use Rattle.node_lists.proofs.XsRows.{xs-rows}
 

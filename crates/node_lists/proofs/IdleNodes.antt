@@ -14,14 +14,19 @@ use Rattle.number.specs.Lists.{leading}
 use Rattle.constraint.specs.declared.kinds.Head.{Head}
 use Rattle.constraint.specs.Valid.{OneOf}
 use Rattle.literals.specs.Variables.{inBlock}
-use Rattle.literals.specs.Words.{Holds, holds-as, holds-none}
+use Rattle.literals.specs.Words.{Holds}
+use Rattle.literals.proofs.laws.Words.{holds-as, holds-none}
 use Rattle.literals.specs.Outputs.{every}
-use Rattle.literals.specs.NodeWords.{nodeWords, nodesWords, nodes-words-both}
+use Rattle.literals.specs.NodeWords.{nodeWords, nodesWords}
+use Rattle.literals.proofs.laws.NodeWords.{nodes-words-both}
 use Rattle.literals.specs.Tables.{groupIn}
-use Rattle.list_nodes.specs.Ground.{layoutOf, leading-at}
-use Rattle.list_nodes.specs.Stored.{onlyIn, numOf, Stored, adds-stored}
+use Rattle.list_nodes.specs.Ground.{layoutOf}
+use Rattle.list_nodes.proofs.laws.Ground.{leading-at}
+use Rattle.list_nodes.specs.Stored.{onlyIn, numOf, Stored}
+use Rattle.list_nodes.proofs.laws.Stored.{adds-stored}
 use Rattle.node_lists.specs.Cluster.{rowIn, xsOf}
-use Rattle.node_lists.specs.Idle.{gapGates, idleGates, innerCount, length-gaps, length-idle, idle-adds}
+use Rattle.node_lists.specs.Idle.{gapGates, innerCount}
+use Rattle.node_lists.proofs.laws.Idle.{idleGates, length-gaps, length-idle, idle-adds}
 use Rattle.list_nodes.proofs.Nodes.{holds-then, holds-kept}
 use Rattle.node_lists.proofs.XsRows.{xs-rows}
 use Rattle.node_lists.proofs.ClusterNodes.{xsTo, xs-more}

@@ -1,3 +1,4 @@
+pub mod laws
 pub mod XsRows
 mod ClusterNodes
 mod IdleNodes

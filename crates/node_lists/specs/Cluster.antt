@@ -1,19 +1,8 @@
 -- Kind 7's list: an OR for each group, whose output is counted.
-use Prim.Native.Nat.{ℕ, _+_, _-_}
-use mathlib.Core.Path.{_≡_, refl}
-use mathlib.Core.List.{List, [], _∷_, map}
-use native.Mathlib.Omega.{arith}
-use native.Mathlib.Nat.{add-zero}
-use lib.ListN.{length}
-use Rattle.scope.specs.declared.Layout.{Layout}
-use Rattle.scope.specs.Cnf.{or}
-use Rattle.scope.specs.Kinds.{Atom, anyOf, usesAt}
+use Prim.Native.Nat.{ℕ, _-_}
+use mathlib.Core.List.{List, map}
 use Rattle.tables.specs.Rows.{rowAt}
-use Rattle.literals.specs.Variables.{inBlock, xAt}
-use Rattle.literals.specs.Outputs.{every}
-use Rattle.literals.specs.Numbered.{numAt}
-use Rattle.literals.specs.Entries.{Adds, adds-none, adds-more, atoms-literals}
-use Rattle.literals.specs.Laws.{x-literal}
+use Rattle.literals.specs.Variables.{inBlock}
 
 -- the row of a group by its number
 abbrev pub rowIn : List ℕ → ℕ → List ℕ
@@ -22,21 +11,3 @@ rowIn t g = rowAt t (g - 1)
 -- X of resource r in each of some groups, in the block after `uses` variables
 abbrev pub xsOf : (T uses : ℕ) (group : ℕ → List ℕ) (r : ℕ) → List ℕ → List (List ℕ)
 xsOf T uses group r hs = map (λ g. map (inBlock T uses r) (group g)) hs
-
--- the literals of X at some times
-pub uses-literals : (T : ℕ) (L : Layout) (r : ℕ) (ts : List ℕ) → map (numAt T L) (usesAt r ts) ≡ map (xAt T L r) ts
-uses-literals T L r [] = refl
-uses-literals T L r (t ∷ ts) = rw (← (x-literal T L r t), ← (uses-literals T L r ts))
-
-module _ {num : Atom → ℕ} (f : ℕ → List Atom) (h : ℕ → List ℕ) (e : (g : ℕ) → map num (f g) ≡ h g) where
-  adds-any : (gs : List ℕ) (v k : ℕ) → Adds num (map (λ g. anyOf (f g)) gs) v k (map or (map h gs)) (every 1 (v + k) (length gs))
-  unfolding every
-  adds-any [] v k = adds-none num v k
-  adds-any (g ∷ gs) v k =
-      let s : v + k + 1 ≡ v + (k + 1) = omega arith in
-      rw (← (e g), s, ← (atoms-literals num v (f g))) (adds-more num (anyOf (f g)) (adds-any gs v (k + 1)))
-
-pub cluster-adds : (T : ℕ) (L : Layout) (group : ℕ → List ℕ) (r : ℕ) (hs : List ℕ) (v : ℕ)
-    → Adds (numAt T L) (map (λ g. anyOf (usesAt r (group g))) hs) v 0 (map or (xsOf T (L .uses) group r hs)) (every 1 v (length hs))
-cluster-adds T L group r hs v =
-    rw (add-zero v) at (adds-any (λ g. usesAt r (group g)) (λ g. map (xAt T L r) (group g)) (λ g. uses-literals T L r (group g)) hs v 0)

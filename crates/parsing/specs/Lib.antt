@@ -2,4 +2,3 @@ pub mod Parsing
 pub mod Each
 pub mod Numbers
 pub mod Valid
-pub mod ValidRows

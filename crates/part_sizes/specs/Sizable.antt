@@ -1,24 +1,16 @@
 -- What is known of a constraint that is sized, and its size from that of its first counted list.
-use Prim.Native.Nat.{ℕ, _+_, _≤_}
-use mathlib.Core.Path.{_≡_, sym, _∙_}
+use Prim.Native.Nat.{ℕ, _≤_}
+use mathlib.Core.Path.{_≡_}
 use mathlib.Core.List.{List, map}
-use native.Mathlib.Nat.{mul-le-mul}
-use native.Mathlib.Omega.{arith}
 use lib.ListN.{length}
-use Rattle.scope.specs.Kinds.{Constraint, Node, Listed, Counted, rule}
-use Rattle.parsing.specs.Each.{Each, each-none, each-more, each-at}
+use Rattle.scope.specs.Kinds.{Constraint, Listed, Counted, rule}
 use Rattle.constraint.specs.declared.kinds.Head.{Head}
-use Rattle.constraint.specs.declared.kinds.Bounds.{Bounds}
-use Rattle.constraint.specs.Bounds.{lowOf, highOf, freeOf, bounds-right}
+use Rattle.constraint.specs.Bounds.{lowOf, highOf}
 use Rattle.user_table.specs.Filled.{usersAt}
-use Rattle.literals.specs.Numbered.{noList}
-use Rattle.literals.specs.Tables.{groupIn}
-use Rattle.list_nodes.specs.Stored.{Fits, Short, listAt, countedIn, listIn}
-use Rattle.fitting.specs.Lists.{Shape, lists-shape, Small, lists-small, Like, lists-alike}
+use Rattle.list_nodes.specs.Stored.{Fits, countedIn}
 use Rattle.sizing.specs.declared.Size.{Size}
-use Rattle.sizing.specs.Sums.{multiple, Within, Fits64, within-more, within-multiple, multiple-zero, multiple-suc}
-use Rattle.measuring.specs.Rules.{ruleSize, rulesSize, listed-size}
-use Rattle.part_sizes.specs.Listed.{BoundsOf, ListSized}
+use Rattle.sizing.specs.Sums.{Within}
+use Rattle.measuring.specs.Rules.{rulesSize}
 
 -- the size of some lists of the weight w
 abbrev pub listsSize : ℕ → Counted → List Listed → Size
@@ -37,65 +29,3 @@ pub record CountedSized (w : ℕ) (c : Counted) (z : Size) : Type 0 where
   pub eq : z ≡ listsSize w c (c .lists)
   pub within : Within 268435456 z
   pub few : z .units ≤ 31875
-
-module _ {users groups list : List ℕ} {h : Head} {c : Constraint} (s : Sizable users groups list h c) where
-  -- what it counts
-  abbrev countedBy : Counted
-  countedBy = countedIn (usersAt users) groups h (c .kind)
-
-  pub sizable-bounds : {b : Bounds} → b ≡ record { lo = lowOf (c .kind); hi = highOf (c .kind); free = freeOf (c .kind) }
-      → BoundsOf countedBy b
-  sizable-bounds e =
-      let r = bounds-right (h .times) (usersAt users) (groupIn (h .groups) groups) (c .kind) in
-      record { lo = rw (e, r .lo); hi = rw (e, r .hi); free = rw (e, r .free) }
-
-  pub sizable-ordered : countedBy .lo ≤ countedBy .hi
-  sizable-ordered =
-      let r = bounds-right (h .times) (usersAt users) (groupIn (h .groups) groups) (c .kind) in
-      omega (arith, r .lo, r .hi, s .ordered)
-
-  pub sizable-shape : Shape (h .times) countedBy
-  sizable-shape = lists-shape (h .times) (usersAt users) (groupIn (h .groups) groups) (c .kind)
-
-  -- its first list is short, and so its nodes have small numbers
-  pub sizable-short : Short countedBy (listIn (usersAt users) groups h (c .kind) 1)
-  sizable-short = each-at 0 noList (s .fits .short) (omega (arith, s .some))
-
-  pub sizable-small : 1 + length (listIn (usersAt users) groups h (c .kind) 1 .nodes) ≤ 8000001
-  sizable-small =
-      let small : Small (listIn (usersAt users) groups h (c .kind) 1) =
-      each-at 0 noList (lists-small sizable-shape) (omega (arith, s .some))
-      in
-      omega (arith, small .few, sizable-short .most)
-
--- lists that are alike have one size
-module _ (w : ℕ) (c : Counted) where
-  like-size : {ns : List Node} {n : ℕ} (l m : Listed) → Like ns n l → Like ns n m → ruleSize w (rule c l) ≡ ruleSize w (rule c m)
-  like-size l m p q = rw (listed-size w c l, listed-size w c m, p .nodes, p .members, q .nodes, q .members)
-
-  lists-times : {ns : List Node} {n : ℕ} (z : Size) (m : Listed) → Like ns n m → z ≡ ruleSize w (rule c m) → {ls : List Listed}
-      → Each (Like ns n) ls
-      → listsSize w c ls ≡ multiple (length ls) z
-  unfolding rulesSize
-  lists-times z m q e each-none = sym (multiple-zero z)
-  lists-times z m q e (each-more {x = l} {xs = ls} p ps) =
-      rw (like-size l m p q, ← e, lists-times z m q e ps) (sym (multiple-suc (length ls) z))
-
-  module _ {k : ℕ} {one : Size} (o : ListSized w c (listAt (c .lists) 1) one) (few : k ≤ 125) where
-    times-within : Within 268435456 (multiple k one)
-    times-within = within-more (omega arith) (within-multiple k 1454651 one (o .within))
-
-    pub times-fits : Fits64 (multiple k one)
-    times-fits = within-more (omega arith) times-within
-
-    -- the size of one of them, as often as there are lists
-    pub times-sized : {T : ℕ} {z : Size} → Shape T c → k ≡ length (c .lists) → 1 ≤ k → z ≡ multiple k one → CountedSized w c z
-    times-sized {z = z} s n h e =
-        let a = lists-alike s in
-        let q = each-at 0 noList (a .each) (omega arith) in
-        let m = mul-le-mul {n₁ = k} {m₁ = one .units} {n₂ = 125} {m₂ = 255} few (o .few) in
-        record {
-          eq = e ∙ rw n (sym (lists-times one (listAt (c .lists) 1) q (o .eq) (a .each)));
-          within = rw e times-within;
-          few = rw e (unfold multiple in omega (arith, m));
-        }

@@ -7,7 +7,7 @@ use native.Mathlib.Omega.{arith}
 use lib.ListN.{length}
 use Rattle.scope.specs.Parsed.{got}
 use Rattle.scope.specs.Number.{number}
-use Rattle.parsing.specs.Numbers.{number-got}
+use Rattle.parsing.proofs.laws.Numbers.{number-got}
 use Rattle.reader.specs.Loop.{whileMore}
 
 -- a loop that does not go on

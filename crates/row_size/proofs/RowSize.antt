@@ -11,12 +11,13 @@ use borrow.Author.Tests.{ltb-true, ltb-false}
 use Rattle.scope.specs.Cnf.{opp, pos, neg, gateClauses}
 use Rattle.scope.specs.Formula.{row}
 use Rattle.scope.specs.Text.{digits, decimal, space, newline, literalText, line}
-use Rattle.digits.specs.Decimal.{digits-some, digits-small, digits-more, digits-most}
+use Rattle.digits.proofs.laws.Decimal.{digits-some, digits-small, digits-more, digits-most}
 use Rattle.digits.proofs.Literal.{literal-length}
 use Rattle.sink.specs.Lines.{gatesClauses}
 use Rattle.sink.specs.World.{rowOver}
 use Rattle.sink.specs.Meaning.{hardText}
-use Rattle.row_words.specs.Cells.{cellAt, fullClauses, lowClauses, full-cell, low-cell}
+use Rattle.row_words.specs.Cells.{cellAt, fullClauses, lowClauses}
+use Rattle.row_words.proofs.laws.Cells.{full-cell, low-cell}
 use Rattle.row_words.proofs.RowLines.{cellsFrom, put-turn, put-end, put-first}
 
 -- a greater number has no fewer digits

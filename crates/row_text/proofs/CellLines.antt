@@ -7,7 +7,8 @@ use Rattle.digits.specs.Spelled.{Spelt}
 use Rattle.digits.specs.declared.spelled.Spelled.{Spelled}
 use Rattle.sink.specs.Run.{Ran, Out, put}
 use Rattle.sink.specs.Meaning.{hardText}
-use Rattle.row_words.specs.Cells.{cellAt, fullClauses, lowClauses, full-cell, low-cell}
+use Rattle.row_words.specs.Cells.{cellAt, fullClauses, lowClauses}
+use Rattle.row_words.proofs.laws.Cells.{full-cell, low-cell}
 
 -- the bytes of an equal number
 pub spelt-at : {n : Spelled} {v m : ℕ} → Spelt v n → m ≡ v → Spelt m n

@@ -7,7 +7,8 @@ use native.Mathlib.Numerals.{add-one}
 use native.Mathlib.Omega.{arith}
 use Rattle.scope.specs.Cnf.{gateClauses, hardClauses}
 use Rattle.scope.specs.Formula.{row}
-use Rattle.sink.specs.Lines.{gatesClauses, flat-append}
+use Rattle.sink.specs.Lines.{gatesClauses}
+use Rattle.sink.proofs.laws.Lines.{flat-append}
 use Rattle.sink.specs.World.{rowOver}
 use Rattle.row_words.specs.Cells.{cellAt}
 

@@ -9,7 +9,8 @@ use Rattle.scope.specs.Parsed.{Parsed, got, refused}
 use Rattle.scope.specs.Number.{number}
 use Rattle.theory.specs.Marked.{Standing, falsified, oneOpen, other}
 use Rattle.directory.specs.declared.Row.{Row}
-use Rattle.marks.specs.Marks.{marksOf, putMark, put-length}
+use Rattle.marks.specs.Marks.{marksOf, putMark}
+use Rattle.marks.proofs.laws.Marks.{put-length}
 use Rattle.standing.specs.Clauses.{part, wiped}
 use Rattle.directory.specs.Rows.{rowClause}
 use Rattle.lookup.specs.Lookup.{lookUp}

@@ -1,3 +1,4 @@
+pub mod laws
 mod Taking
 mod Lengths
 mod Deletions

@@ -9,21 +9,23 @@ use lib.ListN.{length, length-replicate}
 use borrow.Author.Tests.{lt-ltb, ltb-true, ltb-false, eqb-true, eqb-false}
 use Rattle.scope.specs.declared.CheckAnswer.{CheckAnswer}
 use Rattle.directory.specs.declared.Row.{Row}
-use Rattle.directory.specs.Directory.{rowsOf, withDead, dies-at, appends-at}
+use Rattle.directory.specs.Directory.{rowsOf, withDead}
+use Rattle.directory.proofs.laws.Directory.{dies-at, appends-at}
 use Rattle.lookup.specs.Lookup.{lookUp}
 use Rattle.lookup.proofs.Search.{finds}
 use Rattle.reader.specs.Loop.{whileMore}
 use Rattle.reader.proofs.Loops.{Left, left-more}
-use Rattle.reading.specs.Copying.{copies-at}
+use Rattle.reading.proofs.laws.Copying.{copies-at}
 use Rattle.hints.specs.declared.machine.Machine.{Machine}
-use Rattle.hints.specs.Machine.{turnOf, turn-phase, advances}
+use Rattle.hints.specs.Machine.{turnOf}
+use Rattle.hints.proofs.laws.Machine.{turn-phase, advances}
 use Rattle.trail.specs.Recorded.{largest}
-use Rattle.deletion.specs.Passed.{passes-id}
+use Rattle.deletion.proofs.laws.Passed.{passes-id}
 use Rattle.turns.specs.declared.check.Check.{Check}
 use Rattle.turns.specs.Check.{rowOf, answerOf}
 use Rattle.run.specs.Turned.{State, Deletion, deletion, deletes, idDeleted, idsDeleted, withDeletion, byTurn, turned, going, left, toGo, ended, atFirst, outcome, drivenWith, noTrail, drivenBy}
-use Rattle.run.specs.Run.{World, world, Turn, looks, keeps, judges, reads, Ran, none, more, Driven}
-use Rattle.run.specs.Termination.{Past, Falls, turn-falls, some-left, ran-on}
+use Rattle.run.proofs.laws.Run.{World, world, Turn, looks, keeps, judges, reads, Ran, none, more, Driven}
+use Rattle.run.proofs.laws.Termination.{Past, Falls, turn-falls, some-left, ran-on}
 use Rattle.run.proofs.Taking.{takes-step}
 use Rattle.run.proofs.Lengths.{Long, turned-long}
 

@@ -1,6 +1,1 @@
-pub mod Hints
-pub mod Invariant
-pub mod LookMeans
-pub mod StepMeans
-pub mod ReadMeans
 pub mod Meaning

@@ -1,4 +1,2 @@
 pub mod Amounts
-pub mod Score
 pub mod Ready
-pub mod Right

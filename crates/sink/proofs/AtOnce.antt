@@ -7,11 +7,14 @@ use native.Mathlib.Omega.{arith}
 use lib.ListN.{length, length-append}
 use Rattle.scope.specs.Text.{line, decimal, space, newline, literalText}
 use Rattle.sink.specs.Run.{run, Ran, Out, out, put, further}
-use Rattle.sink.specs.Lines.{clauseLine, clausesOf}
+use Rattle.sink.specs.Lines.{clauseLine}
+use Rattle.sink.proofs.laws.Lines.{clausesOf}
 use Rattle.sink.specs.Block.{mark}
 use Rattle.sink.specs.World.{world, sinkAt, inText, inWords, step}
-use Rattle.sink.specs.Meaning.{hardText, text-run, words-run}
-use Rattle.sink.specs.AllTrue.{counted, counted-some}
+use Rattle.sink.specs.Meaning.{hardText}
+use Rattle.sink.proofs.laws.Meaning.{text-run, words-run}
+use Rattle.sink.specs.AllTrue.{counted}
+use Rattle.sink.proofs.laws.AllTrue.{counted-some}
 use Rattle.sink.specs.declared.Sink.{Sink}
 use Rattle.sink.specs.declared.Job.{Job}
 use Rattle.sink.specs.declared.Mode.the-variants.{Measure, Text, Words}

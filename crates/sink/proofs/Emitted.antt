@@ -8,9 +8,11 @@ use Rattle.scope.specs.Cnf.{bit, clause}
 use Rattle.scope.specs.Text.{decimal}
 use Rattle.sink.specs.Run.{run, Ran, Out, out, put, further}
 use Rattle.sink.specs.Lines.{clauseLine}
-use Rattle.sink.specs.Block.{mark, split, Whole, mark-split, byClause, byWords, by-words}
+use Rattle.sink.specs.Block.{mark, split, Whole, byClause, byWords, by-words}
+use Rattle.sink.proofs.laws.Block.{mark-split}
 use Rattle.sink.specs.World.{World, world, sinkAt, inText, inWords, badAfter, step}
-use Rattle.sink.specs.Parts.{textParts, sizeParts, judgeParts, run-each, text-clause, size-clause, judge-clause}
+use Rattle.sink.specs.Parts.{textParts, sizeParts, judgeParts}
+use Rattle.sink.proofs.laws.Parts.{run-each, text-clause, size-clause, judge-clause}
 use Rattle.sink.specs.declared.Sink.{Sink}
 use Rattle.sink.specs.declared.Job.{Job}
 use Rattle.sink.specs.declared.Judgement.{Judgement}

@@ -1,3 +1,4 @@
+pub mod laws
 pub mod Turns
 pub mod Truth
 pub mod Emitted

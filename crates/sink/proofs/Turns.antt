@@ -9,7 +9,8 @@ use lib.ListN.{length, drop, getD, set, drop-of-length-le}
 use lib.Seq.{drop-cons, sets}
 use lib.Dec.{leb}
 use Rattle.sink.specs.Block.{Parts, byWord, byWords}
-use Rattle.sink.specs.Parts.{sizeParts, judgeParts, size-first, judge-first}
+use Rattle.sink.specs.Parts.{sizeParts, judgeParts}
+use Rattle.sink.proofs.laws.Parts.{size-first, judge-first}
 use Rattle.sink.specs.declared.Judgement.{Judgement}
 
 -- the words that are left take the state s to e: what a loop keeps

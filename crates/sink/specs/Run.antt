@@ -1,3 +1,3 @@
 -- Runs and runs of stores, passed on from the crate digits.
 pub use Rattle.digits.specs.Run.{run, run-append, Ran, Todo, none, then, same, todo-start, todo-step, todo-end, todo-turn, todo-done}
-pub use Rattle.digits.specs.Store.{Out, out, further, put, run-sets, ran-sets, run-fits, run-at, run-length, further-further}
+pub use Rattle.digits.specs.Store.{Out, out, further, put}

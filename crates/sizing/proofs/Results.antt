@@ -7,12 +7,13 @@ use native.Mathlib.Omega.{arith}
 use borrow.Author.Tests.{eq-eqb, ne-eqb}
 use Rattle.scope.specs.Formula.{columns}
 use Rattle.sizing.specs.declared.Size.{Size}
-use Rattle.sizing.specs.Sums.{none, sum, multiple, Within, Fits64, within-more, within-sum, within-multiple}
+use Rattle.sizing.specs.Sums.{none, sum, multiple, Within, Fits64}
+use Rattle.sizing.proofs.laws.Sums.{within-more, within-sum, within-multiple}
 use Rattle.sizing.specs.Gates.{hardUnit}
 use Rattle.sizing.specs.Rows.{firstRow, laterRow, equalRows}
 use Rattle.sizing.specs.Tail.{tailAdd}
 use Rattle.sizing.specs.Counts.{unitsSize, shortsSize, lowSize, countSize}
-use Rattle.sizing.specs.Limits.{fits-multiple, first-within, later-within, rows-within, units-within, low-within}
+use Rattle.sizing.proofs.laws.Limits.{fits-multiple, first-within, later-within, rows-within, units-within, low-within}
 
 -- k later rows, and rows together, have numbers of 64 bits
 pub later-fits : (cols k w : ℕ) {later : Size} → cols ≤ 4096 → k ≤ 32768 → later ≡ laterRow cols w → Fits64 (multiple k later)

@@ -6,4 +6,3 @@ pub mod NodeSizes
 pub mod Counts
 pub mod Blocks
 pub mod Whole
-pub mod Limits

@@ -8,7 +8,7 @@ use lib.Dec.{eqb}
 use lib.ListN.{length}
 use Rattle.scope.specs.Parsed.{Parsed, got, refused}
 use Rattle.scope.specs.Number.{number}
-use Rattle.parsing.specs.Numbers.{number-got}
+use Rattle.parsing.proofs.laws.Numbers.{number-got}
 use Rattle.marks.specs.Marks.{marksOf}
 use Rattle.reader.proofs.Loops.{either, nearer}
 use Rattle.spelling.specs.declared.literals.Spelling.{Spelling}

@@ -7,7 +7,7 @@ use native.Mathlib.Numerals.{add-one}
 use lib.ListN.{length, getD, take, drop, set, length-drop, take-append-drop}
 use lib.Seq.{take-append-le, drop-append-le, take-at, drop-at, length-take-le, getD-set-same, getD-set-other}
 use borrow.Rule.Slice.PartMut.{putMid}
-use Rattle.number.specs.Lists.{leading-take}
+use Rattle.number.proofs.laws.Lists.{leading-take}
 use Rattle.tables.specs.Rows.{rowOf, rowAt, rows, eventsOf}
 
 -- a row whose count is n

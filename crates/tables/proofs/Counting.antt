@@ -10,7 +10,8 @@ use lib.Dec.{eqb}
 use lib.ListN.{length, getD, take, set, length-take}
 use lib.Seq.{take-suc, take-all, getD-set-same, getD-set-other}
 use Rattle.tables.specs.Rows.{rowAt, rows, RowsIn}
-use Rattle.tables.specs.Occurrences.{occurrences, occurrencesIn, Counted, occurrencesIn-more}
+use Rattle.tables.specs.Occurrences.{occurrences, occurrencesIn, Counted}
+use Rattle.tables.proofs.laws.Occurrences.{occurrencesIn-more}
 
 -- no more than there are members
 occurrences-most : (x : ℕ) (l : List ℕ) → occurrences x l ≤ length l

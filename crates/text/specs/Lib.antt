@@ -1,4 +1,3 @@
 pub mod Lines
-pub mod Length
 pub mod Ready
 pub mod Written

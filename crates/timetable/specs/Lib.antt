@@ -1,7 +1,4 @@
 pub mod Answers
 pub mod Bits
-pub mod Above
 pub mod Right
-pub mod Refusals
-pub mod Takers
 pub mod Uses

@@ -1,13 +1,11 @@
 -- A check between two walks over ids: what is counted, and what each step-level turn makes of it.
-use mathlib.Core.Path.{_≡_}
-use mathlib.Core.Bool.{true, false, cond, _&&_}
+use mathlib.Core.Bool.{cond, _&&_}
 use mathlib.Core.List.{List}
-use Prim.Native.Nat.{ℕ, suc, _+_, _-_, _≤_, _<_, min}
+use Prim.Native.Nat.{ℕ, _+_, _-_, min}
 use lib.Dec.{eqb, ltb, leb}
 use lib.ListN.{length}
 use Rattle.scope.specs.Parsed.{Parsed, got, refused}
 use Rattle.scope.specs.Number.{number}
-use Rattle.theory.specs.StepTokens.{readStep}
 use Rattle.scope.specs.declared.CheckAnswer.{CheckAnswer}
 use Rattle.directory.specs.declared.Row.{Row}
 use Rattle.directory.specs.Rows.{newRow}
@@ -20,7 +18,6 @@ use Rattle.hints.specs.declared.machine.Machine.{Machine}
 use Rattle.turns.specs.declared.check.Tally.{Tally}
 use Rattle.turns.specs.declared.check.Check.{Check}
 use Rattle.steps.specs.Step.{stepAt}
-use Rattle.reading.specs.Reading.{tokensAt, ReadsStep}
 use Rattle.hints.specs.Machine.{stopped, onward}
 use Rattle.trail.specs.Recorded.{largest}
 
@@ -117,13 +114,6 @@ unfoldable pub stepTaken : List ℕ → Check → ℕ → ℕ → List ℕ → S
 stepTaken s c at last ms =
     cond (leb (length s) at) (record { check = withPhase c (Refused 18); marks = ms })
     (record { check = stepped c (stepAt s at (c .tally .highest) last ms .read); marks = stepAt s at (c .tally .highest) last ms .marks })
-
--- what it comes to
-pub data TakesStep (s : List ℕ) (c : Check) (at last : ℕ) (ms : List ℕ) (r : Check) (ms′ : List ℕ) : Type 0 where
-  over : length s ≤ at → r ≡ withPhase c (Refused 18) → TakesStep s c at last ms r ms′
-  takes : (x : Read) → at < length s → ReadsStep (readStep (tokensAt s at)) s at (c .tally .highest) last ms ms′ x
-      → r ≡ stepped c x
-      → TakesStep s c at last ms r ms′
 
 -- the answer of a check that has ended, after so many steps
 abbrev pub answerOf : ℕ → Phase → CheckAnswer

@@ -14,8 +14,10 @@ use lib.Seq.{take-suc, take-all, take-set-le, drop-set-lt, drop-set-add, getD-se
 use Rattle.scope.specs.Kinds.{member}
 use Rattle.parsing.specs.Numbers.{Ascending, more}
 use Rattle.tables.specs.Rows.{rowAt}
-use Rattle.literals.specs.Words.{Holds, holds-none, holds-as, holds-more}
-use Rattle.user_table.specs.Users.{usersIn, users-most}
+use Rattle.literals.specs.Words.{Holds}
+use Rattle.literals.proofs.laws.Words.{holds-none, holds-as, holds-more}
+use Rattle.user_table.specs.Users.{usersIn}
+use Rattle.user_table.proofs.laws.Users.{users-most}
 use Rattle.user_table.specs.Filled.{Filled, EventRows, pushed}
 
 -- a store outside a row: before it, and after it

@@ -2,8 +2,8 @@
 use borrow.Author.Needs.{needs}
 use mathlib.Core.Path.{sym, _∙_}
 use native.Mathlib.Omega.{arith}
-use Rattle.clauses.specs.Writable.{writable-kept}
-use Rattle.bounded_words.specs.Bounded.{rows-fit, units-there, last-fits, position, all-without-tail, all-with-tail}
+use Rattle.clauses.proofs.laws.Writable.{writable-kept}
+use Rattle.bounded_words.proofs.laws.Bounded.{rows-fit, units-there, last-fits, position, all-without-tail, all-with-tail}
 use Rattle.bounded_words.proofs.write_bounded.Statement.{statement}
 use Rattle.bounded_words.proofs.write_bounded.Tie as tie
 

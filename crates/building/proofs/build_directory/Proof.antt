@@ -47,7 +47,7 @@ use Rattle.directory.proofs.Row as R
 use Rattle.directory.proofs.Row.Laws as R′
 use lib.WfN.{Nat·lt-wfRel}
 use mathlib.Core.WellFounded.{WellFounded, InvImage·wf}
-use Rattle.standing.specs.Clauses.{take-min, drop-min}
+use Rattle.standing.proofs.laws.Clauses.{take-min, drop-min}
 use Rattle.building.specs.Marked.{flat, firstClause, parted, rowsFor, rowBetween, Built}
 use Rattle.building.proofs.Building.{Building, clause-long, build-start, build-next, build-end}
 use Rattle.walks.proofs.Calls.{uint-same, unit-same, both-said, told, says-all, calls-to}

@@ -2,7 +2,7 @@
 use borrow.Author.Needs.{needs}
 use mathlib.Core.Path.{refl}
 use native.Mathlib.Omega.{arith}
-use Rattle.claim_words.specs.Written.{hard-written}
+use Rattle.claim_words.proofs.laws.Written.{hard-written}
 use Rattle.claim_words.proofs.write_hard.Statement.{statement}
 use Rattle.claim_words.proofs.write_hard.Tie as tie
 

@@ -1,7 +1,7 @@
 -- `write_rows` meets its contract: a run over the formula in the mode Tail.
 use borrow.Author.Needs.{needs}
 use mathlib.Core.Path.{refl}
-use Rattle.claim_words.specs.Written.{rows-written}
+use Rattle.claim_words.proofs.laws.Written.{rows-written}
 use Rattle.claim_words.proofs.write_rows.Statement.{statement}
 use Rattle.claim_words.proofs.write_rows.Tie as tie
 

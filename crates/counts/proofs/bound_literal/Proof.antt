@@ -1,6 +1,6 @@
 use mathlib.Core.Path.{ap, _∙_}
 use Rattle.scope.specs.Cnf.{opp}
-use Rattle.counters.specs.Literals.{literal-opposite}
+use Rattle.counters.proofs.laws.Literals.{literal-opposite}
 use borrow.Author.Needs.{needs}
 use Rattle.counts.proofs.bound_literal.Statement.{statement}
 use Rattle.counts.proofs.bound_literal.Tie as tie

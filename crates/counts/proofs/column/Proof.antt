@@ -1,6 +1,6 @@
 use mathlib.Core.Path.{sym}
 use native.Mathlib.Omega.{arith}
-use Rattle.counts.specs.UnitLines.{over-column}
+use Rattle.counts.proofs.laws.UnitLines.{over-column}
 use borrow.Author.Needs.{needs}
 use Rattle.counts.proofs.column.Statement.{statement}
 use Rattle.counts.proofs.column.Tie as tie

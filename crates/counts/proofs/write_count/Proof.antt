@@ -2,7 +2,7 @@ use mathlib.Core.Path.{refl}
 use native.Mathlib.Omega.{arith}
 use lib.ListN.{length}
 use Rattle.sink.specs.Run.{none, same, then}
-use Rattle.counts.specs.CountLines.{last-within, count-none, count-lines}
+use Rattle.counts.proofs.laws.CountLines.{last-within, count-none, count-lines}
 use borrow.Author.Needs.{needs}
 use Rattle.counts.proofs.write_count.Statement.{statement}
 use Rattle.counts.proofs.write_count.Tie as tie

@@ -1,5 +1,5 @@
 use Rattle.sink.specs.Run.{none, same}
-use Rattle.counts.specs.UnitLines.{high-none, high-hard, high-soft}
+use Rattle.counts.proofs.laws.UnitLines.{high-none, high-hard, high-soft}
 use borrow.Author.Needs.{needs}
 use Rattle.counts.proofs.write_high.Statement.{statement}
 use Rattle.counts.proofs.write_high.Tie as tie

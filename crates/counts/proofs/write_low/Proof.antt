@@ -1,6 +1,6 @@
 use native.Mathlib.Omega.{arith}
 use Rattle.sink.specs.Run.{none, same}
-use Rattle.counts.specs.CountLines.{low-zero, low-free, low-unit, low-units}
+use Rattle.counts.proofs.laws.CountLines.{low-zero, low-free, low-unit, low-units}
 use borrow.Author.Needs.{needs}
 use Rattle.counts.proofs.write_low.Statement.{statement}
 use Rattle.counts.proofs.write_low.Tie as tie

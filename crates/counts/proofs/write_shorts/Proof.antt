@@ -5,7 +5,7 @@ use borrow.Author.Needs.{needs}
 use lib.ListN.{length}
 use Rattle.sink.specs.Run.{same, Todo, todo-start, todo-turn, todo-done}
 use Rattle.sink.specs.World.{world, step, rowOver}
-use Rattle.counts.specs.UnitLines.{shortsFrom, shorts-start, shorts-turn, shorts-end}
+use Rattle.counts.proofs.laws.UnitLines.{shortsFrom, shorts-start, shorts-turn, shorts-end}
 use Rattle.counts.proofs.write_shorts.Statement.{statement}
 use Rattle.counts.proofs.write_shorts.Tie as tie
 

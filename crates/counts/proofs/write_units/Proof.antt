@@ -5,7 +5,8 @@ use borrow.Author.Needs.{needs}
 use lib.ListN.{length}
 use Rattle.sink.specs.Run.{Todo, todo-start, todo-turn, todo-done}
 use Rattle.sink.specs.World.{world, step, rowOver}
-use Rattle.counts.specs.UnitLines.{turned, unitsFrom, units-start, units-turn, units-end}
+use Rattle.counts.specs.UnitLines.{turned, unitsFrom}
+use Rattle.counts.proofs.laws.UnitLines.{units-start, units-turn, units-end}
 use Rattle.counts.proofs.write_units.Statement.{statement}
 use Rattle.counts.proofs.write_units.Tie as tie
 

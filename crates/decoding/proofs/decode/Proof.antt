@@ -44,7 +44,7 @@ use Rattle.walks.proofs.Slices.{slice, Bytes, IsSlice, slice-same}
 use Rattle.walks.proofs.Calls.{calls-to, calls-giving}
 use Rattle.evaluation.specs.Evaluated.{partOf, answerOf}
 use Rattle.model.specs.Answers.{EvaluatedAs}
-use Rattle.decoding.specs.Given.{Gives, decoded-as}
+use Rattle.decoding.proofs.laws.Given.{Gives, decoded-as}
 use Rattle.decoding.specs.declared.Decoding.{Decoding}
 use Rattle.evaluation.specs.declared.Evaluation.{Evaluation}
 use Rattle.evaluation.proofs.Values.{IsEvaluation, evaluation-same, answer-val, IsAnswer, answer-same}

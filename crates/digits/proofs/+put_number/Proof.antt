@@ -1,6 +1,6 @@
 use borrow.Author.Needs.{needs}
 use Rattle.digits.specs.Run.{then}
-use Rattle.digits.specs.Decimal.{digits-none, digits-small, digits-next}
+use Rattle.digits.proofs.laws.Decimal.{digits-none, digits-small, digits-next}
 use Prim.Native.Nat.{ℕ, _<_}
 use borrow.Fn.Kinds.{In}
 use borrow.Fn.PlainCycle.{Measures, is, falls, and}

@@ -1,7 +1,7 @@
 use mathlib.Core.Path.{sym, ap}
 use native.Mathlib.Omega.{arith}
 use lib.ListN.{length}
-use Rattle.digits.specs.Decimal.{digits-small, digits-length}
+use Rattle.digits.proofs.laws.Decimal.{digits-small, digits-length}
 use Rattle.digits.proofs.count_digits.Statement.{statement}
 use Rattle.digits.proofs.count_digits.Tie as tie
 

@@ -2,7 +2,7 @@ use native.Mathlib.Omega.{arith}
 use Prim.Native.Nat.{_≤_}
 use lib.ListN.{length}
 use Rattle.scope.specs.Text.{decimal}
-use Rattle.digits.specs.Decimal.{digits-most}
+use Rattle.digits.proofs.laws.Decimal.{digits-most}
 use Rattle.digits.proofs.Literal.{number-ran}
 use borrow.Author.Needs.{needs}
 use Rattle.digits.proofs.fast_number.Statement.{statement}

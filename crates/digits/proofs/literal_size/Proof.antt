@@ -1,6 +1,6 @@
 use Prim.Native.Nat.{_/_}
 use native.Mathlib.Omega.{arith}
-use Rattle.digits.specs.Decimal.{digits-most}
+use Rattle.digits.proofs.laws.Decimal.{digits-most}
 use Rattle.digits.proofs.Literal.{literal-length}
 use borrow.Author.Needs.{needs}
 use Rattle.digits.proofs.literal_size.Statement.{statement}

@@ -3,7 +3,7 @@ use Prim.Native.Nat.{_≤_}
 use native.Mathlib.Omega.{arith}
 use lib.ListN.{length}
 use Rattle.scope.specs.Text.{decimal}
-use Rattle.digits.specs.Decimal.{digits-most}
+use Rattle.digits.proofs.laws.Decimal.{digits-most}
 use Rattle.digits.proofs.Literal.{size-ran}
 use borrow.Author.Needs.{needs}
 use Rattle.digits.proofs.number_size.Statement.{statement}

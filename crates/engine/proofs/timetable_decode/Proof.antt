@@ -1,7 +1,7 @@
 -- `timetable_decode` meets its contract: the evaluation, and what it leaves.
 use mathlib.Core.Path.{_∙_}
 use borrow.Author.Needs.{needs}
-use Rattle.engine.specs.Decoded.{evaluation-call}
+use Rattle.engine.proofs.laws.Decoded.{evaluation-call}
 use Rattle.engine.proofs.timetable_decode.Statement.{statement}
 use Rattle.engine.proofs.timetable_decode.Tie as tie
 

@@ -1,5 +1,5 @@
 -- `timetable_text` meets its contract: the operation's answer, and what it leaves.
-use Rattle.operation_calls.specs.Returned.{text-told}
+use Rattle.operation_calls.proofs.laws.Returned.{text-told}
 use borrow.Author.Needs.{needs}
 use Rattle.engine.proofs.timetable_text.Statement.{statement}
 use Rattle.engine.proofs.timetable_text.Tie as tie

@@ -1,6 +1,6 @@
 -- `header::header_size` meets its contract: ten bytes beside the three numbers.
 use native.Mathlib.Omega.{arith}
-use Rattle.header.specs.Header.{header-length}
+use Rattle.header.proofs.laws.Header.{header-length}
 use borrow.Author.Needs.{needs}
 use Rattle.header.proofs.header_size.Statement.{statement}
 use Rattle.header.proofs.header_size.Tie as tie

@@ -1,6 +1,6 @@
 -- `header::write_header` meets its contract: four runs of stores, one after another.
 use Rattle.digits.specs.Run.{then, same}
-use Rattle.header.specs.Header.{header-fields}
+use Rattle.header.proofs.laws.Header.{header-fields}
 use borrow.Author.Needs.{needs}
 use Rattle.header.proofs.write_header.Statement.{statement}
 use Rattle.header.proofs.write_header.Tie as tie

@@ -1,7 +1,7 @@
 -- `items::columns` meets its contract.
 use mathlib.Core.Path.{sym}
 use native.Mathlib.Omega.{arith}
-use Rattle.items.specs.Counted.{columns-hard, columns-soft}
+use Rattle.items.proofs.laws.Counted.{columns-hard, columns-soft}
 use borrow.Author.Needs.{needs}
 use Rattle.items.proofs.columns.Statement.{statement}
 use Rattle.items.proofs.columns.Tie as tie

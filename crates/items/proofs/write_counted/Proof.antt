@@ -1,6 +1,6 @@
 -- `items::write_counted` meets its contract.
 use native.Mathlib.Omega.{arith}
-use Rattle.items.specs.Counted.{counted-gates, counted-wrote}
+use Rattle.items.proofs.laws.Counted.{counted-gates, counted-wrote}
 use borrow.Author.Needs.{needs}
 use Rattle.items.proofs.write_counted.Statement.{statement}
 use Rattle.items.proofs.write_counted.Tie as tie

@@ -2,7 +2,7 @@
 use borrow.Author.Needs.{needs}
 use mathlib.Core.Path.{refl}
 use native.Mathlib.Omega.{arith}
-use Rattle.model_truth.specs.Truth.{truth-run}
+use Rattle.model_truth.proofs.laws.Truth.{truth-run}
 use Rattle.model_truth.proofs.truth_of.Statement.{statement}
 use Rattle.model_truth.proofs.truth_of.Tie as tie
 

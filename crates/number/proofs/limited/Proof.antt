@@ -1,7 +1,7 @@
 -- `number::limited` meets its contract: a number, then the tests of `limited`, one step of the sequence each.
 use borrow.Author.Needs.{needs}
 use Rattle.scope.specs.Number.{limited}
-use Rattle.number.specs.Sequence.{sequence}
+use Rattle.number.proofs.laws.Sequence.{sequence}
 use Rattle.number.proofs.limited.Statement.{statement}
 use Rattle.number.proofs.limited.Tie as tie
 

@@ -1,7 +1,7 @@
 -- `number::reference` meets its contract: a number, then the tests of `reference`, one step of the sequence each.
 use borrow.Author.Needs.{needs}
 use Rattle.scope.specs.Number.{reference}
-use Rattle.number.specs.Sequence.{sequence}
+use Rattle.number.proofs.laws.Sequence.{sequence}
 use Rattle.number.proofs.reference.Statement.{statement}
 use Rattle.number.proofs.reference.Tie as tie
 

@@ -6,7 +6,8 @@ use native.Mathlib.Omega.{arith}
 use borrow.Author.Needs.{needs}
 use lib.ListN.{length, take}
 use Rattle.tables.specs.Rows.{rowAt}
-use Rattle.resource_uses.specs.Uses.{EventAdded, event-none, next-counts, next-addable, adding}
+use Rattle.resource_uses.specs.Uses.{EventAdded}
+use Rattle.resource_uses.proofs.laws.Uses.{event-none, next-counts, next-addable, adding}
 use Rattle.resource_uses.proofs.add_event.Statement.{statement}
 use Rattle.resource_uses.proofs.add_event.Tie as tie
 

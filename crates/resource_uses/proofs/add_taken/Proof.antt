@@ -3,7 +3,8 @@ use Prim.Native.Nat.{_+_, _≤_, _<_, _-_}
 use native.Mathlib.Omega.{arith}
 use borrow.Author.Needs.{needs}
 use lib.ListN.{length}
-use Rattle.resource_uses.specs.Uses.{RowAdded, added-none, added-more, added-room, added-end}
+use Rattle.resource_uses.specs.Uses.{RowAdded}
+use Rattle.resource_uses.proofs.laws.Uses.{added-none, added-more, added-room, added-end}
 use Rattle.resource_uses.proofs.add_taken.Statement.{statement}
 use Rattle.resource_uses.proofs.add_taken.Tie as tie
 

@@ -4,7 +4,8 @@ use mathlib.Core.Path.{_≡_, _∙_}
 use native.Mathlib.Omega.{arith}
 use borrow.Author.Needs.{needs}
 use lib.ListN.{length}
-use Rattle.resource_uses.specs.Uses.{UsesOf, uses-none, uses-more, uses-end, uses-addable}
+use Rattle.resource_uses.specs.Uses.{UsesOf}
+use Rattle.resource_uses.proofs.laws.Uses.{uses-none, uses-more, uses-end, uses-addable}
 use Rattle.resource_uses.proofs.count_uses.Statement.{statement}
 use Rattle.resource_uses.proofs.count_uses.Tie as tie
 

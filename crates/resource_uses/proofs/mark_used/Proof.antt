@@ -4,7 +4,7 @@ use mathlib.Core.Path.{_≡_}
 use native.Mathlib.Omega.{arith}
 use borrow.Author.Needs.{needs}
 use lib.ListN.{length, length-set}
-use Rattle.resource_uses.specs.Uses.{MarkedTo, marked-none, marked-more, marked-end}
+use Rattle.resource_uses.proofs.laws.Uses.{MarkedTo, marked-none, marked-more, marked-end}
 use Rattle.resource_uses.proofs.mark_used.Statement.{statement}
 use Rattle.resource_uses.proofs.mark_used.Tie as tie
 

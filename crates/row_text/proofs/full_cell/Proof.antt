@@ -1,7 +1,7 @@
 use native.Mathlib.Omega.{arith}
 use Rattle.scope.specs.Text.{line}
 use Rattle.sink.specs.Run.{then, same}
-use Rattle.sink.specs.Lines.{flat-append}
+use Rattle.sink.proofs.laws.Lines.{flat-append}
 use Rattle.row_words.specs.Cells.{upperClauses, lowerClauses}
 use borrow.Author.Needs.{needs}
 use Rattle.row_text.proofs.full_cell.Statement.{statement}

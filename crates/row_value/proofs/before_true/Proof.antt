@@ -1,7 +1,7 @@
 use mathlib.Core.Path.{_∙_, ap}
 use Rattle.scope.specs.Cnf.{bit, lit}
 use Rattle.sink.specs.World.{rowOver}
-use Rattle.row_value.specs.Evaluate.{column-reached, column-carried}
+use Rattle.row_value.proofs.laws.Evaluate.{column-reached, column-carried}
 use borrow.Author.Needs.{needs}
 use Rattle.row_value.proofs.before_true.Statement.{statement}
 use Rattle.row_value.proofs.before_true.Tie as tie

@@ -1,5 +1,5 @@
 use mathlib.Core.Path.{_∙_}
-use Rattle.row_value.specs.Evaluate.{column-none, column-some}
+use Rattle.row_value.proofs.laws.Evaluate.{column-none, column-some}
 use borrow.Author.Needs.{needs}
 use Rattle.row_value.proofs.column_true.Statement.{statement}
 use Rattle.row_value.proofs.column_true.Tie as tie

@@ -1,4 +1,4 @@
-use Rattle.row_value.specs.Evaluate.{beq-true}
+use Rattle.row_value.proofs.laws.Evaluate.{beq-true}
 use Rattle.row_value.proofs.equal.Statement.{statement}
 use Rattle.row_value.proofs.equal.Tie as tie
 

@@ -1,4 +1,4 @@
-use Rattle.row_value.specs.Evaluate.{row-first, row-later}
+use Rattle.row_value.proofs.laws.Evaluate.{row-first, row-later}
 use borrow.Author.Needs.{needs}
 use Rattle.row_value.proofs.row_clauses.Statement.{statement}
 use Rattle.row_value.proofs.row_clauses.Tie as tie

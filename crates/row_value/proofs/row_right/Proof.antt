@@ -4,7 +4,8 @@ use native.Mathlib.Omega.{arith}
 use borrow.Author.Needs.{needs}
 use Rattle.laws.specs.Booleans.{never-true}
 use Rattle.scope.specs.Cnf.{bit}
-use Rattle.row_value.specs.Evaluate.{Right, right-none, right-more, right-all, not-false}
+use Rattle.row_value.specs.Evaluate.{Right}
+use Rattle.row_value.proofs.laws.Evaluate.{right-none, right-more, right-all, not-false}
 use Rattle.row_value.proofs.row_right.Statement.{statement}
 use Rattle.row_value.proofs.row_right.Tie as tie
 

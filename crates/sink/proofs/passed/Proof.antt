@@ -1,6 +1,6 @@
 use mathlib.Core.Path.{ap, _∙_}
 use Rattle.sink.specs.World.{sinkAt}
-use Rattle.sink.specs.AllTrue.{counted-none, counted-some}
+use Rattle.sink.proofs.laws.AllTrue.{counted-none, counted-some}
 use borrow.Author.Needs.{needs}
 use Rattle.sink.proofs.passed.Statement.{statement}
 use Rattle.sink.proofs.passed.Tie as tie

@@ -4,7 +4,8 @@ use native.Mathlib.Omega.{arith}
 use lib.Seq.{slice}
 use Rattle.theory.specs.Marked.{standing, falsified}
 use Rattle.marks.specs.Marks.{marksOf}
-use Rattle.standing.specs.Clauses.{stands, part-slice, standing-next, standing-end}
+use Rattle.standing.specs.Clauses.{stands}
+use Rattle.standing.proofs.laws.Clauses.{part-slice, standing-next, standing-end}
 use borrow.Author.Needs.{needs}
 use Rattle.standing.proofs.standing_of.Statement.{statement}
 use Rattle.standing.proofs.standing_of.Tie as tie

@@ -3,7 +3,8 @@ use Prim.Native.Nat.{_-_}
 use native.Mathlib.Omega.{arith}
 use lib.ListN.{length}
 use lib.Seq.{slice}
-use Rattle.standing.specs.Clauses.{wiped, part-slice, wiped-next, wiped-end}
+use Rattle.standing.specs.Clauses.{wiped}
+use Rattle.standing.proofs.laws.Clauses.{part-slice, wiped-next, wiped-end}
 use borrow.Author.Needs.{needs}
 use Rattle.standing.proofs.wipe_clause.Statement.{statement}
 use Rattle.standing.proofs.wipe_clause.Tie as tie

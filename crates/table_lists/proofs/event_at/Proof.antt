@@ -1,7 +1,7 @@
 -- `table_lists::event_at` meets its contract: a duration, then a row, a step of the sequence each.
 use borrow.Author.Needs.{needs}
 use Rattle.scope.specs.Instance.{eventAt}
-use Rattle.table_lists.specs.Sequence.{sequence}
+use Rattle.table_lists.proofs.laws.Sequence.{sequence}
 use Rattle.table_lists.proofs.event_at.Statement.{statement}
 use Rattle.table_lists.proofs.event_at.Tie as tie
 

@@ -7,10 +7,10 @@ use native.Mathlib.Omega.{arith}
 use lib.ListN.{length, length-set, length-take, length-drop}
 use Rattle.scope.specs.Parsed.{repeat}
 use Rattle.scope.specs.Instance.{eventAt}
-use Rattle.parsing.specs.Parsing.{before, before-nil, repeat-more, repeat-refused, repeat-end}
-use Rattle.table_lists.specs.Sequence.{event-value, event-refused}
+use Rattle.parsing.proofs.laws.Parsing.{before, before-nil, repeat-more, repeat-refused, repeat-end}
+use Rattle.table_lists.proofs.laws.Sequence.{event-value, event-refused}
 use Rattle.tables.specs.Rows.{eventsOf}
-use Rattle.tables.specs.Reading.{event-got}
+use Rattle.tables.proofs.laws.Reading.{event-got}
 use Rattle.table_lists.proofs.Writing.{events-more}
 use Rattle.table_lists.proofs.events_at.Statement.{statement}
 use Rattle.table_lists.proofs.events_at.Tie as tie

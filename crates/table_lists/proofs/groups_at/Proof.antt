@@ -8,9 +8,9 @@ use lib.ListN.{length, length-take, length-drop}
 use Rattle.scope.specs.Parsed.{repeat}
 use Rattle.scope.specs.Number.{listed}
 use Rattle.scope.specs.Instance.{groupsAt}
-use Rattle.number.specs.Sequence.{limited-value}
-use Rattle.parsing.specs.Parsing.{before, before-nil, repeat-more, repeat-refused, repeat-end}
-use Rattle.table_lists.specs.Sequence.{row-value, row-refused}
+use Rattle.number.proofs.laws.Sequence.{limited-value}
+use Rattle.parsing.proofs.laws.Parsing.{before, before-nil, repeat-more, repeat-refused, repeat-end}
+use Rattle.table_lists.proofs.laws.Sequence.{row-value, row-refused}
 use Rattle.tables.specs.Rows.{rows}
 use Rattle.table_lists.proofs.Stops.{count-stop}
 use Rattle.table_lists.proofs.Writing.{rows-more}

@@ -8,8 +8,8 @@ use lib.ListN.{length, getD, set, length-set}
 use lib.Seq.{getD-set-same, getD-set-other}
 use Rattle.scope.specs.Number.{listed}
 use Rattle.number.specs.Answers.{said}
-use Rattle.number.specs.Sequence.{limited-value, reference-value}
-use Rattle.number.specs.Lists.{leftAfter, list-start, list-refused, list-more, list-end}
+use Rattle.number.proofs.laws.Sequence.{limited-value, reference-value}
+use Rattle.number.proofs.laws.Lists.{leftAfter, list-start, list-refused, list-more, list-end}
 use Rattle.table_lists.proofs.Writing.{rowOf-count}
 use Rattle.table_lists.proofs.row_at.Statement.{statement}
 use Rattle.table_lists.proofs.row_at.Tie as tie

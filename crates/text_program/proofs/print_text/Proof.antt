@@ -1,6 +1,6 @@
 -- `print_text` meets its contract: a longer file, the text, or a refusal.
 use native.Mathlib.Omega.{arith}
-use Rattle.text_program.specs.Prints.{long-prints, accepted-prints, refused-prints}
+use Rattle.text_program.proofs.laws.Prints.{long-prints, accepted-prints, refused-prints}
 use borrow.Author.Needs.{needs}
 use Rattle.text_program.proofs.print_text.Statement.{statement}
 use Rattle.text_program.proofs.print_text.Tie as tie

@@ -1,7 +1,7 @@
 -- `put_refusal` meets its contract: four runs of stores, which fit.
 use native.Mathlib.Omega.{arith}
 use Rattle.sink.specs.Run.{then}
-use Rattle.text_program.specs.Prints.{refusal-prints}
+use Rattle.text_program.proofs.laws.Prints.{refusal-prints}
 use borrow.Author.Needs.{needs}
 use Rattle.text_program.proofs.put_refusal.Statement.{statement}
 use Rattle.text_program.proofs.put_refusal.Tie as tie

@@ -4,10 +4,10 @@ use Prim.Native.Nat.{_+_}
 use native.Mathlib.Omega.{arith}
 use lib.ListN.{take}
 use Rattle.scope.specs.declared.Layout.{Layout}
-use Rattle.literals.specs.Variables.{starts-block}
+use Rattle.literals.proofs.laws.Variables.{starts-block}
 use Rattle.user_table.specs.Filled.{usersAt}
 use Rattle.before_clauses.specs.Before.{blocks-wrote}
-use Rattle.before_clauses.specs.Blocks.{begun-sizes, begun-uses, begun-durations}
+use Rattle.before_clauses.proofs.laws.Blocks.{begun-sizes, begun-uses, begun-durations}
 use Rattle.before_clauses.proofs.before.write_before.Statement.{statement}
 use Rattle.before_clauses.proofs.before.write_before.Tie as tie
 

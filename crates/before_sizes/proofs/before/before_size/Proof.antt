@@ -2,8 +2,8 @@
 use borrow.Author.Needs.{needs}
 use mathlib.Core.Path.{refl}
 use native.Mathlib.Omega.{arith}
-use Rattle.sizing.specs.Sums.{within-more}
-use Rattle.before_sizes.specs.Before.{rest-within, blocks-within, blocks-size}
+use Rattle.sizing.proofs.laws.Sums.{within-more}
+use Rattle.before_sizes.proofs.laws.Before.{rest-within, blocks-within, blocks-size}
 use Rattle.before_sizes.proofs.before.before_size.Statement.{statement}
 use Rattle.before_sizes.proofs.before.before_size.Tie as tie
 

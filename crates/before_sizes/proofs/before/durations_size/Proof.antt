@@ -5,9 +5,10 @@ use mathlib.Core.Path.{_≡_}
 use mathlib.Core.List.{List}
 use native.Mathlib.Omega.{arith}
 use Rattle.tables.specs.Rows.{eventsOf}
-use Rattle.sizing.specs.Sums.{Within, within-more, within-none}
+use Rattle.sizing.specs.Sums.{Within}
+use Rattle.sizing.proofs.laws.Sums.{within-more, within-none}
 use Rattle.measuring.specs.Blocks.{durationsSize}
-use Rattle.before_sizes.specs.Before.{durations-sum-within, durations-more}
+use Rattle.before_sizes.proofs.laws.Before.{durations-sum-within, durations-more}
 use Rattle.before_sizes.proofs.before.durations_size.Statement.{statement}
 use Rattle.before_sizes.proofs.before.durations_size.Tie as tie
 

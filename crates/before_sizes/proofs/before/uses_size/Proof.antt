@@ -6,9 +6,11 @@ use mathlib.Core.Path.{_≡_}
 use mathlib.Core.List.{List}
 use native.Mathlib.Omega.{arith}
 use Rattle.scope.specs.Kinds.{Event, from, upTo}
-use Rattle.sizing.specs.Sums.{sum as together, Within, within-more, within-none}
+use Rattle.sizing.specs.Sums.{sum as together, Within}
+use Rattle.sizing.proofs.laws.Sums.{within-more, within-none}
 use Rattle.measuring.specs.Blocks.{usesSize}
-use Rattle.before_sizes.specs.Before.{Users, uses-sum-within, uses-start, uses-more, uses-end}
+use Rattle.before_sizes.specs.Before.{Users}
+use Rattle.before_sizes.proofs.laws.Before.{uses-sum-within, uses-start, uses-more, uses-end}
 use Rattle.before_sizes.proofs.before.uses_size.Statement.{statement}
 use Rattle.before_sizes.proofs.before.uses_size.Tie as tie
 

@@ -68,7 +68,7 @@ use Rattle.checker.proofs.check.Symbol as check-def
 use Rattle.checker.proofs.check.Symbol.{name as #check}
 use Rattle.checker.proofs.check.Met as check-thm
 use Rattle.cost_bound.specs.Claimed.{claimFor, judged}
-use Rattle.best.specs.Best.{best-answered}
+use Rattle.best.proofs.laws.Best.{best-answered}
 use Rattle.best.proofs.Values.{IsBestAnswer, best-same, best-typed, claim-same}
 use Rattle.cost_bound.proofs.claim_for as claim-for
 use Rattle.cost_bound.proofs.claim_for.Symbol as claim-for-def

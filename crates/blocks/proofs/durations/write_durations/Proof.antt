@@ -5,8 +5,8 @@ use native.Mathlib.Omega.{arith}
 use lib.ListN.{length}
 use Rattle.sink.specs.World.{world, step}
 use Rattle.literals.specs.Numbered.{allNumbered}
-use Rattle.items.specs.Held.{held-length, front-literals}
-use Rattle.items.specs.Lists.{plain-room, plain-wrote, lists-turn, lists-room, lists-end}
+use Rattle.items.proofs.laws.Held.{held-length, front-literals}
+use Rattle.items.proofs.laws.Lists.{plain-room, plain-wrote, lists-turn, lists-room, lists-end}
 use Rattle.items.specs.Written.{Left, left-start, left-room, left-end}
 use Rattle.blocks.proofs.EventDuration.{ys-length, ys-proper, durationsLeft, durations-turn, durations-end}
 use borrow.Author.Needs.{needs}

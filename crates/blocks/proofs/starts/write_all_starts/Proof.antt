@@ -9,7 +9,7 @@ use Rattle.scope.specs.Cnf.{Item}
 use Rattle.sink.specs.World.{world, step}
 use Rattle.literals.specs.Numbered.{startClauses}
 use Rattle.items.specs.Written.{Left, left-start, left-turn, left-end}
-use Rattle.items.specs.Numbers.{after, after-start, flat-turn, flat-end}
+use Rattle.items.proofs.laws.Numbers.{after, after-start, flat-turn, flat-end}
 use Rattle.blocks.proofs.EventStart.{event-wrote}
 use borrow.Author.Needs.{needs}
 use Rattle.blocks.proofs.starts.write_all_starts.Statement.{statement}

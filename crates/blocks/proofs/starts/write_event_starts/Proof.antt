@@ -8,7 +8,7 @@ use lib.ListN.{length}
 use Rattle.sink.specs.World.{world, step}
 use Rattle.literals.specs.Numbered.{startClauses}
 use Rattle.items.specs.Written.{Left, left-start, left-turn, left-end}
-use Rattle.items.specs.Numbers.{after, after-start, flat-turn, flat-end}
+use Rattle.items.proofs.laws.Numbers.{after, after-start, flat-turn, flat-end}
 use Rattle.blocks.proofs.EventStart.{start-wrote}
 use borrow.Author.Needs.{needs}
 use Rattle.blocks.proofs.starts.write_event_starts.Statement.{statement}

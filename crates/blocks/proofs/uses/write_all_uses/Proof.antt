@@ -5,7 +5,8 @@ use native.Mathlib.Nat.{mul-le-mul-right}
 use native.Mathlib.Omega.{arith}
 use lib.ListN.{length}
 use Rattle.sink.specs.World.{world, step}
-use Rattle.user_table.specs.Filled.{usersAt, part-room, part-holds, part-within}
+use Rattle.user_table.specs.Filled.{usersAt}
+use Rattle.user_table.proofs.laws.Filled.{part-room, part-holds, part-within}
 use Rattle.items.specs.Written.{Left, left-start, left-turn, left-end}
 use Rattle.blocks.proofs.ResourceUse.{resource-wrote, allUses, all-start, all-turn, all-end}
 use borrow.Author.Needs.{needs}

@@ -69,7 +69,8 @@ use Rattle.checker.proofs.answer.follow.Met as follow-thm
 use Rattle.claims.specs.declared.claim.Claim.{Claim}
 use Rattle.claims.specs.declared.prepare.Ready.{Ready}
 use Rattle.claims.specs.Prepared.{lent as stores, asked, Prepared}
-use Rattle.checker.specs.Checked.{Follows, zeros-kept, checked}
+use Rattle.checker.specs.Checked.{Follows}
+use Rattle.checker.proofs.laws.Checked.{zeros-kept, checked}
 use Rattle.checker.proofs.Values.{IsAnswer, answer-same, answer-typed, IsReady, ready-same, ready-typed, IsClaim, claim-typed}
 use Rattle.claims.proofs.claim.Claim as G
 use Rattle.claims.proofs.claim.Claim.Laws as G′

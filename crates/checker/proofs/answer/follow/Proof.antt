@@ -62,7 +62,8 @@ use Rattle.run.proofs.drive.drive.Symbol as drive-def
 use Rattle.run.proofs.drive.drive.Symbol.{name as #drive}
 use Rattle.run.proofs.drive.drive.Met as drive-thm
 use Rattle.claims.specs.declared.prepare.Ready.{Ready}
-use Rattle.checker.specs.Checked.{Follows, follows-formula, follows-refused}
+use Rattle.checker.specs.Checked.{Follows}
+use Rattle.checker.proofs.laws.Checked.{follows-formula, follows-refused}
 use Rattle.checker.proofs.Values.{IsAnswer, answer-same, answer-typed, IsReady, ready-typed}
 use Rattle.claims.proofs.prepare.Ready as Y
 use Rattle.claims.proofs.prepare.Ready.Laws as Y′

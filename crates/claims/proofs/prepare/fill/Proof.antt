@@ -1,6 +1,6 @@
 -- `prepare::fill` meets its contract: a case for each claim.
 use borrow.Author.Needs.{needs}
-use Rattle.claims.specs.Prepared.{prepared-claim}
+use Rattle.claims.proofs.laws.Prepared.{prepared-claim}
 use Rattle.claims.proofs.prepare.fill.Statement.{statement}
 use Rattle.claims.proofs.prepare.fill.Tie as tie
 

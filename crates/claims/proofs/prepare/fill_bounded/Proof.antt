@@ -2,8 +2,8 @@
 use borrow.Author.Needs.{needs}
 use mathlib.Core.Path.{refl, sym, _∙_}
 use native.Mathlib.Omega.{arith}
-use Rattle.bounded_words.specs.Bounded.{bounding}
-use Rattle.claims.specs.Prepared.{refused-before, refused-short, formula-in, prepared-same}
+use Rattle.bounded_words.proofs.laws.Bounded.{bounding}
+use Rattle.claims.proofs.laws.Prepared.{refused-before, refused-short, formula-in, prepared-same}
 use Rattle.claims.proofs.prepare.fill_bounded.Statement.{statement}
 use Rattle.claims.proofs.prepare.fill_bounded.Tie as tie
 

@@ -2,8 +2,8 @@
 use borrow.Author.Needs.{needs}
 use mathlib.Core.Path.{refl, sym, _∙_}
 use native.Mathlib.Omega.{arith}
-use Rattle.bounded_words.specs.Bounded.{hard-writable}
-use Rattle.claims.specs.Prepared.{hard-refused, hard-short, hard-in, prepared-same}
+use Rattle.bounded_words.proofs.laws.Bounded.{hard-writable}
+use Rattle.claims.proofs.laws.Prepared.{hard-refused, hard-short, hard-in, prepared-same}
 use Rattle.claims.proofs.prepare.fill_hard.Statement.{statement}
 use Rattle.claims.proofs.prepare.fill_hard.Tie as tie
 

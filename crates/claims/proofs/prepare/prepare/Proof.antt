@@ -1,6 +1,6 @@
 -- `prepare::prepare` meets its contract: the marks are cleared, then the formula is written.
 use borrow.Author.Needs.{needs}
-use Rattle.claims.specs.Prepared.{prepared-bytes}
+use Rattle.claims.proofs.laws.Prepared.{prepared-bytes}
 use Rattle.claims.proofs.prepare.prepare.Statement.{statement}
 use Rattle.claims.proofs.prepare.prepare.Tie as tie
 

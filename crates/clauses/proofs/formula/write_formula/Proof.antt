@@ -1,10 +1,10 @@
 -- `formula::write_formula` meets its contract.
 use Prim.Native.Nat.{ℕ}
 use lib.ListN.{length-replicate}
-use Rattle.instance.specs.Ready.{zeros}
-use Rattle.clauses.specs.Position.{ran-placed}
-use Rattle.fitting.specs.Known.{known-rows}
-use Rattle.clauses.specs.Whole.{whole-begun, whole-walkable, whole-ran}
+use Rattle.instance.proofs.laws.Ready.{zeros}
+use Rattle.clauses.proofs.laws.Position.{ran-placed}
+use Rattle.fitting.proofs.laws.Known.{known-rows}
+use Rattle.clauses.proofs.laws.Whole.{whole-begun, whole-walkable, whole-ran}
 use borrow.Author.Needs.{needs}
 use Rattle.clauses.proofs.formula.write_formula.Statement.{statement}
 use Rattle.clauses.proofs.formula.write_formula.Tie as tie

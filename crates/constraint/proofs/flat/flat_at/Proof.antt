@@ -1,5 +1,5 @@
 -- `constraint::flat::flat_at` meets its contract: kind, weight and fields in turn.
-use Rattle.number.specs.Sequence.{sequence}
+use Rattle.number.proofs.laws.Sequence.{sequence}
 use Rattle.constraint.specs.Answers.{countsIn}
 use Rattle.constraint.specs.Decoded.{decodedAt}
 use Rattle.constraint.proofs.Decoding.{decoded-fields}

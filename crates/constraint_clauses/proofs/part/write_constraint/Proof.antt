@@ -1,5 +1,5 @@
 use native.Mathlib.Omega.{arith}
-use Rattle.sink.specs.Lend.{base-within, lent, lent-before}
+use Rattle.sink.proofs.laws.Lend.{base-within, lent, lent-before}
 use borrow.Author.Needs.{needs}
 use Rattle.constraint_clauses.proofs.part.write_constraint.Statement.{statement}
 use Rattle.constraint_clauses.proofs.part.write_constraint.Tie as tie

@@ -4,12 +4,12 @@ use borrow.Author.Tests.{ne-eqb}
 use Prim.Native.Nat.{_≤_}
 use mathlib.Core.Path.{_∙_}
 use native.Mathlib.Omega.{arith}
-use Rattle.parsing.specs.Numbers.{ascending-length}
-use Rattle.number.specs.Lists.{length-leading}
-use Rattle.tables.specs.Laws.{group-row}
+use Rattle.parsing.proofs.laws.Numbers.{ascending-length}
+use Rattle.number.proofs.laws.Lists.{length-leading}
+use Rattle.tables.proofs.laws.Laws.{group-row}
 use Rattle.fields.specs.Made.{kindFrom}
 use Rattle.constraint_end.specs.Length.{listLength}
-use Rattle.constraint_end.specs.Inner.{one-in, ascending-in, inner-rows}
+use Rattle.constraint_end.proofs.laws.Inner.{one-in, ascending-in, inner-rows}
 use Rattle.constraint_end.proofs.by_kind.list_length.Statement.{statement}
 use Rattle.constraint_end.proofs.by_kind.list_length.Tie as tie
 

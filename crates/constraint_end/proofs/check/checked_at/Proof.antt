@@ -5,8 +5,8 @@ use Rattle.number.specs.Lists.{leading}
 use Rattle.fields.specs.Made.{kindFrom}
 use Rattle.constraint.specs.Answers.{saidFlatNext}
 use Rattle.constraint.specs.Decoded.{checkedAt}
-use Rattle.constraint.specs.Valid.{decoded-got}
-use Rattle.constraint_end.specs.Ready.{ready-kept}
+use Rattle.constraint.proofs.laws.Valid.{decoded-got}
+use Rattle.constraint_end.proofs.laws.Ready.{ready-kept}
 use Rattle.constraint_end.proofs.check.checked_at.Statement.{statement}
 use Rattle.constraint_end.proofs.check.checked_at.Tie as tie
 

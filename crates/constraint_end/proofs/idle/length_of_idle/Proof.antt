@@ -6,7 +6,8 @@ use mathlib.Core.Path.{_≡_}
 use native.Mathlib.Omega.{arith}
 use lib.ListN.{length, drop}
 use Rattle.number.specs.Lists.{leading}
-use Rattle.constraint_end.specs.Inner.{innerRows, listed-in, inner-more, inner-past}
+use Rattle.constraint_end.specs.Inner.{innerRows}
+use Rattle.constraint_end.proofs.laws.Inner.{listed-in, inner-more, inner-past}
 use Rattle.constraint_end.proofs.idle.length_of_idle.Statement.{statement}
 use Rattle.constraint_end.proofs.idle.length_of_idle.Tie as tie
 

@@ -8,7 +8,7 @@ use Rattle.user_table.specs.Filled.{usersAt}
 use Rattle.literals.specs.Tables.{groupIn}
 use Rattle.literals.specs.Numbered.{allNumbered}
 use Rattle.list_nodes.specs.Stored.{countedIn}
-use Rattle.items.specs.Lists.{lists-end}
+use Rattle.items.proofs.laws.Lists.{lists-end}
 use Rattle.items.specs.Written.{Left, left-start, left-room, left-end}
 use Rattle.constraint_lists.proofs.ListTurn.{listsLeft, none-left, list-fillable, list-stored, list-turn}
 use borrow.Author.Needs.{needs}

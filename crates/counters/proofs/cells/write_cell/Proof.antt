@@ -1,7 +1,7 @@
 use mathlib.Core.Path.{sym}
 use native.Mathlib.Omega.{arith}
 use lib.Seq.{length-take-le}
-use Rattle.row_words.specs.Cells.{gate-ran, stored-first}
+use Rattle.row_words.proofs.laws.Cells.{gate-ran, stored-first}
 use borrow.Author.Needs.{needs}
 use Rattle.counters.proofs.cells.write_cell.Statement.{statement}
 use Rattle.counters.proofs.cells.write_cell.Tie as tie

@@ -5,7 +5,7 @@ use borrow.Author.Needs.{needs}
 use lib.ListN.{length}
 use Rattle.sink.specs.Run.{Todo, todo-start, same, todo-turn, todo-done}
 use Rattle.sink.specs.World.{world, step}
-use Rattle.row_words.specs.Rows.{rowFrom, row-start, row-turn, row-end}
+use Rattle.row_words.proofs.laws.Rows.{rowFrom, row-start, row-turn, row-end}
 use Rattle.counters.proofs.cells.write_cells.Statement.{statement}
 use Rattle.counters.proofs.cells.write_cells.Tie as tie
 

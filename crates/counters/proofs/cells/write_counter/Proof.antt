@@ -5,11 +5,12 @@ use native.Mathlib.Omega.{arith}
 use borrow.Author.Needs.{needs}
 use lib.ListN.{length, drop}
 use Rattle.sink.specs.Run.{Todo, todo-start, todo-turn, todo-done, same}
-use Rattle.sink.specs.Lines.{gatesClauses, lines-gates}
-use Rattle.sink.specs.Skipped.{skipped}
+use Rattle.sink.specs.Lines.{gatesClauses}
+use Rattle.sink.proofs.laws.Lines.{lines-gates}
+use Rattle.sink.proofs.laws.Skipped.{skipped}
 use Rattle.scope.specs.Formula.{noRow, ones, counter}
 use Rattle.sink.specs.World.{world, step}
-use Rattle.row_words.specs.Rows.{counterFrom, counter-turn, counter-end, rows-left}
+use Rattle.row_words.proofs.laws.Rows.{counterFrom, counter-turn, counter-end, rows-left}
 use Rattle.counters.proofs.cells.write_counter.Statement.{statement}
 use Rattle.counters.proofs.cells.write_counter.Tie as tie
 

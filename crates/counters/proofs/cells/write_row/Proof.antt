@@ -2,12 +2,14 @@ use mathlib.Core.Path.{ap}
 use native.Mathlib.Omega.{arith}
 use Rattle.scope.specs.Formula.{row}
 use Rattle.sink.specs.Run.{same}
-use Rattle.sink.specs.Lines.{gatesClauses, lines-gates}
+use Rattle.sink.specs.Lines.{gatesClauses}
+use Rattle.sink.proofs.laws.Lines.{lines-gates}
 use Rattle.sink.specs.World.{rowOver}
 use Rattle.sink.specs.AllTrue.{evaluating}
-use Rattle.sink.specs.Skipped.{skipping, skipped}
+use Rattle.sink.specs.Skipped.{skipping}
+use Rattle.sink.proofs.laws.Skipped.{skipped}
 use Rattle.sink.proofs.AtOnce.{text-at-once, words-at-once, measure-at-once}
-use Rattle.row_value.specs.Evaluate.{row-passed}
+use Rattle.row_value.proofs.laws.Evaluate.{row-passed}
 use borrow.Author.Needs.{needs}
 use Rattle.counters.proofs.cells.write_row.Statement.{statement}
 use Rattle.counters.proofs.cells.write_row.Tie as tie

@@ -1,6 +1,7 @@
 -- `deviation::busy::of_busy` meets its contract. The resource's row and the group are there.
 use native.Mathlib.Omega.{arith}
-use Rattle.deviation.specs.Charge.{busyCharge, resource-row, group-row, group-inside}
+use Rattle.deviation.specs.Charge.{busyCharge}
+use Rattle.deviation.proofs.laws.Charge.{resource-row, group-row, group-inside}
 use borrow.Author.Needs.{needs}
 use Rattle.deviation.proofs.busy.of_busy.Statement.{statement}
 use Rattle.deviation.proofs.busy.of_busy.Tie as tie

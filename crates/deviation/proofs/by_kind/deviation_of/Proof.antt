@@ -1,6 +1,6 @@
 -- `deviation::by_kind::deviation_of` meets its contract. Each case hands its part of what is known to the function of its kind.
 use native.Mathlib.Omega.{arith}
-use Rattle.deviation.specs.Charge.{listed-in}
+use Rattle.deviation.proofs.laws.Charge.{listed-in}
 use borrow.Author.Needs.{needs}
 use Rattle.deviation.proofs.by_kind.deviation_of.Statement.{statement}
 use Rattle.deviation.proofs.by_kind.deviation_of.Tie as tie

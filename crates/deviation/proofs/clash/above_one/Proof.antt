@@ -5,7 +5,8 @@ use native.Mathlib.Omega.{arith}
 use borrow.Author.Needs.{needs}
 use lib.ListN.{getD}
 use Rattle.scope.specs.Kinds.{from, upTo}
-use Rattle.deviation.specs.Sums.{total, places-start, places-more, places-end}
+use Rattle.deviation.specs.Sums.{total}
+use Rattle.deviation.proofs.laws.Sums.{places-start, places-more, places-end}
 use Rattle.deviation.proofs.clash.above_one.Statement.{statement}
 use Rattle.deviation.proofs.clash.above_one.Tie as tie
 

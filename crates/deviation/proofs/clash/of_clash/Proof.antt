@@ -1,6 +1,7 @@
 -- `deviation::clash::of_clash` meets its contract. The resource's row is there.
 use native.Mathlib.Omega.{arith}
-use Rattle.deviation.specs.Charge.{clashCharge, resource-row}
+use Rattle.deviation.specs.Charge.{clashCharge}
+use Rattle.deviation.proofs.laws.Charge.{resource-row}
 use borrow.Author.Needs.{needs}
 use Rattle.deviation.proofs.clash.of_clash.Statement.{statement}
 use Rattle.deviation.proofs.clash.of_clash.Tie as tie

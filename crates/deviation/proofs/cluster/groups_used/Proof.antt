@@ -10,8 +10,9 @@ use Rattle.scope.specs.Score.{any}
 use Rattle.number.specs.Lists.{leading}
 use Rattle.tables.specs.Rows.{rowAt}
 use Rattle.timetable.specs.Bits.{marks}
-use Rattle.timetable.specs.Takers.{any-trues}
-use Rattle.deviation.specs.Sums.{total, sum-more, sum-end}
+use Rattle.timetable.proofs.laws.Takers.{any-trues}
+use Rattle.deviation.specs.Sums.{total}
+use Rattle.deviation.proofs.laws.Sums.{sum-more, sum-end}
 use Rattle.deviation.proofs.cluster.groups_used.Statement.{statement}
 use Rattle.deviation.proofs.cluster.groups_used.Tie as tie
 

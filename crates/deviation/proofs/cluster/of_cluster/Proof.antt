@@ -1,6 +1,7 @@
 -- `deviation::cluster::of_cluster` meets its contract. The resource's row and the listed groups are there.
 use native.Mathlib.Omega.{arith}
-use Rattle.deviation.specs.Charge.{clusterCharge, resource-row, groups-listed}
+use Rattle.deviation.specs.Charge.{clusterCharge}
+use Rattle.deviation.proofs.laws.Charge.{resource-row, groups-listed}
 use borrow.Author.Needs.{needs}
 use Rattle.deviation.proofs.cluster.of_cluster.Statement.{statement}
 use Rattle.deviation.proofs.cluster.of_cluster.Tie as tie

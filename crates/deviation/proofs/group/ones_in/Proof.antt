@@ -8,7 +8,7 @@ use lib.ListN.{length, drop}
 use Rattle.scope.specs.Score.{trues}
 use Rattle.tables.specs.Rows.{rowAt}
 use Rattle.timetable.specs.Bits.{marks}
-use Rattle.deviation.specs.Group.{time-low, time-there, ones-more, ones-end}
+use Rattle.deviation.proofs.laws.Group.{time-low, time-there, ones-more, ones-end}
 use Rattle.deviation.proofs.group.ones_in.Statement.{statement}
 use Rattle.deviation.proofs.group.ones_in.Tie as tie
 

@@ -6,8 +6,9 @@ use borrow.Author.Needs.{needs}
 use lib.ListN.{length, drop}
 use Rattle.tables.specs.Rows.{rowAt}
 use Rattle.timetable.specs.Bits.{marks}
-use Rattle.deviation.specs.Group.{time-low, time-there}
-use Rattle.deviation.specs.Idle.{idles, walked, walk-start, walk-more, walk-end}
+use Rattle.deviation.proofs.laws.Group.{time-low, time-there}
+use Rattle.deviation.specs.Idle.{idles}
+use Rattle.deviation.proofs.laws.Idle.{walked, walk-start, walk-more, walk-end}
 use Rattle.deviation.proofs.idle.idle_in.Statement.{statement}
 use Rattle.deviation.proofs.idle.idle_in.Tie as tie
 

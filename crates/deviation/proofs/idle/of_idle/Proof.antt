@@ -1,6 +1,7 @@
 -- `deviation::idle::of_idle` meets its contract. The resource's row and the listed groups are there.
 use native.Mathlib.Omega.{arith}
-use Rattle.deviation.specs.Charge.{idleCharge, resource-row, groups-listed}
+use Rattle.deviation.specs.Charge.{idleCharge}
+use Rattle.deviation.proofs.laws.Charge.{resource-row, groups-listed}
 use borrow.Author.Needs.{needs}
 use Rattle.deviation.proofs.idle.of_idle.Statement.{statement}
 use Rattle.deviation.proofs.idle.of_idle.Tie as tie

@@ -1,6 +1,7 @@
 -- `deviation::preferred::of_preferred` meets its contract. The event's row and the group are there.
 use native.Mathlib.Omega.{arith}
-use Rattle.deviation.specs.Charge.{preferredCharge, event-row, group-row, group-times}
+use Rattle.deviation.specs.Charge.{preferredCharge}
+use Rattle.deviation.proofs.laws.Charge.{event-row, group-row, group-times}
 use borrow.Author.Needs.{needs}
 use Rattle.deviation.proofs.preferred.of_preferred.Statement.{statement}
 use Rattle.deviation.proofs.preferred.of_preferred.Tie as tie

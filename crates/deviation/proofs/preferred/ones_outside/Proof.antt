@@ -1,6 +1,6 @@
 -- `deviation::preferred::ones_outside` meets its contract. All times are those of the group and those outside it.
-use Rattle.deviation.specs.Outside.{outside-rest}
-use Rattle.deviation.specs.Group.{ascending-inside}
+use Rattle.deviation.proofs.laws.Outside.{outside-rest}
+use Rattle.deviation.proofs.laws.Group.{ascending-inside}
 use borrow.Author.Needs.{needs}
 use Rattle.deviation.proofs.preferred.ones_outside.Statement.{statement}
 use Rattle.deviation.proofs.preferred.ones_outside.Tie as tie

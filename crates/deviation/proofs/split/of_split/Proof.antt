@@ -1,6 +1,7 @@
 -- `deviation::split::of_split` meets its contract. The event's row of starts is there.
 use native.Mathlib.Omega.{arith}
-use Rattle.deviation.specs.Charge.{splitCharge, start-row}
+use Rattle.deviation.specs.Charge.{splitCharge}
+use Rattle.deviation.proofs.laws.Charge.{start-row}
 use borrow.Author.Needs.{needs}
 use Rattle.deviation.proofs.split.of_split.Statement.{statement}
 use Rattle.deviation.proofs.split.of_split.Tie as tie

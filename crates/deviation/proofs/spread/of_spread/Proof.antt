@@ -1,5 +1,6 @@
 -- `deviation::spread::of_spread` meets its contract. The rows of starts of the listed events and the group are there.
-use Rattle.deviation.specs.Charge.{spreadCharge, events-listed}
+use Rattle.deviation.specs.Charge.{spreadCharge}
+use Rattle.deviation.proofs.laws.Charge.{events-listed}
 use borrow.Author.Needs.{needs}
 use Rattle.deviation.proofs.spread.of_spread.Statement.{statement}
 use Rattle.deviation.proofs.spread.of_spread.Tie as tie

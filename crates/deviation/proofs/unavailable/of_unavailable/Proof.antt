@@ -1,6 +1,7 @@
 -- `deviation::unavailable::of_unavailable` meets its contract. The resource's row and the group are there.
 use native.Mathlib.Omega.{arith}
-use Rattle.deviation.specs.Charge.{unavailableCharge, resource-row, group-row, group-inside}
+use Rattle.deviation.specs.Charge.{unavailableCharge}
+use Rattle.deviation.proofs.laws.Charge.{resource-row, group-row, group-inside}
 use borrow.Author.Needs.{needs}
 use Rattle.deviation.proofs.unavailable.of_unavailable.Statement.{statement}
 use Rattle.deviation.proofs.unavailable.of_unavailable.Tie as tie

@@ -55,7 +55,7 @@ use Rattle.best.proofs.best.Symbol.{name as #best}
 use Rattle.best.proofs.best.Met as best-thm
 use Rattle.calls.specs.Call.{call}
 use Rattle.operation_calls.specs.Operations.{lentBy, bestCall}
-use Rattle.operation_calls.specs.Returned.{zeros, zeroRows, leavesBest, best-told}
+use Rattle.operation_calls.proofs.laws.Returned.{zeros, zeroRows, leavesBest, best-told}
 use Rattle.calls.proofs.leave_best as told
 use Rattle.calls.proofs.leave_best.Symbol as told-def
 use Rattle.calls.proofs.leave_best.Symbol.{name as #told}

@@ -1,7 +1,7 @@
 -- `fields::field::field_at` meets its contract: a case for each form of a field.
 use borrow.Author.Needs.{needs}
 use native.Mathlib.Omega.{arith}
-use Rattle.fields.specs.Flat.{reference-read, list-read, number-read}
+use Rattle.fields.proofs.laws.Flat.{reference-read, list-read, number-read}
 use Rattle.fields.proofs.field.field_at.Statement.{statement}
 use Rattle.fields.proofs.field.field_at.Tie as tie
 

@@ -7,8 +7,8 @@ use native.Mathlib.Omega.{arith}
 use lib.ListN.{length, length-set}
 use Rattle.scope.specs.Number.{listed}
 use Rattle.number.specs.Answers.{said}
-use Rattle.number.specs.Sequence.{limited-value, reference-value}
-use Rattle.number.specs.Lists.{leftAfter, list-start, list-refused, list-more, list-end, leading-take}
+use Rattle.number.proofs.laws.Sequence.{limited-value, reference-value}
+use Rattle.number.proofs.laws.Lists.{leftAfter, list-start, list-refused, list-more, list-end, leading-take}
 use Rattle.fields.proofs.list.list_at.Statement.{statement}
 use Rattle.fields.proofs.list.list_at.Tie as tie
 

@@ -7,7 +7,7 @@ use native.Mathlib.Omega.{arith}
 use lib.ListN.{length}
 use Rattle.scope.specs.Instance.{fieldsRead}
 use Rattle.fields.specs.Flat.{rowOf}
-use Rattle.fields.specs.Table.{list-limit}
+use Rattle.fields.proofs.laws.Table.{list-limit}
 use Rattle.fields.proofs.Left.{leftAt, left-start, left-more, left-refused, left-end}
 use Rattle.fields.proofs.read.fields_at.Statement.{statement}
 use Rattle.fields.proofs.read.fields_at.Tie as tie

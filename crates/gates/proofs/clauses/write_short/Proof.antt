@@ -1,4 +1,4 @@
-use Rattle.gates.specs.Blocks.{short-block, gate-ran}
+use Rattle.gates.proofs.laws.Blocks.{short-block, gate-ran}
 use borrow.Author.Needs.{needs}
 use Rattle.gates.proofs.clauses.write_short.Statement.{statement}
 use Rattle.gates.proofs.clauses.write_short.Tie as tie

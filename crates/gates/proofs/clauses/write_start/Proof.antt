@@ -1,5 +1,5 @@
-use Rattle.gates.specs.Blocks.{clauses-ran}
-use Rattle.gates.specs.Units.{first-block, later-block}
+use Rattle.gates.proofs.laws.Blocks.{clauses-ran}
+use Rattle.gates.proofs.laws.Units.{first-block, later-block}
 use borrow.Author.Needs.{needs}
 use Rattle.gates.proofs.clauses.write_start.Statement.{statement}
 use Rattle.gates.proofs.clauses.write_start.Tie as tie

@@ -1,4 +1,4 @@
-use Rattle.gates.specs.Blocks.{unit-block}
+use Rattle.gates.proofs.laws.Blocks.{unit-block}
 use Rattle.gates.proofs.Softs.{soft-measure, soft-passed, soft-text, soft-wordless, soft-charged, soft-tail}
 use borrow.Author.Needs.{needs}
 use Rattle.gates.proofs.units.write_soft.Statement.{statement}

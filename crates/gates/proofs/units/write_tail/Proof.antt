@@ -1,6 +1,6 @@
 use mathlib.Core.Path.{sym, refl}
 use native.Mathlib.Omega.{arith}
-use Rattle.counters.specs.Literals.{literal-opposite}
+use Rattle.counters.proofs.laws.Literals.{literal-opposite}
 use Rattle.gates.proofs.Softs.{none-first, none-before, none-next, tail-ran}
 use borrow.Author.Needs.{needs}
 use Rattle.gates.proofs.units.write_tail.Statement.{statement}

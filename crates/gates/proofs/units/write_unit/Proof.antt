@@ -1,6 +1,6 @@
 use Rattle.sink.specs.Run.{same}
-use Rattle.gates.specs.Blocks.{clauses-ran, unit-block}
-use Rattle.gates.specs.Units.{unit-soft}
+use Rattle.gates.proofs.laws.Blocks.{clauses-ran, unit-block}
+use Rattle.gates.proofs.laws.Units.{unit-soft}
 use borrow.Author.Needs.{needs}
 use Rattle.gates.proofs.units.write_unit.Statement.{statement}
 use Rattle.gates.proofs.units.write_unit.Tie as tie

@@ -1,5 +1,5 @@
 use mathlib.Core.Path.{sym, _∙_}
-use Rattle.hints.specs.Machine.{onward-end, onward-more}
+use Rattle.hints.proofs.laws.Machine.{onward-end, onward-more}
 use borrow.Author.Needs.{needs}
 use Rattle.hints.proofs.machine.step_on.Statement.{statement}
 use Rattle.hints.proofs.machine.step_on.Tie as tie

@@ -1,6 +1,7 @@
 use mathlib.Core.Path.{sym, ap, _∙_}
 use Rattle.standing.specs.Clauses.{stands}
-use Rattle.hints.specs.Machine.{walked, walkedMarks, walkedTrail, walked-last, walked-early}
+use Rattle.hints.specs.Machine.{walked, walkedMarks, walkedTrail}
+use Rattle.hints.proofs.laws.Machine.{walked-last, walked-early}
 use borrow.Author.Needs.{needs}
 use Rattle.hints.proofs.machine.take_hint.Statement.{statement}
 use Rattle.hints.proofs.machine.take_hint.Tie as tie

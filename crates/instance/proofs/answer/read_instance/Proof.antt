@@ -1,6 +1,6 @@
 -- `instance::answer::read_instance` meets its contract: the stores are long enough, and each case of `read` is a case of the answer.
 use borrow.Author.Needs.{needs}
-use Rattle.instance.specs.Laws.{accepted, accepted-answer, refused-answer}
+use Rattle.instance.proofs.laws.Laws.{accepted, accepted-answer, refused-answer}
 use Rattle.instance.proofs.answer.read_instance.Statement.{statement}
 use Rattle.instance.proofs.answer.read_instance.Tie as tie
 

@@ -2,10 +2,10 @@
 -- sequence each.
 use borrow.Author.Needs.{needs}
 use mathlib.Core.Path.{_∙_}
-use Rattle.instance.specs.Checked.{start-lent, read-stopped, read-accepted}
-use Rattle.instance.specs.File.{restAt, parse-parts}
-use Rattle.instance.specs.Sequence.{sequence}
-use Rattle.instance.specs.Start.{tables-start}
+use Rattle.instance.proofs.laws.Checked.{start-lent, read-stopped, read-accepted}
+use Rattle.instance.proofs.laws.File.{restAt, parse-parts}
+use Rattle.instance.proofs.laws.Sequence.{sequence}
+use Rattle.instance.proofs.laws.Start.{tables-start}
 use Rattle.instance.proofs.reader.read.Statement.{statement}
 use Rattle.instance.proofs.reader.read.Tie as tie
 

@@ -1,7 +1,7 @@
 -- `instance::reader::sizes_at` meets its contract: three numbers within limits, a step of the sequence each.
 use borrow.Author.Needs.{needs}
 use Rattle.scope.specs.Instance.{sizesAt}
-use Rattle.instance.specs.Sequence.{sequence}
+use Rattle.instance.proofs.laws.Sequence.{sequence}
 use Rattle.instance.proofs.reader.sizes_at.Statement.{statement}
 use Rattle.instance.proofs.reader.sizes_at.Tie as tie
 

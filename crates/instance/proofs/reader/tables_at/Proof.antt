@@ -2,8 +2,8 @@
 use borrow.Author.Needs.{needs}
 use native.Mathlib.Omega.{arith}
 use Rattle.instance.specs.File.{tablesAt}
-use Rattle.instance.specs.Sequence.{sequence}
-use Rattle.instance.specs.Start.{sizes-value}
+use Rattle.instance.proofs.laws.Sequence.{sequence}
+use Rattle.instance.proofs.laws.Start.{sizes-value}
 use Rattle.instance.proofs.reader.tables_at.Statement.{statement}
 use Rattle.instance.proofs.reader.tables_at.Tie as tie
 

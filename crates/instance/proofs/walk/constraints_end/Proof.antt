@@ -6,8 +6,10 @@ use native.Mathlib.Omega.{arith}
 use lib.ListN.{getD}
 use Rattle.scope.specs.Parsed.{repeat}
 use Rattle.number.specs.Answers.{said}
-use Rattle.constraint_end.specs.Ends.{ends, ends-more, ends-refused, ends-end}
-use Rattle.constraint_end.specs.Ready.{Ready, checkedBy, ready-kept}
+use Rattle.constraint_end.specs.Ends.{ends}
+use Rattle.constraint_end.proofs.laws.Ends.{ends-more, ends-refused, ends-end}
+use Rattle.constraint_end.specs.Ready.{Ready, checkedBy}
+use Rattle.constraint_end.proofs.laws.Ready.{ready-kept}
 use Rattle.instance.proofs.walk.constraints_end.Statement.{statement}
 use Rattle.instance.proofs.walk.constraints_end.Tie as tie
 

@@ -1,8 +1,8 @@
 -- `instance::walk::constraints_whole` meets its contract: loads counted, constraints walked, then the test for the end.
 use borrow.Author.Needs.{needs}
 use mathlib.Core.Path.{refl}
-use Rattle.instance.specs.Checked.{counted}
-use Rattle.constraint_end.specs.Ready.{zeros}
+use Rattle.instance.proofs.laws.Checked.{counted}
+use Rattle.constraint_end.proofs.laws.Ready.{zeros}
 use Rattle.instance.proofs.walk.constraints_whole.Statement.{statement}
 use Rattle.instance.proofs.walk.constraints_whole.Tie as tie
 

@@ -1,6 +1,6 @@
 -- `list::by_kind::fill` meets its contract: a case for each kind.
-use Rattle.list.specs.Fillable.{clash-time, only-one, spread-short, cluster-short, cluster-small, idle-short, idle-small}
-use Rattle.list_nodes.specs.Ground.{sized}
+use Rattle.list.proofs.laws.Fillable.{clash-time, only-one, spread-short, cluster-short, cluster-small, idle-short, idle-small}
+use Rattle.list_nodes.proofs.laws.Ground.{sized}
 use Rattle.scope.specs.Kinds.{countedOf}
 use native.Mathlib.Omega.{arith}
 use mathlib.Core.Path.{_≡_, refl}

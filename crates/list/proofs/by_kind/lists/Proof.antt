@@ -1,5 +1,5 @@
 -- `list::by_kind::lists` meets its contract: a case for each kind.
-use Rattle.list.specs.ListsOf.{clash-lists}
+use Rattle.list.proofs.laws.ListsOf.{clash-lists}
 use Rattle.scope.specs.Kinds.{countedOf}
 use mathlib.Core.Path.{refl}
 use borrow.Author.Needs.{needs}

@@ -1,4 +1,4 @@
-use Rattle.list_clauses.specs.Filled.{list-wrote}
+use Rattle.list_clauses.proofs.laws.Filled.{list-wrote}
 use borrow.Author.Needs.{needs}
 use borrow.Author.Needs.{needs}
 use Rattle.list_clauses.proofs.list.write_list.Statement.{statement}

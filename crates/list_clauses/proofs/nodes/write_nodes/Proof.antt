@@ -3,9 +3,10 @@ use Prim.Native.Nat.{_-_, _≤_}
 use native.Mathlib.Omega.{arith}
 use lib.ListN.{length}
 use Rattle.sink.specs.Run.{Todo, todo-start, todo-turn, todo-done}
-use Rattle.sink.specs.Skipped.{skipped}
+use Rattle.sink.proofs.laws.Skipped.{skipped}
 use Rattle.sink.specs.World.{world, step}
-use Rattle.list_clauses.specs.Stored.{LeftNodes, leftLines, left-start, left-all, left-node, left-turn, nodes-end, storeClauses}
+use Rattle.list_clauses.specs.Stored.{storeClauses}
+use Rattle.list_clauses.proofs.laws.Stored.{LeftNodes, leftLines, left-start, left-all, left-node, left-turn, nodes-end}
 use borrow.Author.Needs.{needs}
 use Rattle.list_clauses.proofs.nodes.write_nodes.Statement.{statement}
 use Rattle.list_clauses.proofs.nodes.write_nodes.Tie as tie

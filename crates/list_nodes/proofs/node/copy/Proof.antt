@@ -1,7 +1,8 @@
 -- `list_nodes::node::copy` meets its contract. The loop's invariant: the words are those that stay, then those of the row that were passed.
 use borrow.Author.Needs.{needs}
 use Rattle.list_nodes.proofs.Nodes.{copied-none, copied-more}
-use Rattle.literals.specs.Words.{Holds, holds-as}
+use Rattle.literals.specs.Words.{Holds}
+use Rattle.literals.proofs.laws.Words.{holds-as}
 use lib.ListN.{length, length-set, take, drop}
 use native.Mathlib.Omega.{arith}
 use mathlib.Core.List.{_++_}

@@ -8,7 +8,7 @@ use native.Mathlib.Nat.{mul-le-mul-right}
 use lib.ListN.{length, length-map}
 use Rattle.tables.specs.Rows.{rowAt}
 use Rattle.literals.specs.Variables.{inBlock}
-use Rattle.literals.specs.Words.{holds-as}
+use Rattle.literals.proofs.laws.Words.{holds-as}
 use Rattle.literals.proofs.Turns.{Flattened, flattened-none, flattened-more, flattened-size, within-at}
 use borrow.Author.Needs.{needs}
 use Rattle.literals.proofs.events.s_spread.Statement.{statement}

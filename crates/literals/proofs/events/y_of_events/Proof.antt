@@ -5,7 +5,7 @@ use native.Mathlib.Omega.{arith}
 use mathlib.Core.List.{[]}
 use lib.ListN.{length, length-set}
 use Rattle.literals.specs.Variables.{yAt}
-use Rattle.literals.specs.Words.{holds-as}
+use Rattle.literals.proofs.laws.Words.{holds-as}
 use Rattle.literals.proofs.Turns.{Mapped, mapped-none, mapped-more, within-at}
 use borrow.Author.Needs.{needs}
 use Rattle.literals.proofs.events.y_of_events.Statement.{statement}

@@ -6,7 +6,8 @@ use native.Mathlib.Omega.{arith}
 use lib.ListN.{length, length-set}
 use Rattle.scope.specs.Kinds.{from, upTo}
 use Rattle.literals.specs.Variables.{literalAt}
-use Rattle.literals.specs.Words.{Holds, holds-none, holds-as}
+use Rattle.literals.specs.Words.{Holds}
+use Rattle.literals.proofs.laws.Words.{holds-none, holds-as}
 use Rattle.literals.proofs.Turns.{next-time}
 use borrow.Author.Needs.{needs}
 use Rattle.literals.proofs.times.all_times.Statement.{statement}

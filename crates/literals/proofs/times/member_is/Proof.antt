@@ -3,7 +3,7 @@ use Prim.Native.Nat.{_-_}
 use native.Mathlib.Omega.{arith}
 use borrow.Author.Tests.{eq-eqb, ne-eqb}
 use Rattle.tables.specs.Rows.{rowAt}
-use Rattle.literals.specs.Words.{with-past, with-member}
+use Rattle.literals.proofs.laws.Words.{with-past, with-member}
 use borrow.Author.Needs.{needs}
 use Rattle.literals.proofs.times.member_is.Statement.{statement}
 use Rattle.literals.proofs.times.member_is.Tie as tie

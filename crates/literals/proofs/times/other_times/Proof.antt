@@ -8,7 +8,8 @@ use lib.ListN.{length, length-set}
 use Rattle.scope.specs.Kinds.{from, upTo, outside}
 use Rattle.tables.specs.Rows.{rowAt}
 use Rattle.literals.specs.Variables.{literalAt}
-use Rattle.literals.specs.Words.{Holds, holds-none, holds-as, indicator-most}
+use Rattle.literals.specs.Words.{Holds}
+use Rattle.literals.proofs.laws.Words.{holds-none, holds-as, indicator-most}
 use Rattle.literals.proofs.Outside.{Passed, passed-none, passed-more, next-other}
 use borrow.Author.Needs.{needs}
 use Rattle.literals.proofs.times.other_times.Statement.{statement}

@@ -1,7 +1,8 @@
 -- `literals::variable::base` meets its contract.
 use mathlib.Core.Path.{refl}
 use native.Mathlib.Omega.{arith}
-use Rattle.literals.specs.Variables.{baseOf, row-small}
+use Rattle.literals.specs.Variables.{baseOf}
+use Rattle.literals.proofs.laws.Variables.{row-small}
 use borrow.Author.Needs.{needs}
 use Rattle.literals.proofs.variable.base.Statement.{statement}
 use Rattle.literals.proofs.variable.base.Tie as tie

@@ -1,6 +1,6 @@
 -- `operations::evaluate` meets its contract: the stores are long enough, and a file that is sized is evaluated.
 use borrow.Author.Needs.{needs}
-use Rattle.model.specs.Answers.{evaluation-refused}
+use Rattle.model.proofs.laws.Answers.{evaluation-refused}
 use Rattle.model.proofs.operations.evaluate.Statement.{statement}
 use Rattle.model.proofs.operations.evaluate.Tie as tie
 

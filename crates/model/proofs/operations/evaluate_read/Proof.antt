@@ -1,6 +1,6 @@
 -- `operations::evaluate_read` meets its contract: 10 and 11, then 13.
 use borrow.Author.Needs.{needs}
-use Rattle.model.specs.Answers.{evaluation-form, evaluation-judged}
+use Rattle.model.proofs.laws.Answers.{evaluation-form, evaluation-judged}
 use Rattle.model.proofs.operations.evaluate_read.Statement.{statement}
 use Rattle.model.proofs.operations.evaluate_read.Tie as tie
 

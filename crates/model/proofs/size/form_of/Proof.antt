@@ -1,6 +1,6 @@
 -- `size::form_of` meets its contract: the length, then the bytes.
 use borrow.Author.Needs.{needs}
-use Rattle.model.specs.Answers.{form-short, form-above, form-right}
+use Rattle.model.proofs.laws.Answers.{form-short, form-above, form-right}
 use Rattle.model.proofs.size.form_of.Statement.{statement}
 use Rattle.model.proofs.size.form_of.Tie as tie
 

@@ -1,6 +1,6 @@
 use mathlib.Core.Path.{sym, _∙_}
 use Rattle.scope.specs.Cnf.{bit}
-use Rattle.node_clauses.specs.Evaluate.{true-some, true-none}
+use Rattle.node_clauses.proofs.laws.Evaluate.{true-some, true-none}
 use borrow.Author.Needs.{needs}
 use borrow.Author.Needs.{needs}
 use Rattle.node_clauses.proofs.evaluate.node_right.Statement.{statement}

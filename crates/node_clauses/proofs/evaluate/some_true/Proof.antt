@@ -3,7 +3,7 @@ use Prim.Native.Nat.{_-_, _≤_}
 use native.Mathlib.Omega.{arith}
 use lib.ListN.{length, drop}
 use Rattle.scope.specs.Cnf.{bit, clause}
-use Rattle.node_clauses.specs.Evaluate.{clause-found, clause-next, clause-none}
+use Rattle.node_clauses.proofs.laws.Evaluate.{clause-found, clause-next, clause-none}
 use borrow.Author.Needs.{needs}
 use Rattle.node_clauses.proofs.evaluate.some_true.Statement.{statement}
 use Rattle.node_clauses.proofs.evaluate.some_true.Tie as tie

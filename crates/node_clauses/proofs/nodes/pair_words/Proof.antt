@@ -2,7 +2,8 @@ use mathlib.Core.Path.{_≡_, refl}
 use Prim.Native.Nat.{_-_, _*_, _≤_}
 use native.Mathlib.Omega.{arith}
 use lib.ListN.{length, take, length-set}
-use Rattle.node_clauses.specs.Pairs.{pairWords, pairs-stored, pairs-all}
+use Rattle.node_clauses.specs.Pairs.{pairWords}
+use Rattle.node_clauses.proofs.laws.Pairs.{pairs-stored, pairs-all}
 use borrow.Author.Needs.{needs}
 use Rattle.node_clauses.proofs.nodes.pair_words.Statement.{statement}
 use Rattle.node_clauses.proofs.nodes.pair_words.Tie as tie

@@ -3,9 +3,10 @@ use Prim.Native.Nat.{_-_, _<_}
 use native.Mathlib.Omega.{arith}
 use lib.ListN.{length, getD}
 use lib.Seq.{length-take-le}
-use Rattle.sink.specs.Skipped.{skipped}
-use Rattle.node_clauses.specs.LongClauses.{nodeClauses, long-others, long-whole, long-ran}
-use Rattle.node_clauses.specs.Evaluate.{node-passed}
+use Rattle.sink.proofs.laws.Skipped.{skipped}
+use Rattle.node_clauses.specs.LongClauses.{nodeClauses}
+use Rattle.node_clauses.proofs.laws.LongClauses.{long-others, long-whole, long-ran}
+use Rattle.node_clauses.proofs.laws.Evaluate.{node-passed}
 use borrow.Author.Needs.{needs}
 use borrow.Author.Needs.{needs}
 use Rattle.node_clauses.proofs.nodes.write_node.Statement.{statement}

@@ -8,8 +8,8 @@ use Rattle.scope.specs.Cnf.{opp, pairs}
 use Rattle.sink.specs.Lines.{clauseLine}
 use Rattle.sink.specs.Run.{Todo, todo-start, todo-turn, todo-done}
 use Rattle.sink.specs.World.{world, step}
-use Rattle.gates.specs.Blocks.{clauses-ran}
-use Rattle.node_clauses.specs.Pairs.{pairs-turn, pairs-end, part-literals, part-length, part-block}
+use Rattle.gates.proofs.laws.Blocks.{clauses-ran}
+use Rattle.node_clauses.proofs.laws.Pairs.{pairs-turn, pairs-end, part-literals, part-length, part-block}
 use borrow.Author.Needs.{needs}
 use Rattle.node_clauses.proofs.nodes.write_pairs.Statement.{statement}
 use Rattle.node_clauses.proofs.nodes.write_pairs.Tie as tie

@@ -1,7 +1,7 @@
 -- `node_lists::cluster::fill_cluster` meets its contract. The loop's invariant: the nodes of the groups passed.
 use borrow.Author.Needs.{needs}
 use Rattle.node_lists.proofs.ClusterNodes.{OrsTo, ors-none, ors-more, cluster-stored}
-use Rattle.list_nodes.specs.Ground.{ground-sizes, ground-resource, ground-group, ground-groups, leading-at}
+use Rattle.list_nodes.proofs.laws.Ground.{ground-sizes, ground-resource, ground-group, ground-groups, leading-at}
 use Rattle.node_lists.specs.Cluster.{rowIn}
 use Rattle.literals.specs.Variables.{literalAt}
 use Rattle.tables.specs.Rows.{rowAt}

@@ -1,9 +1,9 @@
 -- `node_lists::idle::fill_idle` meets its contract. The loop's invariant: the nodes of the groups passed, how many idle times they have, and what is known of all groups.
 use borrow.Author.Needs.{needs}
 use Rattle.node_lists.proofs.IdleNodes.{IdleIn, IdleTo, idle-none, idle-next, idle-turn, idle-stored}
-use Rattle.list_nodes.specs.Ground.{ground-sizes, ground-resource, ground-group, ground-groups, groups-room, leading-at, rows-short}
+use Rattle.list_nodes.proofs.laws.Ground.{ground-sizes, ground-resource, ground-group, ground-groups, groups-room, leading-at, rows-short}
 use Rattle.node_lists.specs.Cluster.{rowIn}
-use Rattle.literals.specs.Variables.{uses-block}
+use Rattle.literals.proofs.laws.Variables.{uses-block}
 use lib.ListN.{length}
 use native.Mathlib.Omega.{arith}
 use mathlib.Core.Path.{_≡_, refl, _∙_}

@@ -7,7 +7,7 @@ use Rattle.constraint.specs.Answers.{kindOf}
 use Rattle.user_table.specs.Filled.{usersAt}
 use Rattle.literals.specs.Tables.{groupIn}
 use Rattle.list_nodes.specs.Stored.{countedIn}
-use Rattle.part_sizes.specs.Sizable.{sizable-shape, times-fits, times-sized}
+use Rattle.part_sizes.proofs.laws.Sizable.{sizable-shape, times-fits, times-sized}
 use Rattle.part_sizes.proofs.size.constraint_size.Statement.{statement}
 use Rattle.part_sizes.proofs.size.constraint_size.Tie as tie
 

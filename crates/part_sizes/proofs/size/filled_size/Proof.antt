@@ -1,8 +1,8 @@
 -- `size::filled_size` meets its contract.
 use borrow.Author.Needs.{needs}
 use native.Mathlib.Omega.{arith}
-use Rattle.sizing.specs.Sums.{within-more}
-use Rattle.sizing.specs.Limits.{listed-within}
+use Rattle.sizing.proofs.laws.Sums.{within-more}
+use Rattle.sizing.proofs.laws.Limits.{listed-within}
 use Rattle.part_sizes.specs.Listed.{filledSize}
 use Rattle.part_sizes.proofs.size.filled_size.Statement.{statement}
 use Rattle.part_sizes.proofs.size.filled_size.Tie as tie

@@ -5,8 +5,8 @@ use native.Mathlib.Omega.{arith}
 use Rattle.constraint.specs.Answers.{kindOf}
 use Rattle.user_table.specs.Filled.{usersAt}
 use Rattle.list_nodes.specs.Stored.{listIn}
-use Rattle.part_sizes.specs.Listed.{stored-told, measurable, filled-sized}
-use Rattle.part_sizes.specs.Sizable.{sizable-bounds, sizable-ordered, sizable-short, sizable-small}
+use Rattle.part_sizes.proofs.laws.Listed.{stored-told, measurable, filled-sized}
+use Rattle.part_sizes.proofs.laws.Sizable.{sizable-bounds, sizable-ordered, sizable-short, sizable-small}
 use Rattle.part_sizes.proofs.size.first_size.Statement.{statement}
 use Rattle.part_sizes.proofs.size.first_size.Tie as tie
 

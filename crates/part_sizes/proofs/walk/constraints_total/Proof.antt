@@ -5,8 +5,9 @@ use Prim.Native.Nat.{ℕ, _-_, _≤_}
 use mathlib.Core.Path.{_≡_, refl, _∙_}
 use mathlib.Core.List.{List}
 use native.Mathlib.Omega.{arith}
-use Rattle.constraint.specs.Walk.{walk-refused}
-use Rattle.part_sizes.specs.Walked.{Walkable, Tabled, TotalWithin, Part, walkable-kept, total-addable, total-within, total-start, part-start, part-read, part-sizable, part-next, part-end}
+use Rattle.constraint.proofs.laws.Walk.{walk-refused}
+use Rattle.part_sizes.specs.Walked.{Walkable, Tabled, TotalWithin}
+use Rattle.part_sizes.proofs.laws.Walked.{Part, walkable-kept, total-addable, total-within, total-start, part-start, part-read, part-sizable, part-next, part-end}
 use Rattle.part_sizes.proofs.walk.constraints_total.Statement.{statement}
 use Rattle.part_sizes.proofs.walk.constraints_total.Tie as tie
 

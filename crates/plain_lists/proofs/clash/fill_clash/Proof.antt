@@ -1,7 +1,8 @@
 -- `plain_lists::clash::fill_clash` meets its contract.
 use mathlib.Core.List.{[]}
-use Rattle.plain_lists.specs.Plain.{clash-plain}
-use Rattle.user_table.specs.Filled.{usersAt, part-room, part-holds, part-within}
+use Rattle.plain_lists.proofs.laws.Plain.{clash-plain}
+use Rattle.user_table.specs.Filled.{usersAt}
+use Rattle.user_table.proofs.laws.Filled.{part-room, part-holds, part-within}
 use native.Mathlib.Omega.{arith}
 use borrow.Author.Needs.{needs}
 use Rattle.plain_lists.proofs.clash.fill_clash.Statement.{statement}

@@ -1,6 +1,6 @@
 -- `plain_lists::preferred::fill_preferred` meets its contract.
-use Rattle.plain_lists.specs.Plain.{preferred-plain}
-use Rattle.list_nodes.specs.Ground.{ground-event, ground-group, ground-ascends}
+use Rattle.plain_lists.proofs.laws.Plain.{preferred-plain}
+use Rattle.list_nodes.proofs.laws.Ground.{ground-event, ground-group, ground-ascends}
 use native.Mathlib.Omega.{arith}
 use Rattle.list_nodes.proofs.GroupRows.{known-row}
 use borrow.Author.Needs.{needs}

@@ -1,7 +1,7 @@
 -- `plain_lists::split::fill_split` meets its contract.
-use Rattle.plain_lists.specs.Plain.{split-plain}
-use Rattle.list_nodes.specs.Ground.{head-sizes}
-use Rattle.literals.specs.Variables.{starts-block}
+use Rattle.plain_lists.proofs.laws.Plain.{split-plain}
+use Rattle.list_nodes.proofs.laws.Ground.{head-sizes}
+use Rattle.literals.proofs.laws.Variables.{starts-block}
 use native.Mathlib.Omega.{arith}
 use mathlib.Core.List.{[]}
 use borrow.Author.Needs.{needs}

@@ -1,8 +1,8 @@
 -- `plain_lists::spread::fill_spread` meets its contract.
-use Rattle.plain_lists.specs.Plain.{spread-plain}
-use Rattle.list_nodes.specs.Ground.{ground-sizes, ground-group, ground-events, events-room}
-use Rattle.literals.specs.Variables.{starts-block}
-use Rattle.number.specs.Lists.{leading-take}
+use Rattle.plain_lists.proofs.laws.Plain.{spread-plain}
+use Rattle.list_nodes.proofs.laws.Ground.{ground-sizes, ground-group, ground-events, events-room}
+use Rattle.literals.proofs.laws.Variables.{starts-block}
+use Rattle.number.proofs.laws.Lists.{leading-take}
 use native.Mathlib.Omega.{arith}
 use Rattle.list_nodes.proofs.GroupRows.{known-row}
 use borrow.Author.Needs.{needs}

@@ -2,8 +2,8 @@
 use mathlib.Core.Path.{refl}
 use Prim.Native.Nat.{_+_}
 use native.Mathlib.Omega.{arith}
-use Rattle.row_words.specs.Literals.{Variable}
-use Rattle.row_words.specs.Cells.{stored, words-then, start-block, none-block, least-block, both-block}
+use Rattle.row_words.proofs.laws.Literals.{Variable}
+use Rattle.row_words.proofs.laws.Cells.{stored, words-then, start-block, none-block, least-block, both-block}
 use borrow.Author.Needs.{needs}
 use Rattle.row_words.proofs.cell.cell_words.Statement.{statement}
 use Rattle.row_words.proofs.cell.cell_words.Tie as tie

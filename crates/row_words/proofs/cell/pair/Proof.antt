@@ -1,7 +1,7 @@
 -- `cell::pair` meets its contract: two stores.
 use native.Mathlib.Omega.{arith}
 use lib.ListN.{length-set}
-use Rattle.row_words.specs.Cells.{two-words}
+use Rattle.row_words.proofs.laws.Cells.{two-words}
 use borrow.Author.Needs.{needs}
 use Rattle.row_words.proofs.cell.pair.Statement.{statement}
 use Rattle.row_words.proofs.cell.pair.Tie as tie

@@ -1,7 +1,7 @@
 -- `cell::triple` meets its contract: three stores.
 use native.Mathlib.Omega.{arith}
 use lib.ListN.{length-set}
-use Rattle.row_words.specs.Cells.{three-words}
+use Rattle.row_words.proofs.laws.Cells.{three-words}
 use borrow.Author.Needs.{needs}
 use Rattle.row_words.proofs.cell.triple.Statement.{statement}
 use Rattle.row_words.proofs.cell.triple.Tie as tie

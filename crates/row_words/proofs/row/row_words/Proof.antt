@@ -6,7 +6,7 @@ use borrow.Author.Needs.{needs}
 use lib.ListN.{length}
 use Rattle.sink.specs.Block.{mark}
 use Rattle.sink.specs.Run.{out, put, Todo, todo-start, todo-turn, todo-done, same}
-use Rattle.row_words.specs.Cells.{stored-ran}
+use Rattle.row_words.proofs.laws.Cells.{stored-ran}
 use Rattle.row_words.proofs.RowLines.{cellsFrom, cells-start, put-turn, put-end}
 use Rattle.row_words.proofs.row.row_words.Statement.{statement}
 use Rattle.row_words.proofs.row.row_words.Tie as tie

@@ -77,7 +77,7 @@ use Rattle.turns.specs.Check.{begun, judged, rowOf, keptAs, entered, proceeded,
 use Rattle.copying.specs.Copies.{copiedAt}
 use Rattle.reader.proofs.Loops.{Left, left-over}
 use Rattle.run.specs.Turned.{State, state, deletion, idsDeleted, withDeletion, turned, going, left, toGo, ended, atFirst, outcome, outcomeOf, drivenWith}
-use Rattle.run.specs.Termination.{Past}
+use Rattle.run.proofs.laws.Termination.{Past}
 use Rattle.run.proofs.Turning.{Nearer as Comes, turn-nearer, ids-nearer}
 use Rattle.reader.proofs.Reader.Laws as D′
 use Rattle.reader.proofs.Readers.{at-place, reader-typed, IsNumber, number-typed}

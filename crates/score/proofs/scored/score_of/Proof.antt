@@ -1,9 +1,9 @@
 -- `score::scored::score_of` meets its contract. The counted uses and the marks are those of the definitions, so the sums are the score.
 use mathlib.Core.Path.{refl}
 use lib.ListN.{replicate}
-use Rattle.instance.specs.Ready.{zeros}
-use Rattle.score.specs.Ready.{scorable-counts, scorable-walk}
-use Rattle.score.specs.Right.{infeasibility-right, objective-right}
+use Rattle.instance.proofs.laws.Ready.{zeros}
+use Rattle.score.proofs.laws.Ready.{scorable-counts, scorable-walk}
+use Rattle.score.proofs.laws.Right.{infeasibility-right, objective-right}
 use borrow.Author.Needs.{needs}
 use Rattle.score.proofs.scored.score_of.Statement.{statement}
 use Rattle.score.proofs.scored.score_of.Tie as tie

@@ -4,7 +4,7 @@ use Prim.Native.Nat.{_-_, _*_}
 use native.Mathlib.Omega.{arith}
 use borrow.Author.Needs.{needs}
 use Rattle.deviation.specs.Charge.{chargeOf}
-use Rattle.score.specs.Amounts.{Charged, charged-start, never-refused, next-valid, charged-more, amounts-small, charged-end}
+use Rattle.score.proofs.laws.Amounts.{Charged, charged-start, never-refused, next-valid, charged-more, amounts-small, charged-end}
 use Rattle.score.proofs.walk.charge_all.Statement.{statement}
 use Rattle.score.proofs.walk.charge_all.Tie as tie
 

@@ -3,7 +3,7 @@ use mathlib.Core.List.{[], _∷_}
 use Prim.Native.Nat.{suc, _+_}
 use native.Mathlib.Omega.{arith}
 use lib.ListN.{length-set}
-use Rattle.sink.specs.Run.{ran-sets}
+use Rattle.sink.proofs.laws.Run.{ran-sets}
 use borrow.Author.Needs.{needs}
 use Rattle.sink.proofs.lines.end_line.Statement.{statement}
 use Rattle.sink.proofs.lines.end_line.Tie as tie

@@ -1,6 +1,6 @@
 use mathlib.Core.Path.{refl}
 use native.Mathlib.Omega.{arith}
-use Rattle.sink.specs.Run.{ran-sets}
+use Rattle.sink.proofs.laws.Run.{ran-sets}
 use borrow.Author.Needs.{needs}
 use Rattle.sink.proofs.store.words_block.Statement.{statement}
 use Rattle.sink.proofs.store.words_block.Tie as tie

@@ -1,6 +1,6 @@
 -- `answer::sizes` meets its contract: the stores are long enough, and each case of `measure_bound` is a case of the answer.
 use borrow.Author.Needs.{needs}
-use Rattle.sizes.specs.Measured.{sizes-answered, sizes-refused}
+use Rattle.sizes.proofs.laws.Measured.{sizes-answered, sizes-refused}
 use Rattle.sizes.proofs.answer.sizes.Statement.{statement}
 use Rattle.sizes.proofs.answer.sizes.Tie as tie
 

@@ -1,9 +1,9 @@
 -- `sized::measure` meets its contract: the file is read, then its formula is sized.
 use borrow.Author.Needs.{needs}
 use native.Mathlib.Omega.{arith}
-use Rattle.instance.specs.Laws.{accepted}
-use Rattle.sizes.specs.Opened.{stores-kept}
-use Rattle.sizes.specs.Measured.{size-refused, size-judged}
+use Rattle.instance.proofs.laws.Laws.{accepted}
+use Rattle.sizes.proofs.laws.Opened.{stores-kept}
+use Rattle.sizes.proofs.laws.Measured.{size-refused, size-judged}
 use Rattle.sizes.proofs.sized.measure.Statement.{statement}
 use Rattle.sizes.proofs.sized.measure.Tie as tie
 

@@ -2,10 +2,10 @@
 use borrow.Author.Needs.{needs}
 use mathlib.Core.Path.{sym, _∙_}
 use borrow.Author.Tests.{leb-true}
-use Rattle.instance.specs.Laws.{accepted}
-use Rattle.sizes.specs.Whole.{total-fits}
-use Rattle.sizes.specs.Opened.{stores-kept}
-use Rattle.sizes.specs.Measured.{bound-refused, bound-high, bound-judged}
+use Rattle.instance.proofs.laws.Laws.{accepted}
+use Rattle.sizes.proofs.laws.Whole.{total-fits}
+use Rattle.sizes.proofs.laws.Opened.{stores-kept}
+use Rattle.sizes.proofs.laws.Measured.{bound-refused, bound-high, bound-judged}
 use Rattle.sizes.proofs.sized.measure_bound.Statement.{statement}
 use Rattle.sizes.proofs.sized.measure_bound.Tie as tie
 

@@ -1,8 +1,8 @@
 -- `whole::whole_size` meets its contract: the table of users, what stands before the constraints, and the walk over them.
 use borrow.Author.Needs.{needs}
 use mathlib.Core.Path.{refl}
-use Rattle.instance.specs.Ready.{zeros}
-use Rattle.sizes.specs.Opened.{opened-rows, opened-users, opened-begun, opened-tabled, opened-walkable, opened-whole}
+use Rattle.instance.proofs.laws.Ready.{zeros}
+use Rattle.sizes.proofs.laws.Opened.{opened-rows, opened-users, opened-begun, opened-tabled, opened-walkable, opened-whole}
 use Rattle.sizes.proofs.whole.whole_size.Statement.{statement}
 use Rattle.sizes.proofs.whole.whole_size.Tie as tie
 

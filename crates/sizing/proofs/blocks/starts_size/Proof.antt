@@ -4,7 +4,8 @@ use borrow.Author.Needs.{needs}
 use Prim.Native.Nat.{_-_, _*_, _≤_}
 use native.Mathlib.Omega.{arith}
 use native.Mathlib.Nat.{mul-le-mul}
-use Rattle.sizing.specs.Sums.{equal, sum, multiple}
+use Rattle.sizing.specs.Sums.{sum, multiple}
+use Rattle.sizing.proofs.laws.Sums.{equal}
 use Rattle.sizing.specs.Blocks.{startClauses, startsSize}
 use Rattle.sizing.proofs.blocks.starts_size.Statement.{statement}
 use Rattle.sizing.proofs.blocks.starts_size.Tie as tie

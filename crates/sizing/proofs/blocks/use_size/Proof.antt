@@ -4,7 +4,7 @@ use borrow.Author.Needs.{needs}
 use mathlib.Core.Path.{ap, _∙_}
 use native.Mathlib.Omega.{arith}
 use Rattle.sizing.specs.Sums.{multiple}
-use Rattle.sizing.specs.Limits.{fits-multiple, or-within}
+use Rattle.sizing.proofs.laws.Limits.{fits-multiple, or-within}
 use Rattle.sizing.specs.Blocks.{useSize}
 use Rattle.sizing.proofs.blocks.use_size.Statement.{statement}
 use Rattle.sizing.proofs.blocks.use_size.Tie as tie

@@ -3,7 +3,7 @@
 use borrow.Author.Needs.{needs}
 use mathlib.Core.Path.{sym, _∙_}
 use native.Mathlib.Omega.{arith}
-use Rattle.sizing.specs.Counts.{columns-hard, columns-soft}
+use Rattle.sizing.proofs.laws.Counts.{columns-hard, columns-soft}
 use Rattle.sizing.proofs.counts.columns_of.Statement.{statement}
 use Rattle.sizing.proofs.counts.columns_of.Tie as tie
 

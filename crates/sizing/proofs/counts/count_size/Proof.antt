@@ -4,8 +4,8 @@ use borrow.Author.Needs.{needs}
 use mathlib.Core.Path.{refl}
 use Prim.Native.Nat.{_≤_}
 use native.Mathlib.Omega.{arith}
-use Rattle.sizing.specs.Sums.{within-more}
-use Rattle.sizing.specs.Limits.{columns-within}
+use Rattle.sizing.proofs.laws.Sums.{within-more}
+use Rattle.sizing.proofs.laws.Limits.{columns-within}
 use Rattle.sizing.proofs.Results.{bounds-fit, count-fits, counted}
 use Rattle.sizing.proofs.counts.count_size.Statement.{statement}
 use Rattle.sizing.proofs.counts.count_size.Tie as tie

@@ -3,7 +3,7 @@
 use mathlib.Core.Path.{sym}
 use native.Mathlib.Nat.{mul-le-mul}
 use native.Mathlib.Omega.{arith}
-use Rattle.sizing.specs.Counts.{shorts-hard, shorts-soft}
+use Rattle.sizing.proofs.laws.Counts.{shorts-hard, shorts-soft}
 use Rattle.sizing.proofs.counts.shorts_size.Statement.{statement}
 use Rattle.sizing.proofs.counts.shorts_size.Tie as tie
 

@@ -3,8 +3,8 @@
 use mathlib.Core.Path.{sym, _∙_}
 use native.Mathlib.Nat.{mul-le-mul}
 use native.Mathlib.Omega.{arith}
-use Rattle.sizing.specs.Sums.{equal}
-use Rattle.sizing.specs.Counts.{units-hard, units-soft}
+use Rattle.sizing.proofs.laws.Sums.{equal}
+use Rattle.sizing.proofs.laws.Counts.{units-hard, units-soft}
 use Rattle.sizing.proofs.counts.units_size.Statement.{statement}
 use Rattle.sizing.proofs.counts.units_size.Tie as tie
 

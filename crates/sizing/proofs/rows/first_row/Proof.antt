@@ -1,7 +1,7 @@
 -- `rows::first_row` meets its contract.
 -- Assumes nothing.
 use native.Mathlib.Omega.{arith}
-use Rattle.sizing.specs.Sums.{equal}
+use Rattle.sizing.proofs.laws.Sums.{equal}
 use Rattle.sizing.specs.Rows.{firstRow}
 use Rattle.sizing.proofs.rows.first_row.Statement.{statement}
 use Rattle.sizing.proofs.rows.first_row.Tie as tie

@@ -1,7 +1,7 @@
 -- `rows::later_row` meets its contract.
 -- Assumes nothing.
 use native.Mathlib.Omega.{arith}
-use Rattle.sizing.specs.Sums.{equal}
+use Rattle.sizing.proofs.laws.Sums.{equal}
 use Rattle.sizing.specs.Rows.{laterRow}
 use Rattle.sizing.proofs.rows.later_row.Statement.{statement}
 use Rattle.sizing.proofs.rows.later_row.Tie as tie

@@ -3,7 +3,7 @@ use borrow.Author.Needs.{needs}
 use Prim.Native.Nat.{_*_}
 use mathlib.Core.Path.{sym}
 use native.Mathlib.Omega.{arith}
-use Rattle.tables.specs.Laws.{length-rowAt}
+use Rattle.tables.proofs.laws.Laws.{length-rowAt}
 use Rattle.tables.proofs.row.row_len.Statement.{statement}
 use Rattle.tables.proofs.row.row_len.Tie as tie
 

@@ -2,7 +2,7 @@
 use borrow.Author.Needs.{needs}
 use mathlib.Core.Path.{sym}
 use native.Mathlib.Omega.{arith}
-use Rattle.tables.specs.Laws.{rowAt-member}
+use Rattle.tables.proofs.laws.Laws.{rowAt-member}
 use Rattle.tables.proofs.row.row_member.Statement.{statement}
 use Rattle.tables.proofs.row.row_member.Tie as tie
 

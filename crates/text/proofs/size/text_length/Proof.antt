@@ -1,6 +1,6 @@
 -- `size::text_length` meets its contract: the header's length and the lines', far below 2 ^ 63.
 use native.Mathlib.Omega.{arith}
-use Rattle.text.specs.Ready.{lines-below, whole-length}
+use Rattle.text.proofs.laws.Ready.{lines-below, whole-length}
 use borrow.Author.Needs.{needs}
 use Rattle.text.proofs.size.text_length.Statement.{statement}
 use Rattle.text.proofs.size.text_length.Tie as tie

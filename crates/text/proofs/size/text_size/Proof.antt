@@ -1,7 +1,7 @@
 -- `size::text_size` meets its contract: the stores are long enough, and each case of `measure` is a case of the answer.
 use mathlib.Core.Path.{ap, _∙_}
 use Rattle.scope.specs.Parsed.{answered}
-use Rattle.text.specs.Written.{size-answered, size-refused}
+use Rattle.text.proofs.laws.Written.{size-answered, size-refused}
 use borrow.Author.Needs.{needs}
 use Rattle.text.proofs.size.text_size.Statement.{statement}
 use Rattle.text.proofs.size.text_size.Tie as tie

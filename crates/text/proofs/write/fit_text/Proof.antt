@@ -1,6 +1,6 @@
 -- `write::fit_text` meets its contract: the text fits, or 9.
 use native.Mathlib.Omega.{arith}
-use Rattle.text.specs.Written.{text-written, text-too-long}
+use Rattle.text.proofs.laws.Written.{text-written, text-too-long}
 use borrow.Author.Needs.{needs}
 use Rattle.text.proofs.write.fit_text.Statement.{statement}
 use Rattle.text.proofs.write.fit_text.Tie as tie

@@ -1,8 +1,8 @@
 -- `write::put_text` meets its contract: header, hard lines and soft lines, one after another.
 use native.Mathlib.Omega.{arith}
-use Rattle.clauses.specs.Writable.{writable-kept}
-use Rattle.text.specs.Lines.{lines-placed}
-use Rattle.text.specs.Ready.{ran-at, writable, whole-text}
+use Rattle.clauses.proofs.laws.Writable.{writable-kept}
+use Rattle.text.proofs.laws.Lines.{lines-placed}
+use Rattle.text.proofs.laws.Ready.{ran-at, writable, whole-text}
 use borrow.Author.Needs.{needs}
 use Rattle.text.proofs.write.put_text.Statement.{statement}
 use Rattle.text.proofs.write.put_text.Tie as tie

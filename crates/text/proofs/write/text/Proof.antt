@@ -1,6 +1,6 @@
 -- `write::text` meets its contract: each case of `measure` is a case of the answer.
 use lib.ListN.{length}
-use Rattle.text.specs.Written.{text-fitted, text-refused}
+use Rattle.text.proofs.laws.Written.{text-fitted, text-refused}
 use borrow.Author.Needs.{needs}
 use Rattle.text.proofs.write.text.Statement.{statement}
 use Rattle.text.proofs.write.text.Tie as tie

@@ -5,7 +5,7 @@ use lib.ListN.{length, drop}
 use native.Mathlib.Nat.{le-trans}
 use borrow.Author.Needs.{needs}
 use Rattle.scope.specs.Score.{firstAbove}
-use Rattle.timetable.specs.Above.{none-above, above}
+use Rattle.timetable.proofs.laws.Above.{none-above, above}
 use Rattle.timetable.proofs.bytes.first_above.Statement.{statement}
 use Rattle.timetable.proofs.bytes.first_above.Tie as tie
 

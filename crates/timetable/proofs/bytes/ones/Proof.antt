@@ -4,7 +4,8 @@ use mathlib.Core.Path.{_≡_}
 use borrow.Author.Needs.{needs}
 use Rattle.scope.specs.Kinds.{from, upTo}
 use Rattle.scope.specs.Score.{trues}
-use Rattle.resource_uses.specs.Bits.{marks, counting}
+use Rattle.resource_uses.specs.Bits.{marks}
+use Rattle.resource_uses.proofs.laws.Bits.{counting}
 use Rattle.timetable.proofs.bytes.ones.Statement.{statement}
 use Rattle.timetable.proofs.bytes.ones.Tie as tie
 

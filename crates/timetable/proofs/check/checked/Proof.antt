@@ -1,7 +1,7 @@
 -- `timetable::check::checked` meets its contract. Length, bytes and events in this order, each a law of Refusals.
 use native.Mathlib.Omega.{arith}
 use native.Mathlib.Nat.{mul-le-mul}
-use Rattle.timetable.specs.Refusals.{refusals}
+use Rattle.timetable.proofs.laws.Refusals.{refusals}
 use borrow.Author.Needs.{needs}
 use Rattle.timetable.proofs.check.checked.Statement.{statement}
 use Rattle.timetable.proofs.check.checked.Tie as tie

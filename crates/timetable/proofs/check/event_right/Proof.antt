@@ -1,5 +1,5 @@
 -- `timetable::check::event_right` meets its contract. The count and the walk are the two parts of the definition.
-use Rattle.timetable.specs.Right.{events}
+use Rattle.timetable.proofs.laws.Right.{events}
 use borrow.Author.Needs.{needs}
 use Rattle.timetable.proofs.check.event_right.Statement.{statement}
 use Rattle.timetable.proofs.check.event_right.Tie as tie

@@ -4,7 +4,8 @@ use mathlib.Core.Path.{_≡_}
 use native.Mathlib.Omega.{arith}
 use native.Mathlib.Nat.{mul-le-mul-right}
 use borrow.Author.Needs.{needs}
-use Rattle.timetable.specs.Right.{wrongFrom, passing}
+use Rattle.timetable.specs.Right.{wrongFrom}
+use Rattle.timetable.proofs.laws.Right.{passing}
 use Rattle.timetable.proofs.check.first_wrong.Statement.{statement}
 use Rattle.timetable.proofs.check.first_wrong.Tie as tie
 

@@ -5,7 +5,8 @@ use mathlib.Core.List.{map}
 use borrow.Author.Needs.{needs}
 use Rattle.scope.specs.Kinds.{from, upTo}
 use Rattle.scope.specs.Score.{all}
-use Rattle.timetable.specs.Right.{startAt, beforeAt, walking}
+use Rattle.timetable.specs.Right.{startAt, beforeAt}
+use Rattle.timetable.proofs.laws.Right.{walking}
 use Rattle.timetable.proofs.check.starts_right.Statement.{statement}
 use Rattle.timetable.proofs.check.starts_right.Tie as tie
 

@@ -4,7 +4,8 @@ use Prim.Native.Nat.{_+_, _-_, _≤_}
 use mathlib.Core.Path.{_≡_}
 use native.Mathlib.Omega.{arith}
 use Rattle.user_table.specs.Users.{usersIn}
-use Rattle.user_table.specs.Filled.{Filled, first-rows}
+use Rattle.user_table.specs.Filled.{Filled}
+use Rattle.user_table.proofs.laws.Filled.{first-rows}
 use Rattle.user_table.proofs.Filling.{filled-none}
 use Rattle.user_table.proofs.users.fill_users.Statement.{statement}
 use Rattle.user_table.proofs.users.fill_users.Tie as tie

@@ -4,7 +4,7 @@ use mathlib.Core.Path.{_≡_}
 use borrow.Author.Needs.{needs}
 use lib.ListN.{length, drop}
 use Rattle.scope.specs.Operations.{sameBytes}
-use Rattle.verdict.specs.Same.{comparing}
+use Rattle.verdict.proofs.laws.Same.{comparing}
 use Rattle.verdict.proofs.same.same_bytes.Statement.{statement}
 use Rattle.verdict.proofs.same.same_bytes.Tie as tie
 

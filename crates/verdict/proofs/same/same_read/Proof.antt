@@ -1,6 +1,6 @@
 -- `verdict::same::same_read` meets its contract. The verdict of the first, of the second, then their Y bytes.
 use mathlib.Core.Path.{sym}
-use Rattle.verdict.specs.Answers.{timetables-halve, sheet-first, sheet-second, sheet-answered}
+use Rattle.verdict.proofs.laws.Answers.{timetables-halve, sheet-first, sheet-second, sheet-answered}
 use native.Mathlib.Omega.{arith}
 use lib.Seq.{length-take-le}
 use borrow.Author.Needs.{needs}

@@ -1,6 +1,6 @@
 -- `verdict::scored::score_read` meets its contract. The verdict first, then the score.
-use Rattle.verdict.specs.Answers.{timetable-long, score-refused, score-scored}
-use Rattle.score.specs.Ready.{scorable}
+use Rattle.verdict.proofs.laws.Answers.{timetable-long, score-refused, score-scored}
+use Rattle.score.proofs.laws.Ready.{scorable}
 use borrow.Author.Needs.{needs}
 use Rattle.verdict.proofs.scored.score_read.Statement.{statement}
 use Rattle.verdict.proofs.scored.score_read.Tie as tie

@@ -4,10 +4,11 @@ use Prim.Native.Nat.{_-_, _≤_}
 use mathlib.Core.Path.{_≡_, refl}
 use native.Mathlib.Omega.{arith}
 use lib.ListN.{length}
-use Rattle.constraint.specs.Walk.{walk-refused}
+use Rattle.constraint.proofs.laws.Walk.{walk-refused}
 use Rattle.sink.specs.World.{world, step}
-use Rattle.walk_clauses.specs.Position.{ran-placed}
-use Rattle.walk_clauses.specs.Walked.{Walkable, walkable-kept, Part, part-start, part-read, part-fits, part-room, part-next, part-end}
+use Rattle.walk_clauses.proofs.laws.Position.{ran-placed}
+use Rattle.walk_clauses.specs.Walked.{Walkable}
+use Rattle.walk_clauses.proofs.laws.Walked.{walkable-kept, Part, part-start, part-read, part-fits, part-room, part-next, part-end}
 use borrow.Author.Needs.{needs}
 use Rattle.walk_clauses.proofs.walk.write_constraints.Statement.{statement}
 use Rattle.walk_clauses.proofs.walk.write_constraints.Tie as tie

@@ -1,2 +1,0 @@
-pub mod Best
-pub mod Demand

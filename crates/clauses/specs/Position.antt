@@ -1,2 +1,0 @@
--- Where a run over the formula stands, passed on from the walk over the constraints.
-pub use Rattle.walk_clauses.specs.Position.{run-placed, ran-placed}

@@ -1,2 +1,0 @@
--- A block's clauses as the lines of their gate.
-pub use Rattle.row_words.specs.Cells.{gate-ran}

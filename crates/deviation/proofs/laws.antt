@@ -1,0 +1,8 @@
+-- Laws, for other crates to use.
+pub mod Group
+pub mod Idle
+pub mod Sums
+pub mod Outside
+pub mod Charge
+pub mod Counting
+pub mod Meaning

@@ -1,0 +1,181 @@
+-- What is charged for a constraint of each kind is its deviation by the definitions, for a timetable's bytes b, the table u of its
+-- uses and the table x of X.
+use Prim.Native.Nat.{ℕ, zero, suc, _+_, _-_, _*_, _<_, _≤_}
+use mathlib.Core.Path.{_≡_, refl, sym, ap, ap₂, fun-ext, _∙_}
+use mathlib.Core.Bool.{Bool, true, false, cond}
+use mathlib.Core.List.{List, _∷_, map, flatMap}
+use lib.ListN.{length, getD}
+use lib.Dec.{ltb, eqb}
+use native.Mathlib.Omega.{arith}
+use native.Mathlib.Nat.{add-assoc, mul-le-mul}
+use Rattle.scope.specs.Cnf.{bit}
+use Rattle.scope.specs.Kinds.{Kind, clash, unavailable, preferred, split, spread, busy, cluster, idle, Y, S, X, atom, anyOf, from, upTo, users, outside, groupAt, usesAt, takesAt, startsAt, gaps, countedOf, rulesOf}
+use Rattle.scope.specs.Instance.{Instance, Counts}
+use Rattle.scope.specs.Score.{trues, any, deviation, deviations, truth, slots}
+use Rattle.theory.proofs.laws.Entries.{entryTrue}
+use Rattle.parsing.specs.Numbers.{Ascending, none, more}
+use Rattle.tables.specs.Rows.{rowAt, rows, eventsOf}
+use Rattle.tables.proofs.laws.Laws.{group-row}
+use Rattle.constraint.specs.Valid.{OneOf, InRange}
+use Rattle.timetable.specs.Bits.{marks}
+use Rattle.timetable.proofs.laws.Bits.{bit-next}
+use Rattle.timetable.proofs.laws.Takers.{takers-users, any-trues}
+use Rattle.timetable.specs.Uses.{UsesOf, Marked}
+use Rattle.deviation.specs.Sums.{total}
+use Rattle.deviation.proofs.laws.Counting.{map-map, trues-total, trues-flat, deviation-zero, deviation-one, one-list, one-limit, many-lists, gaps-idle}
+use Rattle.deviation.specs.Charge.{chargeOf, clashCharge, unavailableCharge, preferredCharge, splitCharge, spreadCharge, busyCharge, clusterCharge, idleCharge}
+
+-- the table of uses and the table of X say of an instance's timetable what the definitions say
+pub record Seen (i : Instance) (b u x : List ℕ) : Type 0 where
+  pub uses : (r t : ℕ) → 1 ≤ r → r ≤ 99 → 1 ≤ t → t ≤ i .times
+      → getD u ((r - 1) * i .times + (t - 1)) 0 ≡ trues (map (λ e. bit b ((e - 1) * i .times + t)) (users r (i .events)))
+  pub used : (r t : ℕ) → 1 ≤ r → r ≤ 99 → 1 ≤ t → t ≤ i .times → bit x ((r - 1) * i .times + t) ≡ truth i b (X r t)
+
+byte-bit : (t : Bool) → eqb (cond t 1 0) 1 ≡ t
+byte-bit true = refl
+byte-bit false = refl
+
+-- they do, where the tables were made of rows of resources
+pub tables-seen : (i : Instance) (b u x d rs : List ℕ) (n : ℕ) → i .events ≡ eventsOf d rs n → i .times ≤ 125 → length u ≡ 12375
+    → UsesOf (i .times) b rs n u → Marked u x → Seen i b u x
+unfolding truth
+tables-seen i b u x d rs n e h l a m = record { uses = count; used = mark }
+  where
+    count : (r t : ℕ) → 1 ≤ r → r ≤ 99 → 1 ≤ t → t ≤ i .times
+        → getD u ((r - 1) * i .times + (t - 1)) 0 ≡ trues (map (λ e. bit b ((e - 1) * i .times + t)) (users r (i .events)))
+    count r t p q v w =
+        let j : suc (r - 1) ≡ r = omega arith in
+        let k : suc (t - 1) ≡ t = omega arith in
+        a .each (r - 1) (t - 1) (omega arith) (omega arith)
+        ∙ rw (j, k, e) (takers-users (i .times) b d rs r t n)
+
+    mark : (r t : ℕ) → 1 ≤ r → r ≤ 99 → 1 ≤ t → t ≤ i .times
+        → bit x ((r - 1) * i .times + t) ≡ any (map (λ e. bit b ((e - 1) * i .times + t)) (users r (i .events)))
+    mark r t p q v w =
+        let T = i .times in
+        let k : (r - 1) * T + t ≡ (r - 1) * T + (t - 1 + 1) = omega arith in
+        let f : r - 1 + 1 ≡ r = omega arith in
+        let g : (r - 1) * T + T ≡ r * T = omega (arith, ap (λ n. n * T) f) in
+        let room : (r - 1) * T + (t - 1) < length u = omega (arith, mul-le-mul {n₁ = r} {m₁ = T} {n₂ = 99} {m₂ = 125} q h) in
+        ap (bit x) k
+        ∙ bit-next x ((r - 1) * T) (t - 1)
+        ∙ rw (m .each ((r - 1) * T + (t - 1)) room, byte-bit (ltb 0 (getD u ((r - 1) * T + (t - 1)) 0)), count r t p q v w, any-trues)
+
+-- sums that agree on the numbers that they are over
+total-from : (f g : ℕ → ℕ) (s k : ℕ) → ((t : ℕ) → s ≤ t → t < s + k → f t ≡ g t) → total f (from s k) ≡ total g (from s k)
+unfolding total from
+total-from f g s zero h = refl
+total-from f g s (suc k) h = ap₂ _+_ (h s (omega arith) (omega arith)) (total-from f g (suc s) k (λ t l m. h t (omega arith) (omega arith)))
+
+total-listed : (f g : ℕ → ℕ) (n : ℕ) {before : ℕ} {l : List ℕ} → Ascending n before l → ((t : ℕ) → OneOf n t → f t ≡ g t)
+    → total f l ≡ total g l
+unfolding total
+total-listed f g n none h = refl
+total-listed f g n (more {x = y} a b r) h = ap₂ _+_ (h y (record { low = omega arith; high = b })) (total-listed f g n r h)
+
+module _ (i : Instance) (b u x gs : List ℕ) (G : ℕ) (seen : Seen i b u x) (table : i .groups ≡ rows gs G) (times : (g : ℕ) → g < G → Ascending (i .times) 0 (rowAt gs g)) where
+  -- X at the times of a group
+  marks-used : (r : ℕ) → 1 ≤ r → r ≤ 99 → {before : ℕ} {ts : List ℕ} → Ascending (i .times) before ts
+      → marks x ((r - 1) * i .times) ts ≡ map (truth i b) (usesAt r ts)
+  marks-used r lo hi none = refl
+  marks-used r lo hi (more {x = t} a c d) = ap₂ _∷_ (seen .used r t lo hi (omega arith) c) (marks-used r lo hi d)
+
+  group-is : (g : ℕ) → OneOf G g → groupAt (i .groups) g ≡ rowAt gs (g - 1)
+  group-is g o = rw table (group-row gs G g (o .low) (o .high))
+
+  group-used : (r g : ℕ) → 1 ≤ r → r ≤ 99 → OneOf G g
+      → marks x ((r - 1) * i .times) (rowAt gs (g - 1)) ≡ map (truth i b) (usesAt r (groupAt (i .groups) g))
+  group-used r g lo hi o = rw (group-is g o) (marks-used r lo hi (times (g - 1) (omega (arith, o .low, o .high))))
+
+  -- the lists of each kind, valued
+  uses-valued : (r : ℕ) (ts : List ℕ) → map (entryTrue (truth i b)) (map atom (usesAt r ts)) ≡ map (truth i b) (usesAt r ts)
+  unfolding entryTrue
+  uses-valued r ts = map-map (entryTrue (truth i b)) atom (usesAt r ts)
+
+  takes-valued : (e : ℕ) (ts : List ℕ) → map (entryTrue (truth i b)) (takesAt e ts) ≡ marks b ((e - 1) * i .times) ts
+  unfolding entryTrue truth
+  takes-valued e ts = map-map (entryTrue (truth i b)) (λ t. atom (Y e t)) ts
+
+  starts-valued : (e : ℕ) (ts : List ℕ) → map (entryTrue (truth i b)) (startsAt e ts) ≡ marks b (slots i + (e - 1) * i .times) ts
+  unfolding entryTrue truth
+  starts-valued e ts =
+      map-map (entryTrue (truth i b)) (λ t. atom (S e t)) ts
+      ∙ ap (λ f. map f ts) (fun-ext (λ t. ap (bit b) (sym (add-assoc (slots i) ((e - 1) * i .times) t))))
+
+  takers-valued : (t : ℕ) (es : List ℕ) → map (entryTrue (truth i b)) (map (λ e. atom (Y e t)) es) ≡ map (λ e. bit b ((e - 1) * i .times + t)) es
+  unfolding entryTrue truth
+  takers-valued t es = map-map (entryTrue (truth i b)) (λ e. atom (Y e t)) es
+
+  some-valued : (r : ℕ) (hs : List ℕ)
+      → trues (map (entryTrue (truth i b)) (map (λ g. anyOf (usesAt r (groupAt (i .groups) g))) hs))
+      ≡ total (λ g. cond (any (map (truth i b) (usesAt r (groupAt (i .groups) g)))) 1 0) hs
+  unfolding entryTrue
+  some-valued r hs =
+      ap trues (map-map (entryTrue (truth i b)) (λ g. anyOf (usesAt r (groupAt (i .groups) g))) hs)
+      ∙ trues-total (λ g. any (map (truth i b) (usesAt r (groupAt (i .groups) g)))) hs
+
+  -- each kind
+  abbrev Right : Kind → Type 0
+  Right k = chargeOf (slots i) (i .times) b u x gs k ≡ deviations (truth i b) (rulesOf (i .times) (λ r. users r (i .events)) (groupAt (i .groups)) k)
+
+  clash-right : (r : ℕ) → 1 ≤ r → r ≤ 99 → Right (clash r)
+  unfolding clashCharge countedOf
+  clash-right r lo hi =
+      sym (many-lists (truth i b) 0 1 (λ t. map (λ e. atom (Y e t)) (users r (i .events))) (upTo (i .times))
+      ∙ total-from _ _ 1 (i .times)
+      (λ t l m. rw (deviation-one, takers-valued t (users r (i .events)), ← (seen .uses r t lo hi l (omega arith)))))
+
+  unavailable-right : (r g : ℕ) → 1 ≤ r → r ≤ 99 → OneOf G g → Right (unavailable r g)
+  unfolding unavailableCharge countedOf
+  unavailable-right r g lo hi o =
+      sym (one-list (truth i b) 0 0 (map atom (usesAt r (groupAt (i .groups) g)))
+      ∙ rw (deviation-zero, uses-valued r (groupAt (i .groups) g), ← (group-used r g lo hi o)))
+
+  preferred-right : (e g : ℕ) → OneOf G g → Right (preferred e g)
+  unfolding preferredCharge countedOf
+  preferred-right e g o =
+      sym (one-list (truth i b) 0 0 (takesAt e (outside (groupAt (i .groups) g) (upTo (i .times))))
+      ∙ rw (deviation-zero, takes-valued e (outside (groupAt (i .groups) g) (upTo (i .times))), group-is g o))
+
+  split-right : (e lo hi : ℕ) → Right (split e lo hi)
+  unfolding splitCharge countedOf
+  split-right e lo hi = sym (one-list (truth i b) lo hi (startsAt e (upTo (i .times))) ∙ rw (starts-valued e (upTo (i .times))))
+
+  spread-right : (vs : List ℕ) (g lo hi : ℕ) → OneOf G g → Right (spread vs g lo hi)
+  unfolding spreadCharge countedOf
+  spread-right vs g lo hi o =
+      sym (one-list (truth i b) lo hi (flatMap (λ e. startsAt e (groupAt (i .groups) g)) vs)
+      ∙ ap (deviation lo hi)
+      (trues-flat (entryTrue (truth i b)) (λ e. startsAt e (groupAt (i .groups) g)) vs
+      ∙ ap (λ f. total f vs) (fun-ext (λ e. rw (starts-valued e (groupAt (i .groups) g), group-is g o)))))
+
+  busy-right : (r g lo hi : ℕ) → 1 ≤ r → r ≤ 99 → OneOf G g → Right (busy r g lo hi)
+  unfolding busyCharge countedOf
+  busy-right r g lo hi p q o =
+      sym (one-limit (truth i b) lo hi (map atom (usesAt r (groupAt (i .groups) g)))
+      ∙ rw (uses-valued r (groupAt (i .groups) g), ← (group-used r g p q o)))
+
+  cluster-right : (r : ℕ) (hs : List ℕ) (lo hi : ℕ) → 1 ≤ r → r ≤ 99 → Ascending G 0 hs → Right (cluster r hs lo hi)
+  unfolding clusterCharge countedOf
+  cluster-right r hs lo hi p q a =
+      sym (one-list (truth i b) lo hi (map (λ g. anyOf (usesAt r (groupAt (i .groups) g))) hs)
+      ∙ ap (deviation lo hi) (some-valued r hs ∙ total-listed _ _ G a (λ g o. rw (group-used r g p q o))))
+
+  idle-right : (r : ℕ) (hs : List ℕ) (lo hi : ℕ) → 1 ≤ r → r ≤ 99 → Ascending G 0 hs → Right (idle r hs lo hi)
+  unfolding idleCharge countedOf
+  idle-right r hs lo hi p q a =
+      sym (one-list (truth i b) lo hi (flatMap (λ g. gaps (usesAt r (groupAt (i .groups) g))) hs)
+      ∙ ap (deviation lo hi)
+      (trues-flat (entryTrue (truth i b)) (λ g. gaps (usesAt r (groupAt (i .groups) g))) hs
+      ∙ total-listed _ _ G a (λ g o. gaps-idle (truth i b) (usesAt r (groupAt (i .groups) g)) ∙ rw (group-used r g p q o))))
+
+  -- a kind whose fields are references to what there is
+  pub charge-right : (n : Counts) (k : Kind) → n .resources ≤ 99 → n .groups ≡ G → InRange n k → Right k
+  charge-right n (clash r) h e v = clash-right r (v .low) (omega (arith, v .high))
+  charge-right n (unavailable r g) h e v = unavailable-right r g (v .0 .low) (omega (arith, v .0 .high)) (rw e at (v .1))
+  charge-right n (preferred ev g) h e v = preferred-right ev g (rw e at (v .1))
+  charge-right n (split ev lo hi) h e v = split-right ev lo hi
+  charge-right n (spread vs g lo hi) h e v = spread-right vs g lo hi (rw e at (v .1))
+  charge-right n (busy r g lo hi) h e v = busy-right r g lo hi (v .0 .low) (omega (arith, v .0 .high)) (rw e at (v .1))
+  charge-right n (cluster r hs lo hi) h e v = cluster-right r hs lo hi (v .0 .low) (omega (arith, v .0 .high)) (rw e at (v .1))
+  charge-right n (idle r hs lo hi) h e v = idle-right r hs lo hi (v .0 .low) (omega (arith, v .0 .high)) (rw e at (v .1))

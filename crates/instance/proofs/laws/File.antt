@@ -1,0 +1,84 @@
+-- The file in two parts: the tables, and the constraints up to the end: laws.
+use Prim.Native.Nat.{ℕ}
+use mathlib.Core.Path.{_≡_, refl}
+use mathlib.Core.Bool.{Bool, true, false}
+use mathlib.Core.List.{List}
+use lib.Dec.{leb}
+use lib.ListN.{length}
+use Rattle.scope.specs.Parsed.{Parsed, got, refused, andThen, unless, repeat}
+use Rattle.scope.specs.Number.{limited}
+use Rattle.scope.specs.Kinds.{Event, Constraint}
+use Rattle.scope.specs.Instance.{Instance, eventAt, groupsAt, sizesAt, constraintsAt, parse}
+use Rattle.constraint_end.specs.Ends.{wholeAt}
+use Rattle.instance.specs.File.{Start, tablesAt, withConstraints, constraintIn}
+
+-- the constraints up to the end of the file
+unfoldable pub restAt : List ℕ → Start → ℕ → Parsed Instance
+restAt s t at =
+    andThen (limited 0 4096 s at)
+    (λ count next. andThen (wholeAt s count (constraintIn t s) next) (λ cs end. got (withConstraints t cs) end))
+
+-- the checks for the end may come before or after the instance is made
+rest-test : (b : Bool) (t : Start) (cs : List Constraint) (end : ℕ)
+    → unless b 6 end (got (withConstraints t cs) end)
+    ≡ andThen (unless b 6 end (got cs end)) (λ cs end. got (withConstraints t cs) end)
+rest-test true t cs end = refl
+rest-test false t cs end = refl
+
+rest-list : (s : List ℕ) (t : Start) (p : Parsed (List Constraint))
+    → andThen p (λ cs end. unless (leb (length s) end) 6 end (got (withConstraints t cs) end))
+    ≡ andThen (andThen p (λ cs end. unless (leb (length s) end) 6 end (got cs end))) (λ cs end. got (withConstraints t cs) end)
+rest-list s t (got cs end) = rest-test (leb (length s) end) t cs end
+rest-list s t (refused k v) = refl
+
+rest-count : (s : List ℕ) (t : Start) (p : Parsed ℕ) (q : ℕ → ℕ → Parsed (List Constraint))
+    → andThen (andThen p q) (λ cs end. unless (leb (length s) end) 6 end (got (withConstraints t cs) end))
+    ≡ andThen p
+    (λ count next.
+    andThen (andThen (q count next) (λ cs end. unless (leb (length s) end) 6 end (got cs end)))
+    (λ cs end. got (withConstraints t cs) end))
+rest-count s t (got count next) q = rest-list s t (q count next)
+rest-count s t (refused k v) q = refl
+
+rest-of : (s : List ℕ) (t : Start) (at : ℕ)
+    → andThen (constraintsAt (t .times) (t .resources) (t .events) (t .groups) s at)
+    (λ cs end. unless (leb (length s) end) 6 end (got (withConstraints t cs) end))
+    ≡ restAt s t at
+unfolding constraintsAt restAt wholeAt
+rest-of s t at = rest-count s t (limited 0 4096 s at) (λ count next. repeat count (constraintIn t s) next)
+
+-- the rest may come after the tables are made
+module _ {A B C D E : Type 0} (f : A → ℕ → Parsed B) (g : A → B → ℕ → Parsed C) (h : A → B → C → D) (r : D → ℕ → Parsed E) where
+  third : (a : A) (b : B) (p : Parsed C) → andThen p (λ c z. r (h a b c) z) ≡ andThen (andThen p (λ c z. got (h a b c) z)) r
+  third a b (got c z) = refl
+  third a b (refused k v) = refl
+
+  second : (a : A) (p : Parsed B)
+      → andThen p (λ b y. andThen (g a b y) (λ c z. r (h a b c) z))
+      ≡ andThen (andThen p (λ b y. andThen (g a b y) (λ c z. got (h a b c) z))) r
+  second a (got b y) = third a b (g a b y)
+  second a (refused k v) = refl
+
+  first : (p : Parsed A)
+      → andThen p (λ a x. andThen (f a x) (λ b y. andThen (g a b y) (λ c z. r (h a b c) z)))
+      ≡ andThen (andThen p (λ a x. andThen (f a x) (λ b y. andThen (g a b y) (λ c z. got (h a b c) z)))) r
+  first (got a x) = second a (f a x)
+  first (refused k v) = refl
+
+-- the file is the tables and then the constraints
+pub parse-parts : (s : List ℕ) → parse s ≡ andThen (tablesAt s) (restAt s)
+unfolding parse tablesAt
+parse-parts s =
+    simp rest-of′
+    (first (λ n a. repeat (n .1) (eventAt (n .0) (n .2) s) a) (λ n es b. groupsAt (n .0) s b)
+    (λ n es gs. record { times = n .0; resources = n .2; events = es; groups = gs })
+    (restAt s)
+    (sizesAt s))
+  where
+    rest-of′ : (T R : ℕ) (es : List Event) (gs : List (List ℕ)) (at : ℕ)
+        → andThen (constraintsAt T R es gs s at)
+        (λ cs end.
+        unless (leb (length s) end) 6 end
+        (got (record { times = T; resources = R; events = es; groups = gs; constraints = cs }) end))
+        ≡ restAt s (record { times = T; resources = R; events = es; groups = gs }) at
+    rest-of′ T R es gs at = rest-of s (record { times = T; resources = R; events = es; groups = gs }) at

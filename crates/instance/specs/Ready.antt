@@ -1,2 +1,0 @@
--- Counts that are 0.
-pub use Rattle.constraint_end.specs.Ready.{zeros}

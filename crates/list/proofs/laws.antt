@@ -1,0 +1,4 @@
+-- Laws, for other crates to use.
+pub mod Fillable
+pub mod ListsOf
+pub mod Literals

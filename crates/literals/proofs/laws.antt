@@ -1,0 +1,9 @@
+-- Laws, for other crates to use.
+pub mod Words
+pub mod Variables
+pub mod Outputs
+pub mod Proper
+pub mod NodeWords
+pub mod Entries
+pub mod Laws
+pub mod Blocks

@@ -1,0 +1,5 @@
+-- Laws, for other crates to use.
+pub mod Parsing
+pub mod Each
+pub mod Numbers
+pub mod ValidRows

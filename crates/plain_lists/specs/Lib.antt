@@ -1,2 +1,0 @@
-pub mod Atoms
-pub mod Plain

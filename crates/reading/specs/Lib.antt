@@ -1,6 +1,0 @@
-pub mod Reading
-pub mod Listing
-pub mod ReadingTurns
-pub mod ReadingLoops
-pub mod StepReading
-pub mod Copying

@@ -1,0 +1,4 @@
+-- Laws, for other crates to use.
+pub mod Literals
+pub mod Cells
+pub mod Rows

@@ -1,0 +1,7 @@
+-- Laws, for other crates to use.
+pub mod Hints
+pub mod Invariant
+pub mod LookMeans
+pub mod StepMeans
+pub mod ReadMeans
+pub mod Meaning

@@ -1,0 +1,4 @@
+-- Laws, for other crates to use.
+pub mod Laws
+pub mod Reading
+pub mod Occurrences

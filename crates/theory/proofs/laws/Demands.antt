@@ -1,0 +1,17 @@
+-- Demands 2 and 3 of the definitions, and what the two operations beside them owe.
+use Rattle.scope.specs.Demands.{Demand2, Demand3, DemandHard, DemandBest}
+use Rattle.theory.proofs.laws.Match as match
+use Rattle.theory.proofs.laws.Bounded.{bounded-model}
+use Rattle.theory.proofs.laws.Never as bound
+
+pub demand2 : Demand2
+demand2 = match.demand2
+
+pub demand3 : Demand3
+demand3 = bound.demand3 (λ file i B t cost a. bounded-model file i a B t cost)
+
+pub demandHard : DemandHard
+demandHard = bound.demand-hard (λ file i B t cost a. bounded-model file i a B t cost) demand2
+
+pub demandBest : DemandBest
+demandBest = bound.demand-best (λ file i B t cost a. bounded-model file i a B t cost) demand2

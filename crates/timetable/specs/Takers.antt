@@ -1,2 +1,0 @@
--- Events that use a resource and take a time.
-pub use Rattle.resource_uses.specs.Takers.{takers-users, any-trues}
