@@ -69,8 +69,8 @@ module _ (i : Instance) (v : ValidInstance i) where
     where
       go : (t : Bool) → ltb (g - 1) (length (i .groups)) ≡ t → length (groupAt (i .groups) g) ≤ 125
       go true t =
-          let a = All-at (Ascending 0 (i .times)) [] (i .groups) (g - 1) (ltb-true (g - 1) (length (i .groups)) t) (v .groups) in
-          omega (arith, ascending-length 0 (i .times) (groupAt (i .groups) g) (omega arith) a, v .times .high)
+          let a = All-at (Ascending (i .times) 0) [] (i .groups) (g - 1) (ltb-true (g - 1) (length (i .groups)) t) (v .groups) in
+          omega (arith, ascending-length (i .times) 0 (groupAt (i .groups) g) a (omega arith), v .times .high)
       go false t =
           let e = List·getD-eq-default (i .groups) [] (ltb-false (g - 1) (length (i .groups)) t) in
           rw e (omega arith)
