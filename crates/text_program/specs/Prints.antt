@@ -1,12 +1,12 @@
--- What stands in the output for the program to print.
-use mathlib.Core.Path.{_≡_}
+-- What the program prints for its input, where it is printed from a buffer.
+use mathlib.Core.Bool.{cond}
 use mathlib.Core.List.{List}
 use Prim.Native.Nat.{ℕ}
-use lib.ListN.{take}
-use Rattle.io.specs.Counts.{Counts}
-use Rattle.sink.specs.Run.{out}
+use lib.Dec.{leb}
+use lib.ListN.{length}
+use Rattle.scope.specs.Parsed.{Answer, refusal}
+use Rattle.scope.specs.Operations.{textOf}
 
--- the first n bytes of the output are the bytes to print
-pub record Prints (bytes : List ℕ) (n : ℕ) (out : List ℕ) : Type 0 where
-  pub within : Counts n out
-  pub first : take n out ≡ bytes
+-- the text or a refusal, where the text may have so many bytes
+unfoldable pub answerFor : List ℕ → ℕ → Answer (List ℕ)
+answerFor input room = cond (leb (length input) 65536) (textOf input room) (refusal 9 0)

@@ -1,7 +1,5 @@
--- `put_refusal` meets its contract: four runs of stores, which fit.
-use native.Mathlib.Omega.{arith}
+-- `put_refusal` meets its contract: four runs of stores.
 use Rattle.sink.specs.Run.{then}
-use Rattle.text_program.proofs.laws.Prints.{refusal-prints}
 use borrow.Author.Needs.{needs}
 use Rattle.text_program.proofs.put_refusal.Statement.{statement}
 use Rattle.text_program.proofs.put_refusal.Tie as tie
@@ -30,9 +28,7 @@ returns c =
     let n₂ = b₂ .before .before .before .before in
     let b₁ = n₂ .before .before .before .before in
     let n₁ = b₁ .before .before .before .before in
-    let f = n₁ .before .before .before .before .args .f in
-    refusal-prints (f .number) (f .value) (omega arith) (omega arith)
-    (then (then (then (n₁ .write-number .ensures) (b₁ .put-byte .ensures)) (n₂ .write-number2 .ensures)) (b₂ .put-byte2 .ensures))
+    then (then (then (n₁ .write-number .ensures) (b₁ .put-byte .ensures)) (n₂ .write-number2 .ensures)) (b₂ .put-byte2 .ensures)
 
 pub put-refusal-spec : {M : Type 1} → statement M
 put-refusal-spec =
