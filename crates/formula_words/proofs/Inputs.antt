@@ -1,11 +1,12 @@
 -- The lists of a kind: at most 125 of them, and at most 125 inputs for each of their nodes.
-use mathlib.Core.Path.{_≡_, refl}
+use mathlib.Core.Path.{_≡_}
 use mathlib.Core.List.{List, [], _∷_, _++_, map, flatMap}
-use Prim.Native.Nat.{ℕ, zero, suc, _+_, _*_, _≤_}
+use Prim.Native.Nat.{ℕ, _+_, _*_, _≤_}
 use native.Mathlib.Omega.{arith}
 use lib.ListN.{length, length-append, length-map}
 use Rattle.laws.specs.Lists.{All, All-append}
-use Rattle.scope.specs.Kinds.{Kind, clash, unavailable, preferred, split, spread, busy, cluster, idle, Atom, X, Y, S, Node, Ref, is, anAtom, atoms, Entry, atom, anyOf, gap, entryNodes, added, entriesNodes, Listed, entries, Counted, from, upTo, usesAt, startsAt, outside, gapsAfter, gaps, countedOf}
+use Rattle.scope.specs.Kinds.{Kind, clash, unavailable, preferred, split, spread, busy, cluster, idle, Atom, X, Y, S, Node, is, anAtom, atoms, Entry, atom, anyOf, gap, entryNodes, added, entriesNodes, Listed, entries, Counted, upTo, usesAt, startsAt, outside, gapsAfter, gaps, countedOf}
+use Rattle.theory.proofs.laws.Ranges.{length-from}
 use Rattle.measuring.specs.NodeSizes.{inputs, allInputs}
 
 -- a list with few inputs
@@ -68,11 +69,6 @@ all-flat : {A : Type 0} (f : A → List Entry) → ((x : A) → All Brief (f x))
 unfolding flatMap
 all-flat f h [] = tt
 all-flat f h (x ∷ xs) = All-append Brief (f x) (flatMap f xs) (h x) (all-flat f h xs)
-
-length-from : (n k : ℕ) → length (from n k) ≡ k
-unfolding from
-length-from n zero = refl
-length-from n (suc k) = omega (arith, length-from (suc n) k)
 
 -- what a kind counts, where no group has more than 125 members
 pub record Few (c : Counted) : Type 0 where

@@ -3,12 +3,13 @@ use Prim.Native.Nat.{ℕ, zero, suc, _+_, _-_, _*_, _≤_, _<_}
 use mathlib.Core.Path.{_≡_, refl, sym, ap, _∙_}
 use mathlib.Core.List.{List, [], _∷_, _++_, map, flatMap}
 use mathlib.Core.Bool.{cond}
-use mathlib.Core.Logic.{⊎-elim, _⊎_}
+use mathlib.Core.Logic.{⊎-elim}
 use native.Mathlib.Nat.{eq-or-lt-of-le}
 use native.Mathlib.Omega.{arith}
 use borrow.Author.Tests.{eq-eqb, ne-eqb}
 use lib.ListN.{length, getD, length-map, length-append}
 use Rattle.scope.specs.Kinds.{Event, Kind, clash, unavailable, preferred, split, spread, busy, cluster, idle, Atom, Y, S, X, Entry, atom, Listed, entries, from, upTo, member, users, outside, groupAt, usesAt, startsAt, gapsAfter, gaps, countedOf, longest}
+use Rattle.theory.proofs.laws.Ranges.{length-from}
 use Rattle.theory.proofs.laws.Nodes.{length-members}
 use Rattle.constraint.specs.Decoded.{longestOf}
 use Rattle.parsing.specs.Each.{Each, each-none, each-more}
@@ -31,11 +32,6 @@ longest-same : (f : ℕ → Listed) (m T : ℕ) → 1 ≤ T → ((t : ℕ) → l
 unfolding longest from
 longest-same f m zero p h = let z : ⊥ = omega arith in elim z [ ]
 longest-same f m (suc k) p h = omega (arith, longest-most f m 2 k h, h 1)
-
-length-upTo : (n k : ℕ) → length (from n k) ≡ k
-unfolding from
-length-upTo n zero = refl
-length-upTo n (suc k) = ap suc (length-upTo (suc n) k)
 
 -- a member below all of some times may be left out
 outside-skip : (x n k : ℕ) (g : List ℕ) → x < n → outside (x ∷ g) (from n k) ≡ outside g (from n k)
@@ -108,7 +104,7 @@ list-length T used es gs (unavailable r g) p u a = longest-one _ ∙ length-map 
 list-length T used es gs (preferred e g) p u a =
     let o = outside-length T 0 T (groupAt gs g) (group-ascending gs g a) (omega arith) in
     longest-one _ ∙ length-map (outside (groupAt gs g) (upTo T)) (λ t. atom (Y e t)) ∙ omega arith
-list-length T used es gs (split e lo hi) p u a = longest-one _ ∙ length-map (upTo T) (λ t. atom (S e t)) ∙ length-upTo 1 T
+list-length T used es gs (split e lo hi) p u a = longest-one _ ∙ length-map (upTo T) (λ t. atom (S e t)) ∙ length-from 1 T
 list-length T used es gs (spread vs g lo hi) p u a =
     longest-one _
     ∙ length-flat (λ e. startsAt e (groupAt gs g)) (length (groupAt gs g)) vs (λ e. length-map (groupAt gs g) (λ t. atom (S e t)))

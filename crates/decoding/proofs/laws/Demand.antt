@@ -15,6 +15,7 @@ use Rattle.scope.specs.declared.Refusal.{Refusal}
 use Rattle.scope.specs.declared.ScoreAnswer.{ScoreAnswer}
 use Rattle.scope.specs.declared.DecodeAnswer.{DecodeAnswer}
 use Rattle.theory.proofs.laws.Demands.{demand2}
+use Rattle.theory.proofs.laws.Answered.{answered-value}
 use Rattle.model.specs.Answers.{Decoded}
 use Rattle.decoding.specs.Given.{partGiven}
 use Rattle.decoding.proofs.laws.Given.{Gives}
@@ -35,9 +36,6 @@ pub record Matches (file : List ℕ) (i : Instance) : Type 0 where
   -- a model that is refused is none, and its part is empty
   pub refused : (m p : List ℕ) (f : Refusal) → Gives file m p (DecodeAnswer.Refused f) → (Model i m → ⊥) × (p ≡ [])
 
-answered-same : {A : Type 0} {x y : A} → answered x ≡ answered y → x ≡ y
-answered-same e = cc
-
 module _ (file : List ℕ) (i : Instance) (a : Accepted file i) (l : variables i ≤ mostVariables) where
   decoded : (m p : List ℕ) (cost : Objective) → Decodes file m p cost → decodeOf file m ≡ answered (p, cost)
   decoded m p cost d = sym (d .0)
@@ -47,7 +45,7 @@ module _ (file : List ℕ) (i : Instance) (a : Accepted file i) (l : variables i
 
   same-part : (m p : List ℕ) (cost : Objective) → Decodes file m p cost → _≡_ {A = Decoded} (part i m, falsifiedSoft i m) (p, cost)
   same-part m p cost d =
-      answered-same (sym (one .decodes m (one .only-models m p cost (decoded m p cost d))) ∙ decoded m p cost d)
+      answered-value (sym (one .decodes m (one .only-models m p cost (decoded m p cost d))) ∙ decoded m p cost d)
 
   keeps : (m p : List ℕ) (cost : Objective) → Decodes file m p cost → KeepsHard file p cost
   keeps m p cost d =
@@ -67,7 +65,7 @@ module _ (file : List ℕ) (i : Instance) (a : Accepted file i) (l : variables i
         every = λ t cost k.
             let o = one .one-model t cost k in
             let c = rw (o .2) at (one .cost (o .0) (o .1)) in
-            let f : falsifiedSoft i (o .0) ≡ cost = ap (λ (x : Infeasibility × Objective). x .1) (answered-same (sym c ∙ k)) in
+            let f : falsifiedSoft i (o .0) ≡ cost = ap (λ (x : Infeasibility × Objective). x .1) (answered-value (sym c ∙ k)) in
             let e : decodeOf file (o .0) ≡ answered (t, cost) = one .decodes (o .0) (o .1) ∙ rw (o .2, f) in
             (o .0, (sym e, sym (ap partGiven e)));
         refused = λ m p f d.
@@ -79,5 +77,5 @@ module _ (file : List ℕ) (i : Instance) (a : Accepted file i) (l : variables i
       → (r : ScoreAnswer) → scoreMeans r ≡ scoreOf file p
       → r ≡ ScoreAnswer.Scored (record { 0 = 0 }) cost
   decoded-scored m p cost d (ScoreAnswer.Scored x o) e =
-      ap (λ (s : Infeasibility × Objective). ScoreAnswer.Scored (s .0) (s .1)) (answered-same (e ∙ keeps m p cost d))
+      ap (λ (s : Infeasibility × Objective). ScoreAnswer.Scored (s .0) (s .1)) (answered-value (e ∙ keeps m p cost d))
   decoded-scored m p cost d (ScoreAnswer.Refused x) e = cc (e ∙ keeps m p cost d)

@@ -18,6 +18,7 @@ use Rattle.scope.specs.declared.Infeasibility.{Infeasibility}
 use Rattle.scope.specs.declared.Objective.{Objective}
 use Rattle.laws.specs.Booleans.{impossible}
 use Rattle.theory.proofs.laws.Demands.{demand2, demand3}
+use Rattle.theory.proofs.laws.Answered.{answered-value}
 use Rattle.calls.specs.Call.{called}
 use Rattle.operation_calls.specs.Operations.{decodeCall, Stores, lentBy, zeroed, stepsCall, checkCall}
 use Rattle.refusal_numbers.proofs.laws.Numbers.{zero-accepted, decode-numbers, check-numbers}
@@ -89,9 +90,6 @@ unfolding decodeOf
 decode-within file m r h =
     leb-true _ _ (passed (leb (variables (r .instance)) mostVariables) 8 0 _ (rw (r .accepted .parsed) at h))
 
-same-answer : {A : Type 0} {x y : A} → answered x ≡ answered y → x ≡ y
-same-answer e = cc e
-
 -- what is decoded is the first bytes of the model, a timetable of that cost
 decoded-part : (file m p : List ℕ) (cost : Objective) → decodeOf file m ≡ answered (p, cost)
     → KeepsHard file p cost × (take (length p) m ≡ p)
@@ -99,7 +97,7 @@ decoded-part file m p cost h =
     let r = decode-read file m h in
     let one = demand2 file (r .instance) (r .accepted) (decode-within file m r h) in
     let model = one .only-models m p cost h in
-    let same = same-answer (sym (one .decodes m model) ∙ h) in
+    let same = answered-value (sym (one .decodes m model) ∙ h) in
     let q : take (primary (r .instance)) m ≡ p = ap (λ (x : List ℕ × Objective). x .0) same in
     let c : falsifiedSoft (r .instance) m ≡ cost = ap (λ (x : List ℕ × Objective). x .1) same in
     (rw (q, c) at (one .cost m model), rw q at (take-again (primary (r .instance)) m))
@@ -165,7 +163,7 @@ one-model file i a l t cost k before =
     let one = demand2 file i a l in
     let o = one .one-model t cost k in
     let c : falsifiedSoft i (o .0) ≡ cost =
-    ap (λ (x : Infeasibility × Objective). x .1) (same-answer (sym (rw (o .2) at (one .cost (o .0) (o .1))) ∙ k)) in
+    ap (λ (x : Infeasibility × Objective). x .1) (answered-value (sym (rw (o .2) at (one .cost (o .0) (o .1))) ∙ k)) in
     let e : decodeOf file (o .0) ≡ answered (t, cost) = one .decodes (o .0) (o .1) ∙ rw (o .2, c) in
     record {
       model = o .0;
@@ -179,7 +177,7 @@ one-model file i a l t cost k before =
       only = λ n w d q.
           let h = decoded-answers file n before d in
           let model = one .only-models n _ _ h in
-          let same = same-answer (sym (one .decodes n model) ∙ h) in
+          let same = answered-value (sym (one .decodes n model) ∙ h) in
           let p = sym (decoded-part file n _ _ h .1) ∙ ap (λ (k : ℕ). take k n) (decoded-length file n before d) ∙ q in
           o .3 n model (ap (λ (x : List ℕ × Objective). x .0) same ∙ p);
     }

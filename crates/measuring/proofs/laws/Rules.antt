@@ -11,6 +11,7 @@ use Rattle.scope.specs.Formula.{columns, thingLiteral, refLiteral, nodeGate, ru
 use Rattle.laws.specs.Lists.{All, All-append, All-map}
 use Rattle.theory.proofs.laws.Nodes.{ThingKnown, Known}
 use Rattle.theory.proofs.laws.Rules.{ValidRule}
+use Rattle.theory.proofs.laws.Costs.{softUnits-append}
 use Rattle.sizing.specs.Sums.{sum, multiple}
 use Rattle.measuring.proofs.laws.Measure.{sizeOf, sizeAt, size-nil, size-append}
 use Rattle.sizing.specs.Gates.{orSize, hardUnit, unitSize}
@@ -22,7 +23,7 @@ use Rattle.measuring.proofs.laws.Rows.{Proper, weights}
 use Rattle.measuring.specs.NodeSizes.{nodesSize}
 use Rattle.measuring.proofs.laws.NodeSizes.{nodes-size}
 use Rattle.measuring.proofs.laws.Counts.{count-size}
-use Rattle.measuring.proofs.laws.Softs.{Weighing, weighing-weights, weighing-proper, weights-append, soft-append, append-weighing, gates-weighing, count-weighing}
+use Rattle.measuring.proofs.laws.Softs.{Weighing, weighing-weights, weighing-proper, weights-append, append-weighing, gates-weighing, count-weighing}
 use Rattle.measuring.specs.Rules.{ruleSize, rulesSize}
 
 -- hi as written
@@ -118,7 +119,7 @@ module _ (num : Atom → ℕ) where
       let u = v + gates is in
       let first = rule-weights (r .0) (r .1) v h (c .0) in
       let rest = rules-weights rs u (omega arith) (c .1) in
-      rw (soft-append is (rulesItems num rs u), weights-append (softUnits is), first, rest)
+      rw (softUnits-append is (rulesItems num rs u), weights-append (softUnits is), first, rest)
 
   pub rules-proper : (rs : List (ℕ × Rule)) (v : ℕ) → 1 ≤ v → All (λ r. Countable (r .1)) rs
       → Proper (softUnits (rulesItems num rs v))
@@ -128,5 +129,5 @@ module _ (num : Atom → ℕ) where
       let is = ruleItems num (r .0) (r .1) v in
       let u = v + gates is in
       let p = weighing-proper (r .0) (softUnits is) (rule-weighing (r .0) (r .1) v h (c .0)) in
-      rw (soft-append is (rulesItems num rs u))
+      rw (softUnits-append is (rulesItems num rs u))
       (All-append (λ x. 2 ≤ x .1) (softUnits is) (softUnits (rulesItems num rs u)) p (rules-proper rs u (omega arith) (c .1)))

@@ -9,6 +9,7 @@ use lib.Dec.{leb, ltb}
 use Rattle.scope.specs.Cnf.{opp, Gate, Item, gate, hard, soft, softUnits}
 use Rattle.scope.specs.Kinds.{Rule, from}
 use Rattle.scope.specs.Formula.{noRow, rowAt, counter, lastRow, columns, ones, lowUnits, highUnits, shortUnits, boundItems, countInto, countItems}
+use Rattle.theory.proofs.laws.Costs.{softUnits-append}
 use Rattle.laws.specs.Lists.{All, All-append}
 use Rattle.measuring.proofs.laws.Rows.{Proper, weights}
 
@@ -29,13 +30,6 @@ weighing-proper w (u ∷ us) p = (p .0 .1, weighing-proper w us (p .1))
 pub weights-append : (us vs : List (ℕ × ℕ)) → weights (us ++ vs) ≡ weights us ++ weights vs
 weights-append [] vs = refl
 weights-append (u ∷ us) vs = ap (λ ws. u .0 ∷ ws) (weights-append us vs)
-
-pub soft-append : (is js : List Item) → softUnits (is ++ js) ≡ softUnits is ++ softUnits js
-unfolding softUnits
-soft-append [] js = refl
-soft-append (gate g ∷ is) js = soft-append is js
-soft-append (hard c ∷ is) js = soft-append is js
-soft-append (soft w l ∷ is) js = ap (λ us. (w, l) ∷ us) (soft-append is js)
 
 pub soft-gates : (gs : List Gate) → softUnits (map gate gs) ≡ []
 unfolding softUnits
@@ -97,7 +91,7 @@ either-weighing w false is js p q = q
 pub append-weighing : (w : ℕ) (is js : List Item) → Weighing w (softUnits is) → Weighing w (softUnits js)
     → Weighing w (softUnits (is ++ js))
 append-weighing w is js p q =
-    rw (soft-append is js) (All-append (λ u. (u .0 ≡ w) × (2 ≤ u .1)) (softUnits is) (softUnits js) p q)
+    rw (softUnits-append is js) (All-append (λ u. (u .0 ≡ w) × (2 ≤ u .1)) (softUnits is) (softUnits js) p q)
 
 pub gates-weighing : (w : ℕ) (gs : List Gate) → Weighing w (softUnits (map gate gs))
 gates-weighing w gs = rw (soft-gates gs) tt

@@ -14,6 +14,7 @@ use Rattle.scope.specs.Formula.{words, num, starts, durationRules, constraintRu
 use Rattle.scope.specs.Operations.{formulaSize}
 use Rattle.theory.specs.Accepted.{ValidInstance}
 use Rattle.theory.proofs.laws.Variables.{atomsEnd}
+use Rattle.theory.proofs.laws.Costs.{softUnits-append}
 use Rattle.sizing.specs.declared.Size.{Size}
 use Rattle.sizing.specs.Sums.{none, sum, multiple}
 use Rattle.sizing.proofs.laws.Sums.{equal, none-sum, sum-assoc}
@@ -22,7 +23,7 @@ use Rattle.measuring.proofs.laws.Rows.{Proper, weights}
 use Rattle.sizing.specs.Blocks.{startClauses, startsSize}
 use Rattle.sizing.specs.Whole.{stored}
 use Rattle.measuring.proofs.laws.Tail.{tailSize, tail-size, tail-add}
-use Rattle.measuring.proofs.laws.Softs.{soft-append, soft-gates}
+use Rattle.measuring.proofs.laws.Softs.{soft-gates}
 use Rattle.measuring.specs.Rules.{rulesSize}
 use Rattle.measuring.proofs.laws.Rules.{rulesWeights, hard-rule, rules-size, rules-weights, rules-proper}
 use Rattle.measuring.specs.Blocks.{usesSize, durationsSize}
@@ -131,7 +132,7 @@ module _ (i : Instance) where
   soft-of : softOf i ≡ softUnits (rulesItems (num i) (allRules i) (atomsEnd i))
   unfolding softOf formula
   soft-of =
-      rw (soft-append, soft-append, soft-gates, no-softs (starts i) starts-units)
+      rw (softUnits-append, softUnits-append, soft-gates, no-softs (starts i) starts-units)
 
   -- the weights of the formula's soft units, whose literals are no constants
   pub softs-weights : ValidInstance i → weights (softOf i) ≡ rulesWeights (constraintRules i (i .constraints))

@@ -1,38 +1,12 @@
--- What is known of a reading that gave a value: how each way of putting readings together is taken apart, and how a fact of
--- the parts becomes a fact of the whole.
-use mathlib.Core.Path.{_≡_, refl, subst}
+-- What is known of a reading that gave a value: how a fact of its parts becomes a fact of the whole.
+use mathlib.Core.Path.{_≡_, refl, sym, subst}
 use mathlib.Core.Bool.{Bool, true, false, cond}
 use mathlib.Core.List.{List, _∷_}
 use Prim.Native.Nat.{ℕ, zero, suc}
-use native.Mathlib.Omega.{arith}
 use lib.ListN.{length}
 use Rattle.laws.specs.Lists.{All}
-use Rattle.scope.specs.Parsed.{Parsed, got, refused, andThen, unless, cons, repeat}
-
-refused≢got : {A : Type 0} {k v next : ℕ} {a : A} → refused k v ≡ got a next → ⊥
-refused≢got e = let z : _≡_ {A = ℕ} 0 1 = cc in omega arith
-
--- equal readings have equal values
-pub got-value : {A : Type 0} {n m : ℕ} {a b : A} → got a n ≡ got b m → a ≡ b
-got-value e = cc
-
--- both readings gave a value
-pub andThen-got : {A B : Type 0} (p : Parsed A) (f : A → ℕ → Parsed B) {b : B} {end : ℕ} → andThen p f ≡ got b end
-    → (a : A) × (next : ℕ) × (p ≡ got a next) × (f a next ≡ got b end)
-andThen-got (got a next) f e = (a, next, refl, e)
-andThen-got (refused k v) f e = absurd (refused≢got e)
-
--- the test holds
-pub unless-got : {A : Type 0} (test : Bool) (k v : ℕ) (p : Parsed A) {a : A} {end : ℕ} → unless test k v p ≡ got a end
-    → (test ≡ true) × (p ≡ got a end)
-unless-got true k v p e = (refl, e)
-unless-got false k v p e = absurd (refused≢got e)
-
--- the rest gave a list
-pub cons-got : {A : Type 0} (a : A) (p : Parsed (List A)) {xs : List A} {end : ℕ} → cons a p ≡ got xs end
-    → (ys : List A) × (p ≡ got ys end) × (a ∷ ys ≡ xs)
-cons-got a (got ys next) e = (ys, cc, got-value e)
-cons-got a (refused k v) e = absurd (refused≢got e)
+use Rattle.scope.specs.Parsed.{Parsed, got, andThen, unless, cons, repeat}
+use Rattle.parsing.proofs.laws.Parsing.{got-value, andThen-got, unless-got, cons-got}
 
 -- P holds of the value, if one is read
 pub record Gives {A : Type 0} (P : A → Type 0) (p : Parsed A) : Type 0 where
@@ -45,17 +19,17 @@ gives-value {P = P} h = record { known = λ b next e. subst P (got-value e) h }
 pub gives-andThen : {A B : Type 0} {P : A → Type 0} {Q : B → Type 0} {p : Parsed A} {f : A → ℕ → Parsed B} → Gives P p
     → ((a : A) (next : ℕ) → P a → Gives Q (f a next)) → Gives Q (andThen p f)
 gives-andThen {p = p} {f = f} h k =
-    record { known = λ b end e. let (a, next, u, v) = andThen-got p f e in k a next (h .known a next u) .known b end v }
+    record { known = λ b end e. let t = andThen-got p f e in k (t .value) (t .next) (h .known (t .value) (t .next) (t .first)) .known b end (t .rest) }
 
 pub gives-unless : {A : Type 0} {P : A → Type 0} (test : Bool) (n v : ℕ) {p : Parsed A} → (test ≡ true → Gives P p)
     → Gives P (unless test n v p)
 gives-unless test n v {p = p} h =
-    record { known = λ a end e. let (t, u) = unless-got test n v p e in h t .known a end u }
+    record { known = λ a end e. let t = unless-got test n v p e in h (t .test) .known a end (t .rest) }
 
 pub gives-cons : {A : Type 0} {P Q : List A → Type 0} (a : A) {p : Parsed (List A)} → Gives Q p
     → ((xs : List A) → Q xs → P (a ∷ xs)) → Gives P (cons a p)
 gives-cons {P = P} a {p = p} h k =
-    record { known = λ xs end e. let (ys, u, v) = cons-got a p e in subst P v (k ys (h .known ys end u)) }
+    record { known = λ xs end e. let t = cons-got a p e in subst P (sym (t .whole)) (k (t .tail) (h .known (t .tail) end (t .rest))) }
 
 pub gives-either : {A : Type 0} {P : A → Type 0} (test : Bool) {p q : Parsed A} → Gives P p → Gives P q → Gives P (cond test p q)
 gives-either true a b = a
