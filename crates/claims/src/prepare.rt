@@ -13,7 +13,7 @@ use sizes::measure_bound;
 use sizing::blocks::stored_size;
 ghost use mathlib.Core.Path.{_≡_};
 ghost use lib.ListN.{length, replicate};
-ghost use Rattle.claims.specs.Prepared.{lent, tooShort, Prepared};
+ghost use Rattle.claims.specs.Prepared.{lent, tooShort, formulaFor, readyOf, wordsWith};
 ghost use Rattle.claims.specs.declared.claim.Claim.{Claim};
 ghost use Rattle.claims.specs.declared.prepare.Ready.{Ready};
 
@@ -46,7 +46,8 @@ fn too_short() -> Ready
 
 // The hard clauses and the tail for a bound are written if the stores are long enough for them.
 fn fill_bounded(file: &[u8], bound: u64, words: &mut [u32], rows: usize, bytes: usize) -> Ready
-    ensures { λ r. ⌜ Prepared (now (file .entry)) (Claim.Bound bound) (lent (length (now (words .entry))) rows bytes) (now (words .exit)) r ⌝ }
+    ensures { λ r. ⌜ r ≡ readyOf (formulaFor (now (file .entry)) (Claim.Bound bound) (lent (length (now (words .entry))) rows bytes)) ⌝ }
+    ensures { λ _. ⌜ now (words .exit) ≡ wordsWith (formulaFor (now (file .entry)) (Claim.Bound bound) (lent (length (now (words .entry))) rows bytes)) (now (words .entry)) ⌝ }
 {
     let mut durations = tables::durations();
     let mut resources = tables::resource_rows();
@@ -84,7 +85,8 @@ fn fill_bounded(file: &[u8], bound: u64, words: &mut [u32], rows: usize, bytes: 
 
 // The hard clauses alone.
 fn fill_hard(file: &[u8], words: &mut [u32], rows: usize, bytes: usize) -> Ready
-    ensures { λ r. ⌜ Prepared (now (file .entry)) Claim.AnyCost (lent (length (now (words .entry))) rows bytes) (now (words .exit)) r ⌝ }
+    ensures { λ r. ⌜ r ≡ readyOf (formulaFor (now (file .entry)) Claim.AnyCost (lent (length (now (words .entry))) rows bytes)) ⌝ }
+    ensures { λ _. ⌜ now (words .exit) ≡ wordsWith (formulaFor (now (file .entry)) Claim.AnyCost (lent (length (now (words .entry))) rows bytes)) (now (words .entry)) ⌝ }
 {
     let mut durations = tables::durations();
     let mut resources = tables::resource_rows();
@@ -114,7 +116,8 @@ fn fill_hard(file: &[u8], words: &mut [u32], rows: usize, bytes: usize) -> Ready
 
 // The formula of a claim.
 fn fill(file: &[u8], claim: Claim, words: &mut [u32], rows: usize, bytes: usize) -> Ready
-    ensures { λ r. ⌜ Prepared (now (file .entry)) claim (lent (length (now (words .entry))) rows bytes) (now (words .exit)) r ⌝ }
+    ensures { λ r. ⌜ r ≡ readyOf (formulaFor (now (file .entry)) claim (lent (length (now (words .entry))) rows bytes)) ⌝ }
+    ensures { λ _. ⌜ now (words .exit) ≡ wordsWith (formulaFor (now (file .entry)) claim (lent (length (now (words .entry))) rows bytes)) (now (words .entry)) ⌝ }
 {
     match claim {
         Claim::Bound(bound) => fill_bounded(file, bound, words, rows, bytes),
@@ -122,9 +125,11 @@ fn fill(file: &[u8], claim: Claim, words: &mut [u32], rows: usize, bytes: usize)
     }
 }
 
-// The formula in the words, with every mark open, where a directory of so many rows is lent.
+// The formula in the words, with every mark open, where a directory of so many rows is lent; after a refusal the words are as
+// they were.
 pub fn prepare(file: &[u8], claim: Claim, words: &mut [u32], rows: usize, marks: &mut [u8]) -> Ready
-    ensures { λ r. ⌜ Prepared (now (file .entry)) claim (lent (length (now (words .entry))) rows (length (now (marks .entry)))) (now (words .exit)) r ⌝ }
+    ensures { λ r. ⌜ r ≡ readyOf (formulaFor (now (file .entry)) claim (lent (length (now (words .entry))) rows (length (now (marks .entry))))) ⌝ }
+    ensures { λ _. ⌜ now (words .exit) ≡ wordsWith (formulaFor (now (file .entry)) claim (lent (length (now (words .entry))) rows (length (now (marks .entry))))) (now (words .entry)) ⌝ }
     ensures { λ _. ⌜ now (marks .exit) ≡ replicate (length (now (marks .entry))) 0 ⌝ }
 {
     clear_bytes(marks);

@@ -1,6 +1,5 @@
 -- `prepare::fill` meets its contract: a case for each claim.
 use borrow.Author.Needs.{needs}
-use Rattle.claims.proofs.laws.Prepared.{prepared-claim}
 use Rattle.claims.proofs.prepare.fill.Statement.{statement}
 use Rattle.claims.proofs.prepare.fill.Tie as tie
 
@@ -20,13 +19,13 @@ same-length : tie.Need-same-length
 same-length c = search needs
 
 returns : tie.Need-returns
-returns c = prepared-claim (c .before .before .before .before .before .claim .given .1) (c .before .before .fill-bounded .ensures)
+returns c = rw (c .before .before .before .before .before .claim .given .1) (c .before .before .fill-bounded .ensures)
 
 same-length-2 : tie.Need-same-length-2
 same-length-2 c = search needs
 
 returns-2 : tie.Need-returns-2
-returns-2 c = prepared-claim (c .before .before .before .before .enum-told .given .1) (c .before .before .fill-hard .ensures)
+returns-2 c = rw (c .before .before .before .before .enum-told .given .1) (c .before .before .fill-hard .ensures)
 
 pub fill-spec : {M : Type 1} → statement M
 fill-spec =

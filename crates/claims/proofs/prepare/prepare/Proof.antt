@@ -1,6 +1,5 @@
 -- `prepare::prepare` meets its contract: the marks are cleared, then the formula is written.
 use borrow.Author.Needs.{needs}
-use Rattle.claims.proofs.laws.Prepared.{prepared-bytes}
 use Rattle.claims.proofs.prepare.prepare.Statement.{statement}
 use Rattle.claims.proofs.prepare.prepare.Tie as tie
 
@@ -18,7 +17,8 @@ same-length-2 c = search needs
 
 returns : tie.Need-returns
 returns c =
-    (prepared-bytes (c .before .before .before .before .before .before .clear-bytes .kept .0) (c .before .before .fill .ensures), c .before .before .before .before .before .before .clear-bytes .ensures)
+    let e = rw (c .before .before .before .before .before .before .clear-bytes .kept .0) at (c .before .before .fill .ensures) in
+    (e .0, (e .1, c .before .before .before .before .before .before .clear-bytes .ensures))
 
 pub prepare-spec : {M : Type 1} → statement M
 prepare-spec =
