@@ -114,17 +114,6 @@ fn fill_hard(file: &[u8], words: &mut [u32], rows: usize, bytes: usize) -> Ready
     }
 }
 
-// The formula of a claim.
-fn fill(file: &[u8], claim: Claim, words: &mut [u32], rows: usize, bytes: usize) -> Ready
-    ensures { λ r. ⌜ r ≡ readyOf (formulaFor (now (file .entry)) claim (lent (length (now (words .entry))) rows bytes)) ⌝ }
-    ensures { λ _. ⌜ now (words .exit) ≡ wordsWith (formulaFor (now (file .entry)) claim (lent (length (now (words .entry))) rows bytes)) (now (words .entry)) ⌝ }
-{
-    match claim {
-        Claim::Bound(bound) => fill_bounded(file, bound, words, rows, bytes),
-        Claim::AnyCost => fill_hard(file, words, rows, bytes),
-    }
-}
-
 // The formula in the words, with every mark open, where a directory of so many rows is lent; after a refusal the words are as
 // they were.
 pub fn prepare(file: &[u8], claim: Claim, words: &mut [u32], rows: usize, marks: &mut [u8]) -> Ready
@@ -133,5 +122,9 @@ pub fn prepare(file: &[u8], claim: Claim, words: &mut [u32], rows: usize, marks:
     ensures { λ _. ⌜ now (marks .exit) ≡ replicate (length (now (marks .entry))) 0 ⌝ }
 {
     clear_bytes(marks);
-    fill(file, claim, words, rows, marks.len())
+    let bytes = marks.len();
+    match claim {
+        Claim::Bound(bound) => fill_bounded(file, bound, words, rows, bytes),
+        Claim::AnyCost => fill_hard(file, words, rows, bytes),
+    }
 }
