@@ -6,6 +6,7 @@ use lent::fits;
 use marks::clear_bytes;
 use scope::FormulaSize;
 use scope::Refusal;
+use scope::refusals::TOO_SHORT;
 use sizes::Bounded;
 use sizes::Measured;
 use sizes::measure;
@@ -16,9 +17,6 @@ ghost use lib.ListN.{length, replicate};
 ghost use Rattle.claims.specs.Prepared.{lent, tooShort, formulaFor, readyOf, wordsWith};
 ghost use Rattle.claims.specs.declared.claim.Claim.{Claim};
 ghost use Rattle.claims.specs.declared.prepare.Ready.{Ready};
-
-// "a lent store is too short"
-const STORE_TOO_SHORT: u8 = 9;
 
 // A formula of so many words, with its last variable; or a refusal.
 pub enum Ready {
@@ -39,7 +37,7 @@ fn too_short() -> Ready
     ensures { λ r. ⌜ r ≡ Ready.Refused tooShort ⌝ }
 {
     Ready::Refused(Refusal {
-        number: STORE_TOO_SHORT,
+        number: TOO_SHORT,
         value: 0,
     })
 }
