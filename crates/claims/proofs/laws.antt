@@ -3,3 +3,4 @@ pub mod NonEmpty
 pub mod Storable
 pub mod Standing
 pub mod Prepared
+pub mod Asked

@@ -1,18 +1,13 @@
--- What is ready before the first step of a proof: a formula in the words, or a refusal from 1 to 9.
-use mathlib.Core.Path.{_≡_}
+-- What is ready before the first step of a proof: the formula that the claim is about, in the words, or a refusal from 1 to 9.
 use mathlib.Core.List.{List, _++_, flatMap}
-use Prim.Native.Nat.{ℕ, _≤_}
-use lib.ListN.{length}
-use Rattle.scope.specs.Parsed.{Answer}
-use Rattle.scope.specs.Formula.{words}
-use Rattle.scope.specs.PlainRun.{plainRun}
-use Rattle.scope.specs.Operations.{Lent, checkOf, checkHardOf}
-use Rattle.scope.specs.Answers.{given}
+use Prim.Native.Nat.{ℕ}
+use lib.ListN.{drop}
+use Rattle.scope.specs.Parsed.{Answer, answered, refusal, with, provided}
+use Rattle.scope.specs.Instance.{parse}
+use Rattle.scope.specs.Formula.{words, variables, hardOf, boundedVariables, boundedHard}
+use Rattle.scope.specs.Operations.{Lent, ofSize, ofBound, formulaFits, checkOf, checkHardOf}
 use Rattle.scope.specs.declared.Refusal.{Refusal}
-use Rattle.holding.specs.Holding.{Good}
-use Rattle.holding.specs.Built.{Each, Narrow}
-use Rattle.building.specs.Marked.{mark, Plain}
-use Rattle.run_meaning.specs.Meaning.{limits}
+use Rattle.building.specs.Marked.{mark}
 use Rattle.claims.specs.declared.claim.Claim.{Claim}
 use Rattle.claims.specs.declared.prepare.Ready.{Ready}
 pub use Rattle.lent.specs.Room.{lent, sizeFits}
@@ -22,31 +17,24 @@ abbrev pub asked : List ℕ → Claim → Lent → List ℕ → Answer ℕ
 asked file (Claim.Bound B) l proof = checkOf file B proof l
 asked file Claim.AnyCost l proof = checkHardOf file proof l
 
--- clauses stand in the words with their last words marked, and a proof is judged by the plain run over them
-pub record FormulaIn (s : List ℕ) (c : Claim) (l : Lent) (ws : List ℕ) (used last : ℕ) : Type 0 where
-  pub clauses : List (List ℕ)
-  pub rest : List ℕ
-  pub marked : ws ≡ flatMap mark clauses ++ rest
-  pub size : used ≡ words clauses
-  pub plain : Plain clauses
-  pub good : Each (Good last) clauses
-  pub narrow : Narrow clauses
-  pub few : last ≤ 8000000
-  pub short : l .words ≤ 9223372036854775807
-  pub rows-fit : length clauses ≤ l .rows
-  pub bytes-fit : last ≤ l .bytes
-  pub answer : (proof : List ℕ) → asked s c l proof ≡ plainRun (limits last (l .words) (l .rows)) clauses proof
+-- clauses with variables up to the last, or 9 where a lent store is too short for them
+abbrev pub fitting : ℕ → List (List ℕ) → Lent → Answer (ℕ × List (List ℕ))
+fitting last f l = provided (formulaFits last f l) 9 0 (answered (last, f))
 
--- a refusal, whatever the proof
-pub record RefusedAs (s : List ℕ) (c : Claim) (l : Lent) (f : Refusal) : Type 0 where
-  pub answer : (proof : List ℕ) → asked s c l proof ≡ given f
+-- the last variable and the clauses of the formula that a claim is about, or a refusal from 1 to 9
+unfoldable pub formulaFor : List ℕ → Claim → Lent → Answer (ℕ × List (List ℕ))
+formulaFor file (Claim.Bound B) l = with (parse file) (λ i. ofBound i B (fitting (boundedVariables i B) (boundedHard i B) l))
+formulaFor file Claim.AnyCost l = with (parse file) (λ i. ofSize i (fitting (variables i) (hardOf i) l))
 
-abbrev pub preparedAs : List ℕ → Claim → Lent → List ℕ → Ready → Type 0
-preparedAs s c l ws (Ready.Formula used last) = FormulaIn s c l ws used last
-preparedAs s c l ws (Ready.Refused f) = RefusedAs s c l f
+-- what is told of it: how many words it has, and its last variable
+abbrev pub readyOf : Answer (ℕ × List (List ℕ)) → Ready
+readyOf (answered f) = Ready.Formula (words (f .1)) (f .0)
+readyOf (refusal k v) = Ready.Refused (record { number = k; value = v })
 
-pub record Prepared (s : List ℕ) (c : Claim) (l : Lent) (ws : List ℕ) (r : Ready) : Type 0 where
-  pub ready : preparedAs s c l ws r
+-- what it leaves in the words ws: its clauses from the start on, the last word of each marked; after a refusal they are as before
+abbrev pub wordsWith : Answer (ℕ × List (List ℕ)) → List ℕ → List ℕ
+wordsWith (answered f) ws = flatMap mark (f .1) ++ drop (words (f .1)) ws
+wordsWith (refusal k v) ws = ws
 
 abbrev pub tooShort : Refusal
 tooShort = record { number = 9; value = 0 }

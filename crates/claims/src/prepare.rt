@@ -6,6 +6,7 @@ use lent::fits;
 use marks::clear_bytes;
 use scope::FormulaSize;
 use scope::Refusal;
+use scope::refusals::TOO_SHORT;
 use sizes::Bounded;
 use sizes::Measured;
 use sizes::measure;
@@ -13,12 +14,9 @@ use sizes::measure_bound;
 use sizing::blocks::stored_size;
 ghost use mathlib.Core.Path.{_≡_};
 ghost use lib.ListN.{length, replicate};
-ghost use Rattle.claims.specs.Prepared.{lent, tooShort, Prepared};
+ghost use Rattle.claims.specs.Prepared.{lent, tooShort, formulaFor, readyOf, wordsWith};
 ghost use Rattle.claims.specs.declared.claim.Claim.{Claim};
 ghost use Rattle.claims.specs.declared.prepare.Ready.{Ready};
-
-// "a lent store is too short"
-const STORE_TOO_SHORT: u8 = 9;
 
 // A formula of so many words, with its last variable; or a refusal.
 pub enum Ready {
@@ -39,14 +37,15 @@ fn too_short() -> Ready
     ensures { λ r. ⌜ r ≡ Ready.Refused tooShort ⌝ }
 {
     Ready::Refused(Refusal {
-        number: STORE_TOO_SHORT,
+        number: TOO_SHORT,
         value: 0,
     })
 }
 
 // The hard clauses and the tail for a bound are written if the stores are long enough for them.
 fn fill_bounded(file: &[u8], bound: u64, words: &mut [u32], rows: usize, bytes: usize) -> Ready
-    ensures { λ r. ⌜ Prepared (now (file .entry)) (Claim.Bound bound) (lent (length (now (words .entry))) rows bytes) (now (words .exit)) r ⌝ }
+    ensures { λ r. ⌜ r ≡ readyOf (formulaFor (now (file .entry)) (Claim.Bound bound) (lent (length (now (words .entry))) rows bytes)) ⌝ }
+    ensures { λ _. ⌜ now (words .exit) ≡ wordsWith (formulaFor (now (file .entry)) (Claim.Bound bound) (lent (length (now (words .entry))) rows bytes)) (now (words .entry)) ⌝ }
 {
     let mut durations = tables::durations();
     let mut resources = tables::resource_rows();
@@ -84,7 +83,8 @@ fn fill_bounded(file: &[u8], bound: u64, words: &mut [u32], rows: usize, bytes: 
 
 // The hard clauses alone.
 fn fill_hard(file: &[u8], words: &mut [u32], rows: usize, bytes: usize) -> Ready
-    ensures { λ r. ⌜ Prepared (now (file .entry)) Claim.AnyCost (lent (length (now (words .entry))) rows bytes) (now (words .exit)) r ⌝ }
+    ensures { λ r. ⌜ r ≡ readyOf (formulaFor (now (file .entry)) Claim.AnyCost (lent (length (now (words .entry))) rows bytes)) ⌝ }
+    ensures { λ _. ⌜ now (words .exit) ≡ wordsWith (formulaFor (now (file .entry)) Claim.AnyCost (lent (length (now (words .entry))) rows bytes)) (now (words .entry)) ⌝ }
 {
     let mut durations = tables::durations();
     let mut resources = tables::resource_rows();
@@ -112,21 +112,17 @@ fn fill_hard(file: &[u8], words: &mut [u32], rows: usize, bytes: usize) -> Ready
     }
 }
 
-// The formula of a claim.
-fn fill(file: &[u8], claim: Claim, words: &mut [u32], rows: usize, bytes: usize) -> Ready
-    ensures { λ r. ⌜ Prepared (now (file .entry)) claim (lent (length (now (words .entry))) rows bytes) (now (words .exit)) r ⌝ }
+// The formula in the words, with every mark open, where a directory of so many rows is lent; after a refusal the words are as
+// they were.
+pub fn prepare(file: &[u8], claim: Claim, words: &mut [u32], rows: usize, marks: &mut [u8]) -> Ready
+    ensures { λ r. ⌜ r ≡ readyOf (formulaFor (now (file .entry)) claim (lent (length (now (words .entry))) rows (length (now (marks .entry))))) ⌝ }
+    ensures { λ _. ⌜ now (words .exit) ≡ wordsWith (formulaFor (now (file .entry)) claim (lent (length (now (words .entry))) rows (length (now (marks .entry))))) (now (words .entry)) ⌝ }
+    ensures { λ _. ⌜ now (marks .exit) ≡ replicate (length (now (marks .entry))) 0 ⌝ }
 {
+    clear_bytes(marks);
+    let bytes = marks.len();
     match claim {
         Claim::Bound(bound) => fill_bounded(file, bound, words, rows, bytes),
         Claim::AnyCost => fill_hard(file, words, rows, bytes),
     }
-}
-
-// The formula in the words, with every mark open, where a directory of so many rows is lent.
-pub fn prepare(file: &[u8], claim: Claim, words: &mut [u32], rows: usize, marks: &mut [u8]) -> Ready
-    ensures { λ r. ⌜ Prepared (now (file .entry)) claim (lent (length (now (words .entry))) rows (length (now (marks .entry)))) (now (words .exit)) r ⌝ }
-    ensures { λ _. ⌜ now (marks .exit) ≡ replicate (length (now (marks .entry))) 0 ⌝ }
-{
-    clear_bytes(marks);
-    fill(file, claim, words, rows, marks.len())
 }

@@ -1,5 +1,5 @@
-// The directory: a row for each clause, in ascending order of their ids. No other function but the loop that drives a check
-// takes the directory, and no other crate knows what stands in a row.
+// The directory: a row for each clause, in ascending order of their ids. The code of other crates makes rows and looks into them
+// by the functions here alone, but for the program cases, which lends rows of its own; definitions and laws name a row's parts.
 ghost use mathlib.Core.Path.{_≡_};
 ghost use Prim.Native.Nat.{_%_};
 ghost use lib.ListN.{length, set, replicate};

@@ -1,17 +1,17 @@
--- What is ready before the first step of a proof: a formula in the words, or a refusal from 1 to 9: laws.
-use mathlib.Core.Path.{_≡_, ap, _∙_}
-use mathlib.Core.Bool.{true, false, _&&_}
+-- What is ready before the first step of a proof: the formula in the words, or a refusal from 1 to 9: laws.
+use mathlib.Core.Path.{_≡_, refl, sym, ap, _∙_}
+use mathlib.Core.Bool.{Bool, true, false, _&&_}
 use mathlib.Core.List.{List, flatMap}
 use Prim.Native.Nat.{ℕ, _≤_}
 use native.Mathlib.Omega.{arith}
 use lib.Dec.{leb}
-use lib.ListN.{length, drop}
+use lib.ListN.{length}
 use borrow.Author.Tests.{leb-true}
 use Rattle.laws.specs.Booleans.{and-true}
-use Rattle.scope.specs.Parsed.{Answer, then}
+use Rattle.scope.specs.Parsed.{Answer, answered, then, provided}
 use Rattle.scope.specs.Instance.{Instance}
 use Rattle.scope.specs.Formula.{words, variables, hardOf, boundedVariables, boundedHard}
-use Rattle.scope.specs.Operations.{Lent, formulaFits, against, checkOf, checkHardOf}
+use Rattle.scope.specs.Operations.{Lent, formulaFits}
 use Rattle.scope.specs.declared.Refusal.{Refusal}
 use Rattle.scope.specs.declared.FormulaSize.{FormulaSize}
 use Rattle.constraint.specs.declared.kinds.Head.{Head}
@@ -24,101 +24,85 @@ use Rattle.sink.specs.Run.{Ran, out, put}
 use Rattle.building.specs.Marked.{mark}
 use Rattle.claims.specs.declared.claim.Claim.{Claim}
 use Rattle.claims.specs.declared.prepare.Ready.{Ready}
-use Rattle.claims.proofs.laws.Storable.{Storable, hard-storable, bounded-storable}
 use Rattle.claims.proofs.laws.Standing.{stands}
-use Rattle.lent.specs.Room.{lent, sizeFits}
-use Rattle.claims.specs.Prepared.{asked, FormulaIn, RefusedAs, Prepared, tooShort}
+use Rattle.lent.specs.Room.{sizeFits}
+use Rattle.claims.specs.Prepared.{fitting, formulaFor, readyOf, wordsWith, tooShort}
 
--- where as many bytes are lent
-pub prepared-bytes : {s : List ℕ} {c : Claim} {w n b b′ : ℕ} {ws : List ℕ} {r : Ready} → b ≡ b′ → Prepared s c (lent w n b) ws r
-    → Prepared s c (lent w n b′) ws r
-prepared-bytes e p = rw e at p
+-- r is told of an answer a, and it leaves ws′ in the words ws
+pub record Left (a : Answer (ℕ × List (List ℕ))) (ws ws′ : List ℕ) (r : Ready) : Type 0 where
+  pub told : r ≡ readyOf a
+  pub words : ws′ ≡ wordsWith a ws
 
--- of the same claim, and the same answer
-pub prepared-claim : {s : List ℕ} {c c′ : Claim} {l : Lent} {ws : List ℕ} {r : Ready} → c ≡ c′ → Prepared s c′ l ws r → Prepared s c l ws r
-prepared-claim e p = rw e p
-
-pub prepared-same : {s : List ℕ} {c : Claim} {l : Lent} {ws : List ℕ} {r r′ : Ready} → r ≡ r′ → Prepared s c l ws r′ → Prepared s c l ws r
-prepared-same e p = rw e p
+-- the same answer
+pub left-same : {a : Answer (ℕ × List (List ℕ))} {ws ws′ : List ℕ} {r r′ : Ready} → r ≡ r′ → Left a ws ws′ r′
+    → (r ≡ readyOf a) × (ws′ ≡ wordsWith a ws)
+left-same e p = (e ∙ p .told, p .words)
 
 -- the size of clauses with variables up to the last
 abbrev pub sizeOf : ℕ → List (List ℕ) → FormulaSize
 sizeOf last f = record { variables = last; clauses = length f; words = words f }
 
--- a claim that is judged against such clauses: 9, or the formula
-module _ (s : List ℕ) (c : Claim) (l : Lent) (last : ℕ) (f : List (List ℕ)) {w : FormulaSize} (size : w ≡ sizeOf last f)
-    (answer : (proof : List ℕ) → asked s c l proof ≡ against last f proof l) where
+-- such clauses are to fit into the stores: 9, or the formula
+module _ (l : Lent) (last : ℕ) (f : List (List ℕ)) {a : Answer (ℕ × List (List ℕ))} (answer : a ≡ fitting last f l) {w : FormulaSize}
+    (size : w ≡ sizeOf last f) where
   fits-same : formulaFits last f l ≡ sizeFits w l
   unfolding formulaFits
   fits-same = rw size
 
-  short-for : sizeFits w l ≡ false → RefusedAs s c l tooShort
-  short-for e = record { answer = λ proof. answer proof ∙ rw (fits-same, e) }
+  left-short : sizeFits w l ≡ false → (ws : List ℕ) → Left a ws ws (Ready.Refused tooShort)
+  left-short e ws = rw (answer, fits-same, e) (record { told = refl; words = refl })
 
-  stands-in : Storable last f → sizeFits w l ≡ true → {ws ws′ : List ℕ} {a : ℕ}
-      → Ran put (flatMap mark f) (out 0 ws) (out a ws′) → length ws ≡ l .words
-      → length ws ≤ 9223372036854775807 → FormulaIn s c l ws′ (w .words) (w .variables)
-  stands-in g e {ws} p long short =
+  left-formula : sizeFits w l ≡ true → {ws ws′ : List ℕ} {n : ℕ} → Ran put (flatMap mark f) (out 0 ws) (out n ws′)
+      → length ws ≡ l .words → length ws ≤ 9223372036854775807 → Left a ws ws′ (Ready.Formula (w .words) (w .variables))
+  left-formula e {ws} p long short =
       let t = and-true (leb (w .words) (l .words) && leb (w .clauses) (l .rows)) (leb (w .variables) (l .bytes)) e in
       let u = and-true (leb (w .words) (l .words)) (leb (w .clauses) (l .rows)) (t .0) in
       let room : words f ≤ l .words = rw size at (leb-true (w .words) (l .words) (u .0)) in
-      record {
-        clauses = f;
-        rest = drop (words f) ws;
-        marked = stands f p (omega arith) short;
-        size = ap (λ x. x .words) size;
-        plain = g .plain;
-        good = rw size (g .good);
-        narrow = g .narrow;
-        few = rw size (g .few);
-        short = omega arith;
-        rows-fit = rw size at (leb-true (w .clauses) (l .rows) (u .1));
-        bytes-fit = leb-true (w .variables) (l .bytes) (t .1);
-        answer = λ proof. answer proof ∙ rw (fits-same, e, size);
-      }
+      rw (answer, fits-same, e) (record { told = rw size; words = stands f p (omega arith) short })
 
 -- at a bound: the hard clauses and the tail
 module _ (s : List ℕ) (B : ℕ) (l : Lent) where
-  abbrev bounded : List ℕ → Instance → Answer ℕ
-  bounded proof i = against (boundedVariables i B) (boundedHard i B) proof l
+  abbrev bounded : Instance → Answer (ℕ × List (List ℕ))
+  bounded i = fitting (boundedVariables i B) (boundedHard i B) l
 
-  check-then : (proof : List ℕ) → checkOf s B proof l ≡ then (boundedOf s B) (bounded proof)
-  unfolding checkOf
-  check-then proof = bound-then s B (bounded proof)
+  pub bounded-for : formulaFor s (Claim.Bound B) l ≡ then (boundedOf s B) bounded
+  unfolding formulaFor
+  bounded-for = bound-then s B bounded
 
   -- 1 to 8
-  pub refused-before : {f : Refusal} → RefusedBy (boundedOf s B) f → RefusedAs s (Claim.Bound B) l f
-  refused-before b = record { answer = λ proof. check-then proof ∙ rw (b .answer) }
+  pub bounded-refused : {f : Refusal} → RefusedBy (boundedOf s B) f → (ws : List ℕ)
+      → Left (formulaFor s (Claim.Bound B) l) ws ws (Ready.Refused f)
+  bounded-refused b ws = rw (bounded-for, b .answer) (record { told = refl; words = refl })
 
   module _ {d te tg : List ℕ} {h : Head} {z : Size} {w : FormulaSize} (b : BoundedBy s B d te tg h z w) where
     abbrev i : Instance
     i = instanceOf s d te tg h
 
-    judged : (proof : List ℕ) → checkOf s B proof l ≡ against (boundedVariables i B) (boundedHard i B) proof l
-    judged proof = check-then proof ∙ rw (b .answer)
+    judged : formulaFor s (Claim.Bound B) l ≡ bounded i
+    judged = bounded-for ∙ rw (b .answer)
 
-    pub refused-short : sizeFits w l ≡ false → RefusedAs s (Claim.Bound B) l tooShort
-    refused-short e = short-for s (Claim.Bound B) l (boundedVariables i B) (boundedHard i B) (b .whole) judged e
+    pub bounded-short : sizeFits w l ≡ false → (ws : List ℕ)
+        → Left (formulaFor s (Claim.Bound B) l) ws ws (Ready.Refused tooShort)
+    bounded-short e ws = left-short l (boundedVariables i B) (boundedHard i B) judged (b .whole) e ws
 
-    pub formula-in : sizeFits w l ≡ true → {ws ws′ : List ℕ} {a : ℕ}
-        → Ran put (flatMap mark (boundedHard i B)) (out 0 ws) (out a ws′) → length ws ≡ l .words
-        → length ws ≤ 9223372036854775807 → FormulaIn s (Claim.Bound B) l ws′ (w .words) (w .variables)
-    formula-in e p long short =
-        stands-in s (Claim.Bound B) l (boundedVariables i B) (boundedHard i B) (b .whole) judged
-        (bounded-storable i (b .valid) B (b .few)) e p long short
+    pub bounded-in : sizeFits w l ≡ true → {ws ws′ : List ℕ} {n : ℕ} → Ran put (flatMap mark (boundedHard i B)) (out 0 ws) (out n ws′)
+        → length ws ≡ l .words → length ws ≤ 9223372036854775807
+        → Left (formulaFor s (Claim.Bound B) l) ws ws′ (Ready.Formula (w .words) (w .variables))
+    bounded-in e p long short = left-formula l (boundedVariables i B) (boundedHard i B) judged (b .whole) e p long short
 
 -- without the tail: the hard clauses alone
 module _ (s : List ℕ) (l : Lent) where
-  abbrev alone : List ℕ → Instance → Answer ℕ
-  alone proof i = against (variables i) (hardOf i) proof l
+  abbrev alone : Instance → Answer (ℕ × List (List ℕ))
+  alone i = fitting (variables i) (hardOf i) l
 
-  hard-then : (proof : List ℕ) → checkHardOf s proof l ≡ then (sizedOf s) (alone proof)
-  unfolding checkHardOf
-  hard-then proof = size-then s (alone proof)
+  pub hard-for : formulaFor s Claim.AnyCost l ≡ then (sizedOf s) alone
+  unfolding formulaFor
+  hard-for = size-then s alone
 
   -- 1 to 6 and 8
-  pub hard-refused : {f : Refusal} → RefusedBy (sizedOf s) f → RefusedAs s Claim.AnyCost l f
-  hard-refused b = record { answer = λ proof. hard-then proof ∙ rw (b .answer) }
+  pub hard-refused : {f : Refusal} → RefusedBy (sizedOf s) f → (ws : List ℕ)
+      → Left (formulaFor s Claim.AnyCost l) ws ws (Ready.Refused f)
+  hard-refused b ws = rw (hard-for, b .answer) (record { told = refl; words = refl })
 
   module _ {d te tg : List ℕ} {h : Head} {z : Size} {w : FormulaSize} (b : SizedBy s d te tg h z) (e : w ≡ stored z) where
     abbrev j : Instance
@@ -128,14 +112,13 @@ module _ (s : List ℕ) (l : Lent) where
     unfolding stored
     hard-size = e ∙ rw (b .numbers .variables, b .numbers .clauses, b .numbers .words)
 
-    hard-judged : (proof : List ℕ) → checkHardOf s proof l ≡ against (variables j) (hardOf j) proof l
-    hard-judged proof = hard-then proof ∙ rw (b .answer)
+    hard-judged : formulaFor s Claim.AnyCost l ≡ alone j
+    hard-judged = hard-for ∙ rw (b .answer)
 
-    pub hard-short : sizeFits w l ≡ false → RefusedAs s Claim.AnyCost l tooShort
-    hard-short f = short-for s Claim.AnyCost l (variables j) (hardOf j) hard-size hard-judged f
+    pub hard-short : sizeFits w l ≡ false → (ws : List ℕ) → Left (formulaFor s Claim.AnyCost l) ws ws (Ready.Refused tooShort)
+    hard-short f ws = left-short l (variables j) (hardOf j) hard-judged hard-size f ws
 
-    pub hard-in : sizeFits w l ≡ true → {ws ws′ : List ℕ} {a : ℕ}
-        → Ran put (flatMap mark (hardOf j)) (out 0 ws) (out a ws′) → length ws ≡ l .words
-        → length ws ≤ 9223372036854775807 → FormulaIn s Claim.AnyCost l ws′ (w .words) (w .variables)
-    hard-in f p long short =
-        stands-in s Claim.AnyCost l (variables j) (hardOf j) hard-size hard-judged (hard-storable j (b .valid) (b .few)) f p long short
+    pub hard-in : sizeFits w l ≡ true → {ws ws′ : List ℕ} {n : ℕ} → Ran put (flatMap mark (hardOf j)) (out 0 ws) (out n ws′)
+        → length ws ≡ l .words → length ws ≤ 9223372036854775807
+        → Left (formulaFor s Claim.AnyCost l) ws ws′ (Ready.Formula (w .words) (w .variables))
+    hard-in f p long short = left-formula l (variables j) (hardOf j) hard-judged hard-size f p long short

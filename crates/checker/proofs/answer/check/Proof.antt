@@ -36,6 +36,7 @@ use denote.Triple.Statement.{Contract, Triple}
 use denote.Triple.Table.{entered, cited}
 use denote.Triple.Walked.{Stays, stay-slice, stay-dropped, walkOf, goes-slice, goes-dropped, ends-at, walked, walk-meets}
 use denote.Exit.{yes}
+use Rattle.scope.specs.Parsed.{Answer}
 use Rattle.scope.specs.Answers.{checkMeans}
 use Rattle.scope.specs.declared.CheckAnswer.{CheckAnswer}
 use Rattle.scope.proofs.CheckAnswer as S
@@ -44,7 +45,7 @@ use Rattle.directory.specs.declared.Row.{Row}
 use Rattle.directory.specs.Rows.{noRow}
 use Rattle.walks.proofs.Walk.{ty-at, Addrs, addr-at, rotate, allocs-all, frees-all, var, part, fills}
 use Rattle.walks.proofs.Slices.{at-list, Whole, lent, back}
-use Rattle.walks.proofs.Calls.{unit-same, both-said, told, says-all, calls-to}
+use Rattle.walks.proofs.Calls.{unit-same, both-said, and-said, told, says-all, calls-to}
 use Rattle.directory.proofs.Row as R
 use Rattle.standing.proofs.clear_words as clear-words
 use Rattle.standing.proofs.clear_words.Symbol as clear-words-def
@@ -68,7 +69,7 @@ use Rattle.checker.proofs.answer.follow.Symbol.{name as #follow}
 use Rattle.checker.proofs.answer.follow.Met as follow-thm
 use Rattle.claims.specs.declared.claim.Claim.{Claim}
 use Rattle.claims.specs.declared.prepare.Ready.{Ready}
-use Rattle.claims.specs.Prepared.{lent as stores, asked, Prepared}
+use Rattle.claims.specs.Prepared.{lent as stores, asked, formulaFor, readyOf, wordsWith}
 use Rattle.checker.specs.Checked.{Follows}
 use Rattle.checker.proofs.laws.Checked.{zeros-kept, checked}
 use Rattle.checker.proofs.Values.{IsAnswer, answer-same, answer-typed, IsReady, ready-same, ready-typed, IsClaim, claim-typed}
@@ -169,6 +170,10 @@ module _ {M : Type 1} (𝓤 : URA M) (H : Heap 𝓤) (A : Atoms 𝓤) (W : Given
       fjoin ! $ nothing ! $ fjoin ! $
       owned ! S.the-row (Is S.the-row) ((EL.makes S.the-type S′.the-plain) 𝓤 H A) r _ is $ move ! (1 ∷ 0 ∷ []) $ done !
 
+  -- the formula that is ready, or a refusal
+  abbrev ready : Answer (ℕ × List (List ℕ))
+  ready = formulaFor fs claim (stores (length us) (length ys) (length ms))
+
   -- the calls: what each is passed, and what it asks
   abbrev to-prepare : ℕ → GName → ℕ → GName → prepare-to 𝓤 H A mem run .Ghost
   to-prepare ν₁ δ₁ ν₃ δ₃ = (((κ₄, (ν₁ ∷ [], (ν₃ ∷ [], tt))), (q₄, (fullShare, (fullShare, tt))), tt, (at-list b₄ o₄ γ₄ fs, (claim, (at-list b₁ o₁ δ₁ us, (length ys, (at-list b₃ o₃ δ₃ ms, tt))))), (s₄ ∷ [], (G′.lowered claim ∷ [], (s₁ us ∷ [], (vint w64 (length ys) ∷ [], (s₃ ms ∷ [], tt)))))), tt)
@@ -246,7 +251,7 @@ module _ {M : Type 1} (𝓤 : URA M) (H : Heap 𝓤) (A : Atoms 𝓤) (W : Given
       move ! (63 ∷ 64 ∷ []) $ lent u8 κ₃ q₃ γ₃ b₃ o₃ ! tt (named 4) ms (λ ν₃ δ₃.
       move ! (61 ∷ 4 ∷ 1 ∷ 60 ∷ 3 ∷ 0 ∷ []) $
       cut (Preparing ν₁ δ₁ ν₃ δ₃) (raw (prepare-to 𝓤 H A mem run .pre (to-prepare ν₁ δ₁ ν₃ δ₃)) ∷ []) _ (goes-prepare ν₁ δ₁ ν₃ δ₃ (room₂ .0)) $
-      calls-to prepare.ended (prepare.clauses 𝓤 H A mem run) (to-prepare ν₁ δ₁ ν₃ δ₃) (λ r ws. Prepared fs claim (stores (length us) (length ys) (length ms)) (ws .1 .1 .0) r × (ws .1 .1 .1 .1 .0 ≡ replicate (length ms) 0)) (λ r ws. both-said 𝓤 _ _) Y′.lowered ready-same ! fm (known .prepare)
+      calls-to prepare.ended (prepare.clauses 𝓤 H A mem run) (to-prepare ν₁ δ₁ ν₃ δ₃) (λ r ws. (r ≡ readyOf ready) × ((ws .1 .1 .0 ≡ wordsWith ready us) × (ws .1 .1 .1 .1 .0 ≡ replicate (length ms) 0))) (λ r ws. and-said 𝓤 _ _ (both-said 𝓤 _ _)) Y′.lowered ready-same ! fm (known .prepare)
       (and-then ! (var ! 53 refl) (and-then ! (var ! 51 refl) (and-then ! (var ! 35 refl) (and-then ! (var ! 33 refl) (and-then ! (var ! 29 refl) (no-more !)))))) (λ d ws prepared is-d.
       use1 W (‵ (flft κ₄ q₄) ⊛ (‵ (flft (ν₁ ∷ []) fullShare) ⊛ (‵ (flft (ν₃ ∷ []) fullShare) ⊛ ‵ ftrue))) (id⊢ 𝓤 _) $ split ! $ move ! (1 ∷ []) $
       split ! $ move ! (1 ∷ []) $ split ! $ move ! (1 ∷ []) $ drop ! $ move ! (3 ∷ []) $
@@ -312,7 +317,7 @@ module _ {M : Type 1} (𝓤 : URA M) (H : Heap 𝓤) (A : Atoms 𝓤) (W : Given
       land ! (from ! (stop !)) (init ! 14 refl (tt, tt)) $ rotate ! 2 $
       fills ! 52 (of-opd ! (var ! 36 refl)) refl (answer-typed W r _ is-r) $ returns ! (look ! 52 refl) $
       frees-all ! body.locals ls (some _ ∷ some _ ∷ some _ ∷ some _ ∷ some _ ∷ some _ ∷ some _ ∷ some _ ∷ some _ ∷ some _ ∷ some _ ∷ some _ ∷ some _ ∷ some _ ∷ some _ ∷ some _ ∷ some _ ∷ some _ ∷ some _ ∷ some _ ∷ some _ ∷ some _ ∷ some _ ∷ some _ ∷ some _ ∷ some _ ∷ some _ ∷ []) $
-      by ! (exits r is-r (vs₁ .0) (vs₂ .0) (vs₃ .0) (c₁ ∙ k₁′ ∙ k₁) (c₂ ∙ k₂′) (c₃ ∙ k₃′ ∙ k₃) (checked fs claim ps (ws .1 .1 .0) (length ys) (ws .1 .1 .1 .1 .0) (length us) (length ms) r (prepared .1) k₁ d (prepared .0) followed)
+      by ! (exits r is-r (vs₁ .0) (vs₂ .0) (vs₃ .0) (c₁ ∙ k₁′ ∙ k₁) (c₂ ∙ k₂′) (c₃ ∙ k₃′ ∙ k₃) (checked fs claim ps us (ws .1 .1 .0) (length ys) (ws .1 .1 .1 .1 .0) (length ms) r (prepared .1 .1) k₁ (omega (arith, room₁ .0)) ready refl (prepared .0) (prepared .1 .0) followed)
       (zeros-kept 0 z₁ (k₁′ ∙ k₁)) (zeros-kept noRow z₂ k₂′) (zeros-kept 0 z₃ (k₃′ ∙ k₃)))))))))))))))))))))))))
 
 meets : {M : Type 1} (𝓤 : URA M) (H : Heap 𝓤) (A : Atoms 𝓤) → Given 𝓤 H A → (mem : Memory → SProp 𝓤) (run : Routine → Fun 𝓤) (𝓣 : Tables 𝓤 H) → Known 𝓤 H A mem run (𝓣 .C)

@@ -3,7 +3,7 @@ use borrow.Author.Needs.{needs}
 use mathlib.Core.Path.{refl, sym, _∙_}
 use native.Mathlib.Omega.{arith}
 use Rattle.bounded_words.proofs.laws.Bounded.{bounding}
-use Rattle.claims.proofs.laws.Prepared.{refused-before, refused-short, formula-in, prepared-same}
+use Rattle.claims.proofs.laws.Prepared.{bounded-refused, bounded-short, bounded-in, left-same}
 use Rattle.claims.proofs.prepare.fill_bounded.Statement.{statement}
 use Rattle.claims.proofs.prepare.fill_bounded.Tie as tie
 
@@ -65,7 +65,7 @@ formula-of-requires c κs = search needs
 returns : tie.Need-returns
 returns c =
     let m = rw (c .before .before .before .before .before .before .before .before .before .before .before .before .before .m .given .1) at (c .before .before .before .before .before .before .before .before .before .before .before .before .before .before .before .before .before .before .before .measure-bound .ensures) in
-    prepared-same (c .formula-of .ensures) (record { ready = formula-in _ _ _ m (sym (c .before .before .before .before .before .before .before .before .before .before .before .fits2 .ensures) ∙ c .before .before .before .before .before .before .before .before .before .before .if1 .taken) (c .before .before .before .before .write-bounded .ensures) refl (omega (arith, c .before .before .before .before .before .before .before .before .before .before .before .before .before .before .before .before .before .before .before .before .before .before .before .before .before .before .before .before .before .before)) })
+    left-same (c .formula-of .ensures) (bounded-in _ _ _ m (sym (c .before .before .before .before .before .before .before .before .before .before .before .fits2 .ensures) ∙ c .before .before .before .before .before .before .before .before .before .before .if1 .taken) (c .before .before .before .before .write-bounded .ensures) refl (omega (arith, c .before .before .before .before .before .before .before .before .before .before .before .before .before .before .before .before .before .before .before .before .before .before .before .before .before .before .before .before .before .before)))
 
 too-short-requires : tie.Need-too-short-requires
 too-short-requires c κs = search needs
@@ -76,10 +76,10 @@ enum-known-m-2 c = search needs
 returns-2 : tie.Need-returns-2
 returns-2 c =
     let m = rw (c .before .before .before .before .m .given .1) at (c .before .before .before .before .before .before .before .before .before .before .measure-bound .ensures) in
-    prepared-same (c .too-short .ensures) (record { ready = refused-short _ _ _ m (sym (c .before .before .fits2 .ensures) ∙ c .before .if1 .left) })
+    left-same (c .too-short .ensures) (bounded-short _ _ _ m (sym (c .before .before .fits2 .ensures) ∙ c .before .if1 .left) _)
 
 returns-3 : tie.Need-returns-3
-returns-3 c = record { ready = refused-before _ _ _ (rw (c .before .m2 .given .1) at (c .before .before .before .before .before .before .before .measure-bound .ensures)) }
+returns-3 c = left-same refl (bounded-refused _ _ _ (rw (c .before .m2 .given .1) at (c .before .before .before .before .before .before .before .measure-bound .ensures)) _)
 
 pub fill-bounded-spec : {M : Type 1} → statement M
 fill-bounded-spec =

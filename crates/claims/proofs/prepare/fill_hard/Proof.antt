@@ -3,7 +3,7 @@ use borrow.Author.Needs.{needs}
 use mathlib.Core.Path.{refl, sym, _∙_}
 use native.Mathlib.Omega.{arith}
 use Rattle.bounded_words.proofs.laws.Bounded.{hard-writable}
-use Rattle.claims.proofs.laws.Prepared.{hard-refused, hard-short, hard-in, prepared-same}
+use Rattle.claims.proofs.laws.Prepared.{hard-refused, hard-short, hard-in, left-same}
 use Rattle.claims.proofs.prepare.fill_hard.Statement.{statement}
 use Rattle.claims.proofs.prepare.fill_hard.Tie as tie
 
@@ -67,7 +67,7 @@ formula-of-requires c κs = search needs
 returns : tie.Need-returns
 returns c =
     let m = rw (c .before .before .before .before .before .before .before .before .before .before .before .before .before .before .m .given .1) at (c .before .before .before .before .before .before .before .before .before .before .before .before .before .before .before .before .before .before .before .before .measure .ensures) in
-    prepared-same (c .formula-of .ensures) (record { ready = hard-in _ _ m (c .before .before .before .before .before .before .before .before .before .before .before .before .stored-size .ensures) (sym (c .before .before .before .before .before .before .before .before .before .before .before .fits2 .ensures) ∙ c .before .before .before .before .before .before .before .before .before .before .if1 .taken) (c .before .before .before .before .write-hard .ensures) refl (omega (arith, c .before .before .before .before .before .before .before .before .before .before .before .before .before .before .before .before .before .before .before .before .before .before .before .before .before .before .before .before .before .before .before)) })
+    left-same (c .formula-of .ensures) (hard-in _ _ m (c .before .before .before .before .before .before .before .before .before .before .before .before .stored-size .ensures) (sym (c .before .before .before .before .before .before .before .before .before .before .before .fits2 .ensures) ∙ c .before .before .before .before .before .before .before .before .before .before .if1 .taken) (c .before .before .before .before .write-hard .ensures) refl (omega (arith, c .before .before .before .before .before .before .before .before .before .before .before .before .before .before .before .before .before .before .before .before .before .before .before .before .before .before .before .before .before .before .before)))
 
 too-short-requires : tie.Need-too-short-requires
 too-short-requires c κs = search needs
@@ -78,10 +78,10 @@ enum-known-m-2 c = search needs
 returns-2 : tie.Need-returns-2
 returns-2 c =
     let m = rw (c .before .before .before .before .before .m .given .1) at (c .before .before .before .before .before .before .before .before .before .before .before .measure .ensures) in
-    prepared-same (c .too-short .ensures) (record { ready = hard-short _ _ m (c .before .before .before .stored-size .ensures) (sym (c .before .before .fits2 .ensures) ∙ c .before .if1 .left) })
+    left-same (c .too-short .ensures) (hard-short _ _ m (c .before .before .before .stored-size .ensures) (sym (c .before .before .fits2 .ensures) ∙ c .before .if1 .left) _)
 
 returns-3 : tie.Need-returns-3
-returns-3 c = record { ready = hard-refused _ _ (rw (c .before .m2 .given .1) at (c .before .before .before .before .before .before .before .measure .ensures)) }
+returns-3 c = left-same refl (hard-refused _ _ (rw (c .before .m2 .given .1) at (c .before .before .before .before .before .before .before .measure .ensures)) _)
 
 pub fill-hard-spec : {M : Type 1} → statement M
 fill-hard-spec =
