@@ -1,6 +1,6 @@
 -- `score::scored::score_of` meets its contract. The counted uses and the marks are those of the definitions, so the sums are the score.
-use mathlib.Core.Path.{refl}
-use lib.ListN.{replicate}
+use Prim.Native.Nat.{ℕ}
+use lib.ListN.{replicate, length-replicate}
 use Rattle.instance.proofs.laws.Ready.{zeros}
 use Rattle.score.proofs.laws.Ready.{scorable-counts, scorable-walk}
 use Rattle.score.proofs.laws.Right.{infeasibility-right, objective-right}
@@ -18,7 +18,7 @@ slice-aggregate-count-uses : tie.Need-slice-aggregate-count-uses
 slice-aggregate-count-uses c = search needs
 
 count-uses-requires : tie.Need-count-uses-requires
-count-uses-requires c κs = (scorable-counts (c .before .before .before .before .before .before .before .before .pre) (replicate 12375 0) refl, zeros 12375)
+count-uses-requires c κs = (scorable-counts (c .before .before .before .before .before .before .before .before .pre) (replicate 12375 0) (length-replicate {A = ℕ} 12375 0), zeros 12375)
 
 slice-aggregate-mark-used : tie.Need-slice-aggregate-mark-used
 slice-aggregate-mark-used c = search needs
