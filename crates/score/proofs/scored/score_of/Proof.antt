@@ -1,6 +1,6 @@
 -- `score::scored::score_of` meets its contract. The counted uses and the marks are those of the definitions, so the sums are the score.
 use Prim.Native.Nat.{ℕ}
-use mathlib.Core.Path.{sym}
+use mathlib.Core.Path.{sym, _∙_}
 use lib.ListN.{replicate, length-replicate}
 use Rattle.instance.proofs.laws.Ready.{zeros}
 use Rattle.score.proofs.laws.Ready.{scorable-counts, scorable-walk}
@@ -37,7 +37,7 @@ slice-aggregate-charge-all-2 : tie.Need-slice-aggregate-charge-all-2
 slice-aggregate-charge-all-2 c = search needs
 
 charge-all-requires : tie.Need-charge-all-requires
-charge-all-requires c κs = scorable-walk (c .before .before .before .before .before .before .before .before .before .before .before .before .before .before .before .before .before .pre) _ _ (c .before .before .before .before .before .before .before .before .count-uses .kept .0) (c .before .before .before .before .mark-used .kept .1 .0)
+charge-all-requires c κs = scorable-walk (c .before .before .before .before .before .before .before .before .before .before .before .before .before .before .before .before .before .pre) _ _ (c .before .before .before .before .before .before .before .before .count-uses .kept .0 ∙ length-replicate {A = ℕ} 12375 0) (c .before .before .before .before .mark-used .kept .1 .0 ∙ length-replicate {A = ℕ} 12375 0)
 
 same-length : tie.Need-same-length
 same-length c = search needs
@@ -48,7 +48,8 @@ returns c = λ d a.
     let u = c .before .before .before .before .before .before .before .before .before .before .before .count-uses in
     let m = c .before .before .before .before .before .before .before .mark-used in
     let r = c .before .before .charge-all .ensures in
-    (infeasibility-right a p (u .kept .0) (u .ensures) (m .ensures) (r .0), objective-right a p (u .kept .0) (u .ensures) (m .ensures) (r .1))
+    let l = u .kept .0 ∙ length-replicate {A = ℕ} 12375 0 in
+    (infeasibility-right a p l (u .ensures) (m .ensures) (r .0), objective-right a p l (u .ensures) (m .ensures) (r .1))
 
 pub score-of-spec : {M : Type 1} → statement M
 score-of-spec =
