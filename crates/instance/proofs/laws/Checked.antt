@@ -59,8 +59,6 @@ module _ (loads te groups : List ℕ) (h : Head) (s : List ℕ) (x : Number) whe
       → got 0 end ≡ ends (checkedWhole (byRows te (h .events)) groups h s)
   counted-end v end c e t l = whole-end s (h .constraints) _ _ (h .start) x e (checkedBy-same _ _ groups h s (c .each)) t l
 
-pub ruleset counted = (counted-refused, counted-left, counted-end)
-
 module _ (s d te tg : List ℕ) (h : Head) (i : StartIn (headStart d te tg h)) where
   -- the counts are those of the tables
   counts-are : countsOf (h .times) (h .resources) (eventsOf d te (h .events)) (rows tg (h .groups)) ≡ countsIn h
