@@ -1,7 +1,7 @@
 // Counts over the times of a group: one turn for each member.
+use resource_uses::bit_of;
 use tables::row_len;
 use tables::row_member;
-use timetable::bytes::bit_of;
 ghost use mathlib.Core.Path.{_≡_};
 ghost use Prim.Native.Nat.{_≤_};
 ghost use Rattle.scope.specs.Score.{trues};

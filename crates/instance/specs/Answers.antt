@@ -4,7 +4,6 @@ use mathlib.Core.List.{List}
 use Rattle.scope.specs.Parsed.{Parsed, got, repeat}
 use Rattle.scope.specs.Kinds.{Constraint}
 use Rattle.scope.specs.Instance.{Instance}
-use Rattle.scope.specs.declared.Refusal.{Refusal}
 use Rattle.number.specs.Answers.{refusedBy}
 use Rattle.parsing.specs.Parsing.{listOf}
 use Rattle.tables.specs.Rows.{rows, eventsOf}
@@ -44,7 +43,14 @@ abbrev pub saidFile : List ℕ → List ℕ → List ℕ → List ℕ → File �
 saidFile s d te tg (File.Accepted h) = got (instanceOf s d te tg h) (endOf (constraintsOf s d te tg h))
 saidFile s d te tg (File.Refused f) = refusedBy f
 
--- the refusal that an answer holds; of a value, none
-abbrev pub refusalOfSizes : SizesRead → Refusal
-refusalOfSizes (SizesRead.Value w next) = record { number = 0; value = 0 }
-refusalOfSizes (SizesRead.Refused f) = f
+-- the head of a file with these sizes, so many constraints and the first of them at an offset
+abbrev pub headOf : Sizes → ℕ → ℕ → Head
+headOf w count start =
+    record {
+      times = w .times;
+      events = w .events;
+      resources = w .resources;
+      groups = w .groups;
+      constraints = count;
+      start = start;
+    }

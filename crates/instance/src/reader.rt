@@ -8,8 +8,12 @@ use scope::Refusal;
 use table_lists::events_at;
 use table_lists::groups_at;
 ghost use mathlib.Core.Path.{_≡_};
+ghost use mathlib.Core.List.{List};
+ghost use Prim.Native.Nat.{ℕ};
 ghost use Rattle.scope.specs.Instance.{sizesAt, parse};
-ghost use Rattle.instance.specs.Answers.{saidSizes, saidTables, saidFile, refusalOfSizes};
+ghost use Rattle.constraint_end.specs.Ready.{Lent};
+ghost use Rattle.instance.specs.declared.reader.SizesRead.{SizesRead};
+ghost use Rattle.instance.specs.Answers.{saidSizes, saidTables, saidFile, headOf};
 ghost use Rattle.instance.specs.File.{tablesAt};
 ghost use Rattle.instance.specs.Stores.{Tables, Stores};
 
@@ -31,18 +35,6 @@ pub enum SizesRead {
 pub enum File {
     Accepted(Head),
     Refused(Refusal),
-}
-
-fn refusal_of_sizes(x: SizesRead) -> Refusal
-    ensures { λ r. ⌜ r ≡ refusalOfSizes x ⌝ }
-{
-    match x {
-        SizesRead::Value(_, _) => Refusal {
-            number: 0,
-            value: 0,
-        },
-        SizesRead::Refused(f) => f,
-    }
 }
 
 // Times, events and resources; the groups come later.
@@ -100,21 +92,19 @@ fn tables_at(s: &[u8], durations: &mut [u8], resources: &mut [u8], groups: &mut 
     )
 }
 
-// The whole file, its events and groups into the tables; list is a store for a constraint's list.
-pub fn read(
+// The constraints up to the file's end, once its sizes and tables are read.
+fn rest_at(
     file: &[u8],
-    durations: &mut [u8],
-    resources: &mut [u8],
-    groups: &mut [u8],
+    w: Sizes,
+    at: usize,
+    resources: &[u8],
+    groups: &[u8],
     list: &mut [u16],
 ) -> File
-    requires { ⌜ Stores (now durations) (now resources) (now groups) (now list) ⌝ }
-    ensures { λ r. ⌜ saidFile (now (file .entry)) (now (durations .exit)) (now (resources .exit)) (now (groups .exit)) r ≡ parse (now (file .entry)) ⌝ }
+    requires { ⌜ ((count start : ℕ) → Lent (now resources) (now groups) (now list) (headOf w count start)) ⌝ }
+    ensures { λ r. ⌜ ((d : List ℕ) → saidTables d (now (resources .entry)) (now (groups .entry)) (SizesRead.Value w at) ≡ tablesAt (now (file .entry))
+        → saidFile (now (file .entry)) d (now (resources .entry)) (now (groups .entry)) r ≡ parse (now (file .entry))) ⌝ }
 {
-    let t = tables_at(file, durations, resources, groups);
-    let SizesRead::Value(w, at) = t else {
-        return File::Refused(refusal_of_sizes(t));
-    };
     let k = limited(file, at, 0, 4096);
     let Number::Value(constraints, start) = k else {
         return File::Refused(refusal_of(k));
@@ -127,9 +117,25 @@ pub fn read(
         constraints,
         start,
     };
-    let f = constraints_whole(file, head, resources, groups, list);
-    let Number::Value(_, _) = f else {
-        return File::Refused(refusal_of(f));
-    };
-    File::Accepted(head)
+    match constraints_whole(file, head, resources, groups, list) {
+        Number::Value(_, _) => File::Accepted(head),
+        Number::Refused(x) => File::Refused(x),
+    }
+}
+
+// The whole file, its events and groups into the tables; list is a store for a constraint's list.
+pub fn read(
+    file: &[u8],
+    durations: &mut [u8],
+    resources: &mut [u8],
+    groups: &mut [u8],
+    list: &mut [u16],
+) -> File
+    requires { ⌜ Stores (now durations) (now resources) (now groups) (now list) ⌝ }
+    ensures { λ r. ⌜ saidFile (now (file .entry)) (now (durations .exit)) (now (resources .exit)) (now (groups .exit)) r ≡ parse (now (file .entry)) ⌝ }
+{
+    match tables_at(file, durations, resources, groups) {
+        SizesRead::Value(w, at) => rest_at(file, w, at, resources, groups, list),
+        SizesRead::Refused(x) => File::Refused(x),
+    }
 }

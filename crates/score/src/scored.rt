@@ -2,8 +2,8 @@
 use crate::walk::Score;
 use crate::walk::charge_all;
 use constraint::Head;
-use timetable::uses::count_uses;
-use timetable::uses::mark_used;
+use resource_uses::count_uses;
+use resource_uses::mark_used;
 ghost use mathlib.Core.Path.{_≡_};
 ghost use mathlib.Core.List.{List};
 ghost use Prim.Native.Nat.{ℕ};

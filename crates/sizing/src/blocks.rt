@@ -25,7 +25,7 @@ pub fn starts_size(events: u64, times: u64) -> Size
 }
 
 // The OR of n literals.
-pub fn or_size(n: u64) -> Size
+fn or_size(n: u64) -> Size
     requires { ⌜ n ≤ 1024 ⌝ }
     ensures { λ r. ⌜ r ≡ orSize n ⌝ }
 {

@@ -10,7 +10,7 @@ use crate::sums::lower;
 use crate::sums::plus;
 
 // The units of one weight for k columns; the weight 0 means hard, and then one stands for all.
-pub fn units_size(weight: u64, k: u64) -> Size
+fn units_size(weight: u64, k: u64) -> Size
     requires { ⌜ (weight ≤ 1000) × (k ≤ 255) ⌝ }
     ensures { λ r. ⌜ r ≡ unitsSize weight k ⌝ }
 {
@@ -34,7 +34,7 @@ pub fn units_size(weight: u64, k: u64) -> Size
 }
 
 // The low part of kind 6: k variables, each with its unit.
-pub fn shorts_size(weight: u64, k: u64) -> Size
+fn shorts_size(weight: u64, k: u64) -> Size
     requires { ⌜ (weight ≤ 1000) × (k ≤ 255) ⌝ }
     ensures { λ r. ⌜ r ≡ shortsSize weight k ⌝ }
 {
@@ -57,7 +57,7 @@ pub fn shorts_size(weight: u64, k: u64) -> Size
 }
 
 // The low part; where a count of 0 is free it is kind 6's.
-pub fn low_size(weight: u64, lo: u64, free: bool) -> Size
+fn low_size(weight: u64, lo: u64, free: bool) -> Size
     requires { ⌜ (weight ≤ 1000) × (lo ≤ 255) ⌝ }
     ensures { λ r. ⌜ r ≡ lowSize weight lo free ⌝ }
 {
@@ -69,7 +69,7 @@ pub fn low_size(weight: u64, lo: u64, free: bool) -> Size
 }
 
 // The columns of a counter over n literals.
-pub fn columns_of(weight: u64, hi: u64, n: u64) -> u64
+fn columns_of(weight: u64, hi: u64, n: u64) -> u64
     requires { ⌜ hi ≤ 255 ⌝ }
     ensures { λ r. ⌜ r ≡ columns weight hi n ⌝ }
 {
@@ -80,7 +80,7 @@ pub fn columns_of(weight: u64, hi: u64, n: u64) -> u64
 }
 
 // A counted list of n literals between lo and hi.
-pub fn count_size(weight: u64, lo: u64, hi: u64, free: bool, n: u64) -> Size
+fn count_size(weight: u64, lo: u64, hi: u64, free: bool, n: u64) -> Size
     requires { ⌜ (weight ≤ 1000) × (n ≤ 255) × (lo ≤ hi) × (hi ≤ n) ⌝ }
     ensures { λ r. ⌜ r ≡ countSize weight lo hi free n ⌝ }
 {

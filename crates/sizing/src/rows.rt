@@ -13,7 +13,7 @@ use crate::sums::nothing;
 use crate::sums::plus;
 
 // The first row of a counter, for a literal of the weight given.
-pub fn first_row(columns: u64, weight: u64) -> Size
+fn first_row(columns: u64, weight: u64) -> Size
     requires { ⌜ columns ≤ 4096 ⌝ }
     ensures { λ r. ⌜ r ≡ firstRow columns weight ⌝ }
 {
@@ -28,7 +28,7 @@ pub fn first_row(columns: u64, weight: u64) -> Size
 }
 
 // A later row.
-pub fn later_row(columns: u64, weight: u64) -> Size
+fn later_row(columns: u64, weight: u64) -> Size
     requires { ⌜ columns ≤ 4096 ⌝ }
     ensures { λ r. ⌜ r ≡ laterRow columns weight ⌝ }
 {
@@ -57,7 +57,7 @@ pub fn rows_size(columns: u64, n: u64, weight: u64) -> Size
 }
 
 // A unit that is a hard clause.
-pub fn hard_unit() -> Size
+fn hard_unit() -> Size
     ensures { λ r. ⌜ r ≡ hardUnit ⌝ }
 {
     Size {

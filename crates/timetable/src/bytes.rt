@@ -1,5 +1,5 @@
 // Bytes 0 and 1.
-pub use resource_uses::bit_of;
+use resource_uses::bit_of;
 ghost use mathlib.Core.Path.{_≡_};
 ghost use Prim.Native.Nat.{ℕ, _+_, _≤_, _<_};
 ghost use lib.ListN.{length, getD};

@@ -1,4 +1,3 @@
-// What a timetable is: refusals 10 to 12, and how often each resource is used at each time.
+// What a timetable is: refusals 10 to 12.
 pub mod bytes;
 pub mod check;
-pub mod uses;

@@ -1,17 +1,17 @@
 -- The constraints as the reader checks them are those of the instance.
 use Prim.Native.Nat.{ℕ, _≤_, _<_}
-use mathlib.Core.Path.{_≡_, sym, ap, _∙_}
+use mathlib.Core.Path.{_≡_, refl, sym, ap, _∙_}
 use mathlib.Core.List.{List}
 use lib.ListN.{length}
 use native.Mathlib.Omega.{arith}
 use Rattle.scope.specs.Parsed.{Parsed, got, refused, andThen}
 use Rattle.scope.specs.Kinds.{Constraint, users}
 use Rattle.scope.specs.Number.{limited}
-use Rattle.scope.specs.Instance.{countsOf, parse}
+use Rattle.scope.specs.Instance.{Instance, countsOf, parse}
 use Rattle.scope.specs.declared.Refusal.{Refusal}
 use Rattle.number.specs.declared.Number.{Number}
 use Rattle.number.specs.Answers.{said, refusalOf, refusedBy}
-use Rattle.number.proofs.laws.Sequence.{step-number, stop}
+use Rattle.number.proofs.laws.Sequence.{step-number, number-refused, stop}
 use Rattle.tables.specs.Rows.{rows, eventsOf}
 use Rattle.tables.proofs.laws.Laws.{length-rows, length-events}
 use Rattle.tables.proofs.laws.Reading.{event-row, events-in, groups-in}
@@ -23,7 +23,7 @@ use Rattle.constraint.specs.Decoded.{longestOf}
 use Rattle.constraint.proofs.laws.Decoded.{checked-same, constraint-checked}
 use Rattle.instance.specs.declared.reader.Sizes.{Sizes}
 use Rattle.instance.specs.declared.reader.SizesRead.{SizesRead}
-use Rattle.instance.specs.Answers.{saidTables, headStart, constraintsOf, instanceOf}
+use Rattle.instance.specs.Answers.{saidTables, startOf, headStart, headOf, constraintsOf, instanceOf}
 use Rattle.constraint_end.specs.Ends.{ends, endOf, wholeAt}
 use Rattle.constraint_end.proofs.laws.Ends.{ends-got, ends-of-refused, whole-same, whole-got, whole-refused, whole-left, whole-end}
 use Rattle.instance.specs.File.{withConstraints, constraintIn, tablesAt}
@@ -58,8 +58,6 @@ module _ (loads te groups : List ℕ) (h : Head) (s : List ℕ) (x : Number) whe
       → length s ≤ end
       → got 0 end ≡ ends (checkedWhole (byRows te (h .events)) groups h s)
   counted-end v end c e t l = whole-end s (h .constraints) _ _ (h .start) x e (checkedBy-same _ _ groups h s (c .each)) t l
-
-pub ruleset counted = (counted-refused, counted-left, counted-end)
 
 module _ (s d te tg : List ℕ) (h : Head) (i : StartIn (headStart d te tg h)) where
   -- the counts are those of the tables
@@ -120,46 +118,42 @@ start-lent d te tg list h i a b c =
       rows = groups-in tg (h .groups) (z .times-high) (omega (arith, i .group-count)) (i .groups);
     }
 
--- the whole file, where x filled the tables, k counted the constraints and y walked over them
-abbrev headOf : Sizes → ℕ → ℕ → Head
-headOf w count start =
-    record {
-      times = w .times;
-      events = w .events;
-      resources = w .resources;
-      groups = w .groups;
-      constraints = count;
-      start = start;
-    }
-
-module _ (s d te tg : List ℕ) (x : SizesRead) (w : Sizes) (at : ℕ) (k : Number) (count start : ℕ) (y : Number) where
-  pub read-stopped : (g f : Refusal)
-      → saidTables d te tg x ≡ tablesAt s
-      → x ≡ SizesRead.Value w at
-      → said k ≡ limited 0 4096 s at
-      → k ≡ Number.Value count start
-      → said y ≡ ends (checkedWhole (byRows te (w .events)) tg (headOf w count start) s)
-      → y ≡ Number.Refused f
-      → g ≡ refusalOf y
-      → refusedBy g ≡ parse s
+-- the whole file, where the tables were filled, k counted the constraints and y walked over them
+module _ (s d te tg : List ℕ) (w : Sizes) (at : ℕ) (a : saidTables d te tg (SizesRead.Value w at) ≡ tablesAt s) (k : Number) (e : said k ≡ limited 0 4096 s at) where
+  -- no count
+  pub rest-uncounted : (g f : Refusal) → k ≡ Number.Refused f → g ≡ refusalOf k → refusedBy g ≡ parse s
   unfolding restAt
-  read-stopped g f a b c e h t r =
-      let i = tables-start s d te tg x w at a b in
+  rest-uncounted g f t r =
       rw parse-parts
-      (step-tables d te tg x _ _ w at _ a b
-      (step-number k _ _ count start _ c e (stop _ _ _ _ (walk-stopped s d te tg (headOf w count start) i y h g t r))))
+      (step-tables d te tg (SizesRead.Value w at) _ _ w at _ a refl (stop _ _ _ _ (number-refused k _ g f e t r)))
 
-  pub read-accepted : (v end : ℕ)
-      → saidTables d te tg x ≡ tablesAt s
-      → x ≡ SizesRead.Value w at
-      → said k ≡ limited 0 4096 s at
-      → k ≡ Number.Value count start
-      → said y ≡ ends (checkedWhole (byRows te (w .events)) tg (headOf w count start) s)
-      → y ≡ Number.Value v end
-      → got (instanceOf s d te tg (headOf w count start)) (endOf (constraintsOf s d te tg (headOf w count start))) ≡ parse s
-  unfolding restAt
-  read-accepted v end a b c e h t =
-      let i = tables-start s d te tg x w at a b in
-      rw parse-parts
-      (step-tables d te tg x _ _ w at _ a b
-      (step-number k _ _ count start _ c e (walk-accepted s d te tg (headOf w count start) i y h t)))
+  module _
+      (count start : ℕ)
+      (t : k ≡ Number.Value count start)
+      (y : Number)
+      (h : said y ≡ ends (checkedWhole (byRows te (w .events)) tg (headOf w count start) s)) where
+    -- the rest of the file, from what is left of it
+    rest-whole : {r : Parsed Instance}
+        → r
+        ≡ andThen (wholeAt s count (constraintIn (startOf d te tg w) s) start) (λ cs end. got (withConstraints (startOf d te tg w) cs) end)
+        → r ≡ parse s
+    unfolding restAt
+    rest-whole {r} l =
+        rw parse-parts
+        (step-tables d te tg (SizesRead.Value w at) _ _ w at _ a refl (step-number k _ _ count start _ e t l))
+
+    start-in : StartIn (startOf d te tg w)
+    start-in = tables-start s d te tg (SizesRead.Value w at) w at a refl
+
+    pub rest-stopped : (f : Refusal) → y ≡ Number.Refused f → refusedBy f ≡ parse s
+    rest-stopped f q =
+        rest-whole (stop _ _ _ _ (walk-stopped s d te tg (headOf w count start) start-in y h f q (rw q)))
+
+    pub rest-accepted : (v end : ℕ)
+        → y ≡ Number.Value v end
+        → got (instanceOf s d te tg (headOf w count start)) (endOf (constraintsOf s d te tg (headOf w count start))) ≡ parse s
+    rest-accepted v end q = rest-whole (walk-accepted s d te tg (headOf w count start) start-in y h q)
+
+-- the whole file, where its tables were refused
+pub tables-stopped : (s : List ℕ) {k v : ℕ} → refused k v ≡ tablesAt s → refused k v ≡ parse s
+tables-stopped s e = rw parse-parts (stop _ _ _ _ (sym e))

@@ -13,7 +13,7 @@ use Rattle.table_lists.specs.Answers.{saidRows, saidEvents}
 use Rattle.table_lists.proofs.laws.Sequence.{rows-value, rows-refused, events-value, events-refused}
 use Rattle.instance.specs.declared.reader.Sizes.{Sizes}
 use Rattle.instance.specs.declared.reader.SizesRead.{SizesRead}
-use Rattle.instance.specs.Answers.{saidSizes, saidTables, startOf, refusalOfSizes}
+use Rattle.instance.specs.Answers.{saidSizes, saidTables, startOf}
 use Rattle.instance.specs.File.{Start}
 
 -- sizes, then the tables
@@ -36,13 +36,6 @@ pub step-tables : {B : Type 0} (d te tg : List ℕ) (x : SizesRead) (p : Parsed 
     → r ≡ f (startOf d te tg w) n
     → r ≡ andThen p f
 step-tables d te tg x p f w n r e h k = step p f (startOf d te tg w) n r (sym e ∙ ap (saidTables d te tg) h) k
-
-pub tables-refused : (d te tg : List ℕ) (x : SizesRead) (p : Parsed Start) (g f : Refusal)
-    → saidTables d te tg x ≡ p
-    → x ≡ SizesRead.Refused f
-    → g ≡ refusalOfSizes x
-    → p ≡ refused (g .number) (g .value)
-tables-refused d te tg x p g f e h k = rw (k, h) (sym e ∙ ap (saidTables d te tg) h)
 
 -- events and groups
 pub step-events : {B : Type 0} (m : ℕ) (d t : List ℕ) (x : Number) (p : Parsed (List Event)) (f : List Event → ℕ → Parsed B) (v n : ℕ) (r : Parsed B)
@@ -74,4 +67,4 @@ pub groups-stop : (t : List ℕ) (x : Number) (p : Parsed (List (List ℕ))) (g 
 groups-stop t x p g f e h k = rw (k, h) (rows-refused t x e h)
 
 pub ruleset sequence =
-    (numberSequence, step-sizes, sizes-stop, step-tables, tables-refused, step-events, events-stop, step-groups, groups-stop)
+    (numberSequence, step-sizes, sizes-stop, step-tables, step-events, events-stop, step-groups, groups-stop)

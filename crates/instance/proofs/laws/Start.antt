@@ -33,13 +33,13 @@ sizes-got s {n} {end} e =
     let h : _≡_ {A = ℕ × ℕ × ℕ} (a .value, b .value, c .value) n = cc (c .rest) in
     let k : c .next ≡ end = cc (c .rest) in
     let x = limited-got 1 125 s 0 (a .first) in
-    let y = limited-got 1 1024 s (a .next) (b .first) in
-    let z = limited-got 0 99 s (b .next) (c .first) in
+    let y = limited-got 1 1024 s (a .next) {v = b .value} {next = b .next} (b .first) in
+    let z = limited-got 0 99 s (b .next) {v = c .value} {next = c .next} (c .first) in
     let w : SizesIn (a .value) (b .value) (c .value) =
     record { times-low = x .low; times-high = x .high; events-low = y .low; events-high = y .high; resources-high = z .high }
     in
     record {
-      sizes = subst (λ (n : ℕ × ℕ × ℕ). SizesIn (n .0) (n .1) (n .2)) h w;
+      sizes = subst (λ (n : ℕ × ℕ × ℕ). SizesIn (n .0) (n .1) (n .2)) {x = (a .value, b .value, c .value)} h w;
       ahead = omega (arith, x .ahead, y .ahead, z .ahead);
       inside = omega (arith, z .inside);
     }
@@ -89,12 +89,12 @@ tables-got s {t} {end} e =
     let h : _≡_ {A = Start} (record { times = n .0; resources = n .2; events = b .value; groups = g .value }) t = cc (g .rest) in
     let k : g .next ≡ end = cc (g .rest) in
     let x = sizes-got s (a .first) in
-    let y = events-got (n .0) (n .2) (n .1) s (a .next) (b .first) in
-    let z = groups-got (n .0) s (b .next) (g .first) in
+    let y = events-got (n .0) (n .2) (n .1) s (a .next) {es = b .value} {end = b .next} (b .first) in
+    let z = groups-got (n .0) s (b .next) {gs = g .value} {end = g .next} (g .first) in
     let w : StartIn (record { times = n .0; resources = n .2; events = b .value; groups = g .value }) =
     record { sizes = rw (y .count) (x .sizes); events = y .each; groups = z .each; group-count = z .count }
     in
-    record { start = subst StartIn h w; ahead = omega (arith, z .ahead); inside = omega (arith, z .inside) }
+    record { start = subst StartIn {x = record { times = n .0; resources = n .2; events = b .value; groups = g .value }} h w; ahead = omega (arith, z .ahead); inside = omega (arith, z .inside) }
 
 -- what is known of the tables that a call filled
 pub tables-start : (s d te tg : List ℕ) (x : SizesRead) (w : Sizes) (n : ℕ)

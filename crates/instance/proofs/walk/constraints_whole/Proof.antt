@@ -1,7 +1,7 @@
 -- `instance::walk::constraints_whole` meets its contract: loads counted, constraints walked, then the test for the end.
 use borrow.Author.Needs.{needs}
 use mathlib.Core.Path.{refl}
-use Rattle.instance.proofs.laws.Checked.{counted}
+use Rattle.instance.proofs.laws.Checked.{counted-refused, counted-left, counted-end}
 use Rattle.constraint_end.proofs.laws.Ready.{zeros}
 use Rattle.instance.proofs.walk.constraints_whole.Statement.{statement}
 use Rattle.instance.proofs.walk.constraints_whole.Tie as tie
@@ -29,19 +29,25 @@ same-length : tie.Need-same-length
 same-length c = search needs
 
 returns : tie.Need-returns
-returns c = search counted depth 8
+returns c =
+    let a = c .before .before .before .before .before .before .before .before .before .before .before .before .before .before .args in
+    counted-refused _ (a .resources .now) (a .groups .now) (a .head) (a .s .now) _ _ (c .before .before .before .before .before .before .before .before .count-members .ensures) (c .before .before .before .before .constraints-end .ensures) (c .enum-told .given .1)
 
 same-length-2 : tie.Need-same-length-2
 same-length-2 c = search needs
 
 returns-2 : tie.Need-returns-2
-returns-2 c = search counted depth 8
+returns-2 c =
+    let a = c .before .before .before .before .before .before .before .before .before .before .before .before .before .before .before .before .args in
+    counted-left _ (a .resources .now) (a .groups .now) (a .head) (a .s .now) _ _ _ (c .before .before .before .before .before .before .before .before .before .before .count-members .ensures) (c .before .before .before .before .before .before .constraints-end .ensures) (c .before .before .f .given .1) (c .if1 .taken)
 
 same-length-3 : tie.Need-same-length-3
 same-length-3 c = search needs
 
 returns-3 : tie.Need-returns-3
-returns-3 c = search counted depth 8
+returns-3 c =
+    let a = c .before .before .before .before .before .before .before .before .before .before .before .before .before .before .before .before .args in
+    counted-end _ (a .resources .now) (a .groups .now) (a .head) (a .s .now) _ _ _ (c .before .before .before .before .before .before .before .before .before .before .count-members .ensures) (c .before .before .before .before .before .before .constraints-end .ensures) (c .before .before .f .given .1) (c .if1 .left)
 
 pub constraints-whole-spec : {M : Type 1} → statement M
 constraints-whole-spec =

@@ -1,50 +1,39 @@
 -- `sheet::operations::score` meets its contract. The stores are long enough; a file that is read is accepted or refused.
-use Prim.Native.Nat.{ℕ}
-use mathlib.Core.Path.{sym}
-use lib.ListN.{length-replicate}
 use Rattle.instance.proofs.laws.Laws.{accepted}
 use Rattle.sheet.proofs.laws.Answers.{score-file}
 use borrow.Author.Needs.{needs}
 use Rattle.sheet.proofs.operations.score.Statement.{statement}
 use Rattle.sheet.proofs.operations.score.Tie as tie
 
+durations-requires : tie.Need-durations-requires
+durations-requires c κs = search needs
+
+resource-rows-requires : tie.Need-resource-rows-requires
+resource-rows-requires c κs = search needs
+
+group-rows-requires : tie.Need-group-rows-requires
+group-rows-requires c κs = search needs
+
+list-requires : tie.Need-list-requires
+list-requires c κs = search needs
+
 slice-aggregate-read : tie.Need-slice-aggregate-read
-slice-aggregate-read c = sym (length-replicate {A = ℕ} 1024 0)
+slice-aggregate-read c = search needs
 
 slice-aggregate-read-2 : tie.Need-slice-aggregate-read-2
-slice-aggregate-read-2 c = sym (length-replicate {A = ℕ} 129024 0)
+slice-aggregate-read-2 c = search needs
 
 slice-aggregate-read-3 : tie.Need-slice-aggregate-read-3
-slice-aggregate-read-3 c = sym (length-replicate {A = ℕ} 258048 0)
+slice-aggregate-read-3 c = search needs
 
 slice-aggregate-read-4 : tie.Need-slice-aggregate-read-4
-slice-aggregate-read-4 c = sym (length-replicate {A = ℕ} 2048 0)
+slice-aggregate-read-4 c = search needs
 
 read-requires : tie.Need-read-requires
-read-requires c κs =
-    record {
-      tables =
-          record {
-            durations-long = length-replicate {A = ℕ} 1024 0;
-            resources-long = length-replicate {A = ℕ} 129024 0;
-            groups-long = length-replicate {A = ℕ} 258048 0;
-          };
-      list-long = length-replicate {A = ℕ} 2048 0;
-    }
+read-requires c κs = search needs
 
 enum-known-f : tie.Need-enum-known-f
 enum-known-f c = search needs
-
-enum-told : tie.Need-enum-told
-enum-told c = search needs
-
-refusal-of-file-requires : tie.Need-refusal-of-file-requires
-refusal-of-file-requires c κs = search needs
-
-returns : tie.Need-returns
-returns c =
-    let r = c .before .before .before .before .before .before .before .read in
-    score-file _ (r .last .1 .0) (r .last .1 .1 .0) (r .last .1 .1 .1 .0) _ (r .ensures) (c .before .enum-told .given .1) (c .refusal-of-file .ensures) _
 
 slice-aggregate-score-read : tie.Need-slice-aggregate-score-read
 slice-aggregate-score-read c = search needs
@@ -60,29 +49,38 @@ slice-aggregate-score-read-4 c = search needs
 
 score-read-requires : tie.Need-score-read-requires
 score-read-requires c κs =
-    let r = c .before .before .before .before .before .before .before .before .before .before .before .read in
-    let k = r .kept .1 in
-    (accepted _ (r .last .1 .0) (r .last .1 .1 .0) (r .last .1 .1 .1 .0) _ (rw (c .before .before .before .before .before .f .given .1) at (r .ensures)), record { tables = record { durations-long = k .0; resources-long = k .1 .0; groups-long = k .1 .1 .0 }; list-long = k .1 .1 .1 .0 })
+    let m = c .before .before .before .before .before in
+    let r = m .before .before .before .before .before .before .read in
+    (accepted _ (r .last .1 .0) (r .last .1 .1 .0) (r .last .1 .1 .1 .0) _ (rw (m .f .given .1) at (r .ensures)), search needs)
+
+enum-known-f-2 : tie.Need-enum-known-f-2
+enum-known-f-2 c = search needs
+
+returns : tie.Need-returns
+returns c = search needs
 
 returns-2 : tie.Need-returns-2
-returns-2 c = search needs
+returns-2 c = score-file _ _ (rw (c .before .f2 .given .1) at (c .before .before .before .before .before .before .before .read .ensures)) _
 
 pub score-spec : {M : Type 1} → statement M
 score-spec =
     tie.close
     (tie.spec
+    durations-requires
+    resource-rows-requires
+    group-rows-requires
+    list-requires
     slice-aggregate-read
     slice-aggregate-read-2
     slice-aggregate-read-3
     slice-aggregate-read-4
     read-requires
     enum-known-f
-    enum-told
-    refusal-of-file-requires
-    returns
     slice-aggregate-score-read
     slice-aggregate-score-read-2
     slice-aggregate-score-read-3
     slice-aggregate-score-read-4
     score-read-requires
+    enum-known-f-2
+    returns
     returns-2)
