@@ -63,7 +63,7 @@ fn write_tail(
 }
 
 // One soft unit, by mode.
-pub fn write_soft(
+fn write_soft(
     job: Job,
     model: &[u8],
     text: &mut [u8],

@@ -1,6 +1,6 @@
 use borrow.Author.Needs.{needs}
-use Rattle.sink.proofs.judge.holds_after.Statement.{statement}
-use Rattle.sink.proofs.judge.holds_after.Tie as tie
+use Rattle.sink.proofs.judge_block.holds_after.Statement.{statement}
+use Rattle.sink.proofs.judge_block.holds_after.Tie as tie
 
 literal-true-requires : tie.Need-literal-true-requires
 literal-true-requires c κs = search needs

@@ -2,8 +2,8 @@ use Prim.Native.Nat.{_-_}
 use native.Mathlib.Omega.{arith}
 use borrow.Author.Tests.{leb-true}
 use Rattle.laws.specs.Booleans.{never-true}
-use Rattle.counters.proofs.cells.room.Statement.{statement}
-use Rattle.counters.proofs.cells.room.Tie as tie
+use Rattle.sink.proofs.room.Statement.{statement}
+use Rattle.sink.proofs.room.Tie as tie
 
 returns : tie.Need-returns
 returns c = λ e. omega (arith, leb-true (c .before .args .n) (c .before .args .len - c .before .args .at) e)

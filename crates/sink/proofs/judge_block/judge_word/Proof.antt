@@ -1,7 +1,7 @@
 use Rattle.sink.proofs.Truth.{word-open, word-last}
 use borrow.Author.Needs.{needs}
-use Rattle.sink.proofs.judge.judge_word.Statement.{statement}
-use Rattle.sink.proofs.judge.judge_word.Tie as tie
+use Rattle.sink.proofs.judge_block.judge_word.Statement.{statement}
+use Rattle.sink.proofs.judge_block.judge_word.Tie as tie
 
 holds-after-requires : tie.Need-holds-after-requires
 holds-after-requires c κs = search needs

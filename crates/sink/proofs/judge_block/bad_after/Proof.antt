@@ -1,6 +1,6 @@
 use borrow.Author.Tests.{eq-eqb, ne-eqb}
-use Rattle.sink.proofs.judge.bad_after.Statement.{statement}
-use Rattle.sink.proofs.judge.bad_after.Tie as tie
+use Rattle.sink.proofs.judge_block.bad_after.Statement.{statement}
+use Rattle.sink.proofs.judge_block.bad_after.Tie as tie
 
 returns : tie.Need-returns
 returns c = rw (eq-eqb _ 0 (c .before .if1 .taken), c .if2 .taken)

@@ -7,8 +7,8 @@ use lib.ListN.{length, drop}
 use Rattle.sink.specs.Block.{byWords}
 use Rattle.sink.specs.Parts.{judgeParts}
 use Rattle.sink.proofs.Turns.{Left, start, finish, judge-turn}
-use Rattle.sink.proofs.judge.judge_block.Statement.{statement}
-use Rattle.sink.proofs.judge.judge_block.Tie as tie
+use Rattle.sink.proofs.judge_block.judge_block.Statement.{statement}
+use Rattle.sink.proofs.judge_block.judge_block.Tie as tie
 
 abbrev Inv-loop : tie.InvT-loop
 Inv-loop model block at₀ bad₀ holds₀ i₀ i-end at bad holds i =
