@@ -45,13 +45,10 @@ fn tested_block(text: &mut [u8], at: usize, top: u64, block: &[u32]) -> usize
     p
 }
 
-// The hard lines of a block. One test of room is enough for all of it, where the weight has three to seven digits.
+// The hard lines of a block. One test of room is enough for all of it, where the weight has at most seven digits.
 pub fn text_block(text: &mut [u8], at: usize, top: u64, block: &[u32]) -> usize
     ensures { λ r. ⌜ out r (now (text .exit)) ≡ byWords (textParts top) true (now (block .entry)) (out at (now (text .entry))) ⌝ }
 {
-    if top < 100 {
-        return tested_block(text, at, top, block);
-    }
     if 10000000 <= top {
         return tested_block(text, at, top, block);
     }

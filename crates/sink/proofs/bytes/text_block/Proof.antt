@@ -28,6 +28,9 @@ same-length-2 c = search needs
 returns-2 : tie.Need-returns-2
 returns-2 c = c .before .before .tested-block2 .ensures
 
+sub-if3 : tie.Need-sub-if3
+sub-if3 c = search needs
+
 tested-block-requires-3 : tie.Need-tested-block-requires-3
 tested-block-requires-3 c κs = search needs
 
@@ -36,18 +39,6 @@ same-length-3 c = search needs
 
 returns-3 : tie.Need-returns-3
 returns-3 c = c .before .before .tested-block3 .ensures
-
-sub-if4 : tie.Need-sub-if4
-sub-if4 c = search needs
-
-tested-block-requires-4 : tie.Need-tested-block-requires-4
-tested-block-requires-4 c κs = search needs
-
-same-length-4 : tie.Need-same-length-4
-same-length-4 c = search needs
-
-returns-4 : tie.Need-returns-4
-returns-4 c = c .before .before .tested-block4 .ensures
 
 cast-spell : tie.Need-cast-spell
 cast-spell c = search needs
@@ -58,12 +49,12 @@ spell-requires c κs = search needs
 roomy-block-requires : tie.Need-roomy-block-requires
 roomy-block-requires c κs = (spelt-own (c .spell .ensures), omega arith)
 
-same-length-5 : tie.Need-same-length-5
-same-length-5 c = search needs
+same-length-4 : tie.Need-same-length-4
+same-length-4 c = search needs
 
-returns-5 : tie.Need-returns-5
-returns-5 c =
-    let a = c .before .before .before .before .before .before .before .before .before .before .before .args in
+returns-4 : tie.Need-returns-4
+returns-4 c =
+    let a = c .before .before .before .before .before .before .before .before .before .before .args in
     c .before .before .roomy-block .ensures
     ∙ ap (λ (v : ℕ). byWords (textParts v) true (a .block .now) (out (a .at) (a .text .now))) (c .before .before .before .spell .ensures .value)
 
@@ -77,15 +68,12 @@ text-block-spec =
     tested-block-requires-2
     same-length-2
     returns-2
+    sub-if3
     tested-block-requires-3
     same-length-3
     returns-3
-    sub-if4
-    tested-block-requires-4
-    same-length-4
-    returns-4
     cast-spell
     spell-requires
     roomy-block-requires
-    same-length-5
-    returns-5)
+    same-length-4
+    returns-4)
