@@ -55,13 +55,10 @@ fn tested_block(text: &mut [u8], at: usize, top: u64, block: &[u32]) -> usize
     p
 }
 
-// Whether one test of room is enough for n words: the weight has three to seven digits, and from a place on there is room for all.
+// Whether one test of room is enough for n words: the weight has at most seven digits, and from a place on there is room for all.
 fn roomy(at: usize, len: usize, top: u64, n: usize) -> bool
-    ensures { λ r. ⌜ (r ≡ true → (100 ≤ top) × (top < 10000000) × (at + 22 * n ≤ len)) ⌝ }
+    ensures { λ r. ⌜ (r ≡ true → (top < 10000000) × (at + 22 * n ≤ len)) ⌝ }
 {
-    if top < 100 {
-        return false;
-    }
     if 10000000 <= top {
         return false;
     }

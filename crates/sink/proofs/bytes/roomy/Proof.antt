@@ -12,12 +12,9 @@ returns-2 : tie.Need-returns-2
 returns-2 c = λ e. never-true e
 
 returns-3 : tie.Need-returns-3
-returns-3 c = λ e. never-true e
-
-returns-4 : tie.Need-returns-4
-returns-4 c = λ e.
-    let a = c .before .before .before .args in
-    (omega arith, omega arith, omega (arith, leb-true (a .n) ((a .len - a .at) / 22) e))
+returns-3 c = λ e.
+    let a = c .before .before .args in
+    (omega arith, omega (arith, leb-true (a .n) ((a .len - a .at) / 22) e))
 
 pub roomy-spec : {M : Type 1} → statement M
-roomy-spec = tie.close (tie.spec returns returns-2 returns-3 returns-4)
+roomy-spec = tie.close (tie.spec returns returns-2 returns-3)

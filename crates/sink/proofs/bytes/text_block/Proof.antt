@@ -14,15 +14,13 @@ roomy-requires : tie.Need-roomy-requires
 roomy-requires c κs = search needs
 
 cast-spell : tie.Need-cast-spell
-cast-spell c = omega (arith, c .before .before .roomy .ensures (c .before .if1 .taken) .1)
+cast-spell c = omega (arith, c .before .before .roomy .ensures (c .before .if1 .taken) .0)
 
 spell-requires : tie.Need-spell-requires
-spell-requires c κs =
-    let h = c .before .before .roomy .ensures (c .before .if1 .taken) in
-    (h .0, h .1)
+spell-requires c κs = c .before .before .roomy .ensures (c .before .if1 .taken) .0
 
 roomy-block-requires : tie.Need-roomy-block-requires
-roomy-block-requires c κs = (spelt-own (c .spell .ensures), c .before .before .before .roomy .ensures (c .before .before .if1 .taken) .2)
+roomy-block-requires c κs = (spelt-own (c .spell .ensures), c .before .before .before .roomy .ensures (c .before .before .if1 .taken) .1)
 
 same-length : tie.Need-same-length
 same-length c = search needs
