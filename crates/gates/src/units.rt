@@ -47,7 +47,7 @@ fn write_tail(
         text,
         words,
         s,
-        counters::opposite(l),
+        row_words::opposite(l),
         weight,
         prev,
         first,
