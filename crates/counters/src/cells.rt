@@ -21,9 +21,10 @@ use row_words::row_words;
 use sink::Job;
 use sink::Mode;
 use sink::Sink;
+use sink::room;
 
 // One cell of a counter.
-pub fn write_cell(
+fn write_cell(
     job: Job,
     model: &[u8],
     text: &mut [u8],
@@ -66,16 +67,6 @@ fn write_cells(
         z = write_cell(job, model, text, words, z, x, w, prev, first, j);
     }
     z
-}
-
-// Whether n bytes or words from a place on are within an output's length.
-fn room(at: usize, n: usize, len: usize) -> bool
-    ensures { λ r. ⌜ (r ≡ true → at + n ≤ len) ⌝ }
-{
-    if at <= len {
-        return n <= len - at;
-    }
-    false
 }
 
 // One row of a counter: the row at first over the row at prev, for a literal of a weight. Each mode has a short way for a whole

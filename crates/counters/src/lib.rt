@@ -1,4 +1,2 @@
 // Counters: their cells and rows as clauses, by mode.
 pub mod cells;
-
-pub use row_words::opposite;

@@ -29,7 +29,7 @@ fn bound_literal(high: bool, q: u32, j: u32) -> u32
 {
     let l = column(q, j);
     if high {
-        return counters::opposite(l);
+        return row_words::opposite(l);
     }
     l
 }

@@ -9,6 +9,7 @@ use lib.Seq.{drop-at}
 use Rattle.scope.specs.Text.{digits, decimal, space}
 use Rattle.digits.proofs.laws.Decimal.{digits-some, digits-small, digits-more}
 use Rattle.digits.specs.Spelled.{fourBytes, Spelt}
+use Rattle.digits.proofs.Spelling.{all-four, first-four}
 use Rattle.digits.specs.declared.spelled.Spelled.{Spelled}
 
 -- a number from 10 ^ k on has more than k digits
@@ -91,7 +92,7 @@ module _ {n : Spelled} (s : Spelt (n .value) n) (h : 1000 ≤ n .value) where
 
   back-now : fourBytes (n .last) ≡ back (n .value) (n .value % 10)
   back-now =
-      s .last ∙ ap (drop (n .len - 4)) (in-two (n .value) h)
+      s .last (omega (arith, long)) ∙ ap (drop (n .len - 4)) (in-two (n .value) h)
       ∙ drop-at (front (n .value)) (back (n .value) (n .value % 10)) (n .len - 4) (omega (arith, long))
 
   -- the last digit by its byte, and room for one more
@@ -114,8 +115,8 @@ module _ {n : Spelled} (s : Spelt (n .value) n) (h : 1000 ≤ n .value) where
           size = long ∙ sym (ap length e ∙ front-length (n .value) (n .value % 10 + 1));
           least = s .least;
           most = s .most;
-          first = q ∙ ap (take 4) (sym e);
-          last =
+          first = all-four (n .len) f (omega (arith, long)) ∙ q ∙ ap (take 4) (sym e);
+          last = λ _.
               l ∙ sym (drop-at (front (n .value)) (back (n .value) (n .value % 10 + 1)) (n .len - 4) (omega (arith, long)))
               ∙ ap (drop (n .len - 4)) (sym e);
         }
@@ -123,7 +124,7 @@ module _ {n : Spelled} (s : Spelt (n .value) n) (h : 1000 ≤ n .value) where
     pub next-long : 10000 ≤ n .value → Spelt (n .value + 1) (record { value = n .value + 1; first = n .first; last = n .last + 65536; len = n .len })
     next-long k =
         let f : 1 < length (front (n .value)) = digits-least 1 16 (n .value / 10 / 10 / 10) (omega arith) (omega arith) in
-        next-spelt (n .first) (s .first ∙ ap (take 4) (in-two (n .value) h) ∙ early (front (n .value)) _ _ _ _ _ f)
+        next-spelt (n .first) (first-four s (omega (arith, long)) ∙ ap (take 4) (in-two (n .value) h) ∙ early (front (n .value)) _ _ _ _ _ f)
 
     -- a number of four digits
     module _ (k : n .value < 10000) where
@@ -131,7 +132,7 @@ module _ {n : Spelled} (s : Spelt (n .value) n) (h : 1000 ≤ n .value) where
       one-front = digits-small 16 (n .value / 10 / 10 / 10) (omega arith)
 
       four-now : fourBytes (n .first) ≡ (48 + n .value / 10 / 10 / 10 % 10) ∷ (48 + n .value / 10 / 10 % 10) ∷ (48 + n .value / 10 % 10) ∷ (48 + n .value % 10) ∷ []
-      four-now = s .first ∙ ap (take 4) (in-two (n .value) h ∙ ap (λ (xs : List ℕ). xs ++ back (n .value) (n .value % 10)) one-front)
+      four-now = first-four s (omega (arith, long)) ∙ ap (take 4) (in-two (n .value) h ∙ ap (λ (xs : List ℕ). xs ++ back (n .value) (n .value % 10)) one-front)
 
       pub next-four : Spelt (n .value + 1) (record { value = n .value + 1; first = n .first + 16777216; last = n .last + 65536; len = n .len })
       next-four =

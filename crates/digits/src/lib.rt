@@ -142,10 +142,8 @@ pub fn fast_literal(text: &mut [u8], at: usize, l: u32) -> usize
     ensures { λ r. ⌜ r ≤ at + 12 ⌝ }
 {
     let v = l / 2;
-    if 100 <= v {
-        if v < 10000000 {
-            return put_spelled_literal(text, at, l, spell(v));
-        }
+    if v < 10000000 {
+        return put_spelled_literal(text, at, l, spell(v));
     }
     text[at] = 45;
     let a = at + (l % 2) as usize;

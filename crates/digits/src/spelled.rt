@@ -1,4 +1,4 @@
-// Numbers of three to seven digits, turned into bytes once and stored as often as they are wanted.
+// Numbers of up to seven digits, turned into bytes once and stored as often as they are wanted.
 ghost use mathlib.Core.Path.{_≡_};
 ghost use mathlib.Core.List.{[], _∷_, _++_};
 ghost use Prim.Native.Nat.{_+_, _/_, _≤_, _<_};
@@ -11,7 +11,7 @@ ghost use Rattle.digits.specs.Decimal.{lastDigits};
 ghost use Rattle.digits.specs.Spelled.{fourBytes, Spelt};
 
 // A number, and its digits with a space after them: their first four bytes and their last four, which may be some of the
-// first, the lowest byte of each first, and how many they are.
+// first, the lowest byte of each first, and how many they are. Where they are two or three, all stand in the first.
 pub struct Spelled {
     pub value: u32,
     pub first: u32,
@@ -36,11 +36,37 @@ fn four_digits(u: u32) -> u32
     four(48 + high / 10, 48 + high % 10, 48 + low / 10, 48 + low % 10)
 }
 
-// A number's bytes.
-pub fn spell(v: u32) -> Spelled
-    requires { ⌜ (100 ≤ v) × (v < 10000000) ⌝ }
+// The bytes of a number of one or two digits.
+fn spell_short(v: u32) -> Spelled
+    requires { ⌜ v < 100 ⌝ }
     ensures { λ r. ⌜ Spelt v r ⌝ }
 {
+    if v < 10 {
+        let first = four(48 + v, 32, 0, 0);
+        return Spelled {
+            value: v,
+            first,
+            last: 0,
+            len: 2,
+        };
+    }
+    let first = four(48 + v / 10, 48 + v % 10, 32, 0);
+    Spelled {
+        value: v,
+        first,
+        last: 0,
+        len: 3,
+    }
+}
+
+// A number's bytes.
+pub fn spell(v: u32) -> Spelled
+    requires { ⌜ v < 10000000 ⌝ }
+    ensures { λ r. ⌜ Spelt v r ⌝ }
+{
+    if v < 100 {
+        return spell_short(v);
+    }
     let low = v % 100;
     let last = four(48 + v / 100 % 10, 48 + low / 10, 48 + low % 10, 32);
     if v < 1000 {
@@ -86,7 +112,7 @@ pub fn spell(v: u32) -> Spelled
 // The number after one: mostly only its last digit is another. That digit stands in the third of the last four bytes, and in a
 // number of four digits in the fourth of the first four too.
 pub fn following(n: Spelled) -> Spelled
-    requires { ⌜ Spelt (n .value) n × (100 ≤ n .value) × (n .value + 1 < 10000000) ⌝ }
+    requires { ⌜ Spelt (n .value) n × (n .value + 1 < 10000000) ⌝ }
     ensures { λ r. ⌜ Spelt (n .value + 1) r ⌝ }
 {
     let value = n.value + 1;
@@ -124,12 +150,28 @@ fn put_four(text: &mut [u8], at: usize, b: u32)
     text[at + 3] = (b / 16777216 % 256) as u8;
 }
 
+// A number of one or two digits and a space.
+fn put_short(text: &mut [u8], at: usize, n: Spelled) -> usize
+    requires { ⌜ Spelt (n .value) n × (n .len < 4) × (at + 8 ≤ length (now text)) ⌝ }
+    ensures { λ r. ⌜ Ran put (decimal (n .value) ++ space) (out at (now (text .entry))) (out r (now (text .exit))) ⌝ }
+    ensures { λ r. ⌜ r ≤ at + 8 ⌝ }
+{
+    text[at] = (n.first % 256) as u8;
+    text[at + 1] = (n.first / 256 % 256) as u8;
+    let end = at + n.len;
+    text[end - 1] = 32;
+    end
+}
+
 // A number and a space, where there is room.
 pub fn put_spelled(text: &mut [u8], at: usize, n: Spelled) -> usize
     requires { ⌜ Spelt (n .value) n × (at + 8 ≤ length (now text)) ⌝ }
     ensures { λ r. ⌜ Ran put (decimal (n .value) ++ space) (out at (now (text .entry))) (out r (now (text .exit))) ⌝ }
     ensures { λ r. ⌜ r ≤ at + 8 ⌝ }
 {
+    if n.len < 4 {
+        return put_short(text, at, n);
+    }
     put_four(text, at, n.first);
     let end = at + n.len;
     put_four(text, end - 4, n.last);

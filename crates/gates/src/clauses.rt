@@ -37,9 +37,9 @@ pub fn write_short(
         &[
             c1,
             no,
-            counters::opposite(cj),
+            row_words::opposite(cj),
             no,
-            counters::opposite(c1),
+            row_words::opposite(c1),
             cj,
             yes,
         ],

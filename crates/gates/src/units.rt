@@ -47,7 +47,7 @@ fn write_tail(
         text,
         words,
         s,
-        counters::opposite(l),
+        row_words::opposite(l),
         weight,
         prev,
         first,
@@ -63,7 +63,7 @@ fn write_tail(
 }
 
 // One soft unit, by mode.
-pub fn write_soft(
+fn write_soft(
     job: Job,
     model: &[u8],
     text: &mut [u8],

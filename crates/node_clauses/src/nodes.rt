@@ -22,7 +22,7 @@ fn pair_words(block: &mut [u32], lits: &[u32], last: u32)
 {
     for i in 0..lits.len() {
         let at = 2 * i;
-        block[at] = counters::opposite(lits[i]);
+        block[at] = row_words::opposite(lits[i]);
         block[at + 1] = last;
     }
 }
@@ -77,7 +77,7 @@ pub fn write_node(
             return sink::passed(s, n + 1);
         }
     }
-    let last = counters::opposite(q) + LAST;
+    let last = row_words::opposite(q) + LAST;
     let z = write_pairs(job, model, text, words, s, &clause[..n], last);
     sink::emit(job, model, text, words, z, clause)
 }

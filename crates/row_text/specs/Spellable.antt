@@ -1,9 +1,9 @@
--- Rows whose numbers have three to seven digits.
+-- Rows whose numbers have at most seven digits.
 use Prim.Native.Nat.{ℕ, _+_, _/_, _≤_}
 
--- the n numbers from v on have three to seven digits
+-- the n numbers from v on are not 0 and have at most seven digits
 pub record Short (v n : ℕ) : Type 0 where
-  pub least : 100 ≤ v
+  pub least : 1 ≤ v
   pub most : v + n ≤ 10000000
 
 -- the weight of hard lines, a row's literal, its variables and those of the row above

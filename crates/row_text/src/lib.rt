@@ -1,4 +1,4 @@
-// Rows as text, where every number has three to seven digits: each is turned into bytes once, and there is room for all.
+// Rows as text, where every number has at most seven digits: each is turned into bytes once, and there is room for all.
 ghost use mathlib.Core.Path.{_≡_};
 ghost use mathlib.Core.Bool.{true};
 ghost use Prim.Native.Nat.{_+_, _*_, _/_, _≤_, _<_};
@@ -17,11 +17,11 @@ use digits::spelled::spell;
 use sink::lines::pair_line;
 use sink::lines::triple_line;
 
-// Whether the n numbers from v on have three to seven digits.
+// Whether the n numbers from v on are not 0 and have at most seven digits.
 fn short(v: u64, n: u64) -> bool
     ensures { λ r. ⌜ (r ≡ true → Short v n) ⌝ }
 {
-    if v < 100 {
+    if v == 0 {
         return false;
     }
     if 10000000 < v {

@@ -3,7 +3,10 @@ use crate::roomy::roomy_block;
 use digits::spelled::spell;
 ghost use mathlib.Core.Path.{_≡_};
 ghost use mathlib.Core.Bool.{true};
-ghost use Rattle.sink.specs.Run.{out};
+ghost use mathlib.Core.List.{_∷_};
+ghost use Prim.Native.Nat.{_+_, _*_, _≤_, _<_};
+ghost use Rattle.scope.specs.Text.{newline};
+ghost use Rattle.sink.specs.Run.{Ran, out, put};
 ghost use Rattle.sink.specs.Block.{opened, byWord, byWords};
 ghost use Rattle.sink.specs.Parts.{textParts, sizeParts};
 
@@ -18,17 +21,24 @@ fn open_line(text: &mut [u8], at: usize, top: u64, first: bool) -> usize
     at
 }
 
+// What ends a line.
+fn close_line(text: &mut [u8], at: usize) -> usize
+    ensures { λ r. ⌜ Ran put (48 ∷ newline) (out at (now (text .entry))) (out r (now (text .exit))) ⌝ }
+{
+    let a = digits::put_byte(text, at, 48);
+    digits::put_byte(text, a, 10)
+}
+
 // A word of a block in the text: what starts its line, its literal, and what ends its line.
 fn word_text(text: &mut [u8], at: usize, top: u64, first: bool, w: u32) -> usize
     ensures { λ r. ⌜ out r (now (text .exit)) ≡ byWord (textParts top) first w (out at (now (text .entry))) ⌝ }
 {
     let a = open_line(text, at, top, first);
+    let b = digits::write_literal(text, a, w % 2147483648);
     if w < 2147483648 {
-        return digits::write_literal(text, a, w);
+        return b;
     }
-    let b = digits::write_literal(text, a, w - 2147483648);
-    let c = digits::put_byte(text, b, 48);
-    digits::put_byte(text, c, 10)
+    close_line(text, b)
 }
 
 // The hard lines of a block, with a test of room for each number.
@@ -45,23 +55,27 @@ fn tested_block(text: &mut [u8], at: usize, top: u64, block: &[u32]) -> usize
     p
 }
 
-// The hard lines of a block. One test of room is enough for all of it, where the weight has three to seven digits.
+// Whether one test of room is enough for n words: the weight has at most seven digits, and from a place on there is room for all.
+fn roomy(at: usize, len: usize, top: u64, n: usize) -> bool
+    ensures { λ r. ⌜ (r ≡ true → (top < 10000000) × (at + 22 * n ≤ len)) ⌝ }
+{
+    if 10000000 <= top {
+        return false;
+    }
+    if len < at {
+        return false;
+    }
+    n <= (len - at) / 22
+}
+
+// The hard lines of a block.
 pub fn text_block(text: &mut [u8], at: usize, top: u64, block: &[u32]) -> usize
     ensures { λ r. ⌜ out r (now (text .exit)) ≡ byWords (textParts top) true (now (block .entry)) (out at (now (text .entry))) ⌝ }
 {
-    if top < 100 {
-        return tested_block(text, at, top, block);
+    if roomy(at, text.len(), top, block.len()) {
+        return roomy_block(text, at, spell(top as u32), block);
     }
-    if 10000000 <= top {
-        return tested_block(text, at, top, block);
-    }
-    if text.len() < at {
-        return tested_block(text, at, top, block);
-    }
-    if (text.len() - at) / 22 < block.len() {
-        return tested_block(text, at, top, block);
-    }
-    roomy_block(text, at, spell(top as u32), block)
+    tested_block(text, at, top, block)
 }
 
 // A word's length in the text, for lines that have so many bytes beside their literals.

@@ -1,7 +1,8 @@
 // What happens with a block of clauses, by mode.
 ghost use mathlib.Core.Path.{_≡_};
 ghost use mathlib.Core.List.{map};
-ghost use Prim.Native.Nat.{min};
+ghost use mathlib.Core.Bool.{true};
+ghost use Prim.Native.Nat.{_+_, _≤_, min};
 ghost use Rattle.sink.specs.Run.{Ran};
 ghost use Rattle.sink.specs.Lines.{clauseLine};
 ghost use Rattle.sink.specs.Block.{split, Whole};
@@ -10,11 +11,12 @@ ghost use Rattle.sink.specs.Lend.{partBase};
 ghost use Rattle.sink.specs.AllTrue.{counted, evaluating};
 ghost use Rattle.sink.specs.Skipped.{skipping};
 
-pub mod bytes;
+mod bytes;
 pub mod judge;
+mod judge_block;
 pub mod lines;
 mod roomy;
-pub mod store;
+mod store;
 
 // What a run over the formula is for: the text's length; its hard lines; its soft lines; the hard clauses as words; a model's
 // lowest false clause and falsified weight; the tail's rows as words.
@@ -55,15 +57,10 @@ pub struct Judgement {
 pub fn part_base(job: Job, s: Sink) -> usize
     ensures { λ r. ⌜ r ≡ partBase (job .mode) (s .at) ⌝ }
 {
-    let mode = job.mode;
-    match mode {
-        Mode::Measure => s.at,
-        Mode::Text => s.at,
-        Mode::SoftText => s.at,
-        Mode::Words => s.at,
-        Mode::Evaluate => 0,
-        Mode::Tail => s.at,
+    if evaluates(job) {
+        return 0;
     }
+    s.at
 }
 
 // The lesser of two numbers.
@@ -74,6 +71,16 @@ pub fn lesser(a: usize, b: usize) -> usize
         return a;
     }
     b
+}
+
+// Whether n bytes or words from a place on are within an output's length.
+pub fn room(at: usize, n: usize, len: usize) -> bool
+    ensures { λ r. ⌜ (r ≡ true → at + n ≤ len) ⌝ }
+{
+    if at <= len {
+        return n <= len - at;
+    }
+    false
 }
 
 // The sink at another position.
@@ -159,7 +166,7 @@ pub fn emit(
             placed(s, at)
         }
         Mode::Evaluate => {
-            let j = judge::judge_block(
+            let j = judge_block::judge_block(
                 model,
                 Judgement {
                     at: s.at,

@@ -5,6 +5,7 @@ ghost use Prim.Native.Nat.{_+_, _≤_};
 ghost use lib.ListN.{length};
 ghost use lib.Seq.{sets};
 ghost use Rattle.sink.specs.Run.{Ran, out, put};
+use super::room;
 
 // One word, where there is room; the position counts it either way.
 fn put_word(words: &mut [u32], at: usize, w: u32) -> usize
@@ -42,11 +43,9 @@ fn copy_words(words: &mut [u32], at: usize, block: &[u32])
 pub fn words_block(words: &mut [u32], at: usize, block: &[u32]) -> usize
     ensures { λ r. ⌜ Ran put (now (block .entry)) (out at (now (words .entry))) (out r (now (words .exit))) ⌝ }
 {
-    if at <= words.len() {
-        if block.len() <= words.len() - at {
-            copy_words(words, at, block);
-            return at + block.len();
-        }
+    if room(at, block.len(), words.len()) {
+        copy_words(words, at, block);
+        return at + block.len();
     }
     put_words(words, at, block)
 }

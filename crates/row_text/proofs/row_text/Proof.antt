@@ -22,16 +22,16 @@ abbrev μ-loop : tie.MeasureT-loop
 μ-loop text₀ at top x prev first cols weight number before₀ below₀ p₀ j₀ text before below p j = cols - j
 
 spell-requires : tie.Need-spell-requires Inv-loop μ-loop
-spell-requires c κs = let s = c .before .pre .0 .weight in (s .least, omega (arith, s .most))
+spell-requires c κs = omega (arith, c .before .pre .0 .weight .most)
 
 spell-requires-2 : tie.Need-spell-requires-2 Inv-loop μ-loop
-spell-requires-2 c κs = let s = c .before .before .pre .0 .literal in (s .least, omega (arith, s .most))
+spell-requires-2 c κs = omega (arith, c .before .before .pre .0 .literal .most)
 
 spell-requires-3 : tie.Need-spell-requires-3 Inv-loop μ-loop
-spell-requires-3 c κs = let s = c .before .before .before .pre .0 in (s .above .least, omega (arith, s .above .most, s .some))
+spell-requires-3 c κs = let s = c .before .before .before .pre .0 in omega (arith, s .above .most, s .some)
 
 spell-requires-4 : tie.Need-spell-requires-4 Inv-loop μ-loop
-spell-requires-4 c κs = let s = c .before .before .before .before .pre .0 in (s .row .least, omega (arith, s .row .most, s .some))
+spell-requires-4 c κs = let s = c .before .before .before .before .pre .0 in omega (arith, s .row .most, s .some)
 
 low-cell-requires : tie.Need-low-cell-requires Inv-loop μ-loop
 low-cell-requires c κs =
@@ -46,13 +46,13 @@ following-requires : tie.Need-following-requires Inv-loop μ-loop
 following-requires c κs =
     let l = c .before .loop in
     let s = c .before .before .before .before .before .before .before .before .before .before .before .pre .0 .above in
-    (spelt-own (l .inv .4), omega (arith, s .least, l .inv .4 .value), omega (arith, s .most, l .inv .4 .value, c .loop-test .taken, l .inv .0))
+    (spelt-own (l .inv .4), omega (arith, s .most, l .inv .4 .value, c .loop-test .taken, l .inv .0))
 
 following-requires-2 : tie.Need-following-requires-2 Inv-loop μ-loop
 following-requires-2 c κs =
     let l = c .before .before .loop in
     let s = c .before .before .before .before .before .before .before .before .before .before .before .before .pre .0 .row in
-    (spelt-own (l .inv .5), omega (arith, s .least, l .inv .5 .value), omega (arith, s .most, l .inv .5 .value, c .before .loop-test .taken, l .inv .0))
+    (spelt-own (l .inv .5), omega (arith, s .most, l .inv .5 .value, c .before .loop-test .taken, l .inv .0))
 
 full-cell-requires : tie.Need-full-cell-requires Inv-loop μ-loop
 full-cell-requires c κs =

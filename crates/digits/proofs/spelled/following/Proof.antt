@@ -26,19 +26,19 @@ add-t7 : tie.Need-add-t7
 add-t7 c =
     let p = c .before .before .before .before .before .before .before .before .before .pre in
     let d = last-digit (p .0) (omega arith) in
-    omega (arith, first-byte (p .0) (omega arith) (p .2) (omega (arith, d)) (omega arith))
+    omega (arith, first-byte (p .0) (omega arith) (p .1) (omega (arith, d)) (omega arith))
 
 returns-3 : tie.Need-returns-3
 returns-3 c =
     let p = c .before .before .before .before .before .before .before .before .before .pre in
     let d = last-digit (p .0) (omega arith) in
-    next-four (p .0) (omega arith) (p .2) (omega (arith, d)) (omega arith)
+    next-four (p .0) (omega arith) (p .1) (omega (arith, d)) (omega arith)
 
 returns-4 : tie.Need-returns-4
 returns-4 c =
     let p = c .before .before .before .before .before .before .before .before .pre in
     let d = last-digit (p .0) (omega arith) in
-    next-long (p .0) (omega arith) (p .2) (omega (arith, d)) (omega arith)
+    next-long (p .0) (omega arith) (p .1) (omega (arith, d)) (omega arith)
 
 pub following-spec : {M : Type 1} → statement M
 following-spec =

@@ -10,82 +10,46 @@ use borrow.Author.Needs.{needs}
 use Rattle.sink.proofs.bytes.text_block.Statement.{statement}
 use Rattle.sink.proofs.bytes.text_block.Tie as tie
 
-tested-block-requires : tie.Need-tested-block-requires
-tested-block-requires c κs = search needs
+roomy-requires : tie.Need-roomy-requires
+roomy-requires c κs = search needs
+
+cast-spell : tie.Need-cast-spell
+cast-spell c = omega (arith, c .before .before .roomy .ensures (c .before .if1 .taken) .0)
+
+spell-requires : tie.Need-spell-requires
+spell-requires c κs = c .before .before .roomy .ensures (c .before .if1 .taken) .0
+
+roomy-block-requires : tie.Need-roomy-block-requires
+roomy-block-requires c κs = (spelt-own (c .spell .ensures), c .before .before .before .roomy .ensures (c .before .before .if1 .taken) .1)
 
 same-length : tie.Need-same-length
 same-length c = search needs
 
 returns : tie.Need-returns
-returns c = c .before .before .tested-block .ensures
+returns c =
+    let a = c .before .before .before .before .before .before .before .before .before .args in
+    c .before .before .roomy-block .ensures
+    ∙ ap (λ (v : ℕ). byWords (textParts v) true (a .block .now) (out (a .at) (a .text .now))) (c .before .before .before .spell .ensures .value)
 
-tested-block-requires-2 : tie.Need-tested-block-requires-2
-tested-block-requires-2 c κs = search needs
+tested-block-requires : tie.Need-tested-block-requires
+tested-block-requires c κs = search needs
 
 same-length-2 : tie.Need-same-length-2
 same-length-2 c = search needs
 
 returns-2 : tie.Need-returns-2
-returns-2 c = c .before .before .tested-block2 .ensures
-
-tested-block-requires-3 : tie.Need-tested-block-requires-3
-tested-block-requires-3 c κs = search needs
-
-same-length-3 : tie.Need-same-length-3
-same-length-3 c = search needs
-
-returns-3 : tie.Need-returns-3
-returns-3 c = c .before .before .tested-block3 .ensures
-
-sub-if4 : tie.Need-sub-if4
-sub-if4 c = search needs
-
-tested-block-requires-4 : tie.Need-tested-block-requires-4
-tested-block-requires-4 c κs = search needs
-
-same-length-4 : tie.Need-same-length-4
-same-length-4 c = search needs
-
-returns-4 : tie.Need-returns-4
-returns-4 c = c .before .before .tested-block4 .ensures
-
-cast-spell : tie.Need-cast-spell
-cast-spell c = search needs
-
-spell-requires : tie.Need-spell-requires
-spell-requires c κs = search needs
-
-roomy-block-requires : tie.Need-roomy-block-requires
-roomy-block-requires c κs = (spelt-own (c .spell .ensures), omega arith)
-
-same-length-5 : tie.Need-same-length-5
-same-length-5 c = search needs
-
-returns-5 : tie.Need-returns-5
-returns-5 c =
-    let a = c .before .before .before .before .before .before .before .before .before .before .before .args in
-    c .before .before .roomy-block .ensures
-    ∙ ap (λ (v : ℕ). byWords (textParts v) true (a .block .now) (out (a .at) (a .text .now))) (c .before .before .before .spell .ensures .value)
+returns-2 c = c .before .before .tested-block .ensures
 
 pub text-block-spec : {M : Type 1} → statement M
 text-block-spec =
     tie.close
     (tie.spec
-    tested-block-requires
-    same-length
-    returns
-    tested-block-requires-2
-    same-length-2
-    returns-2
-    tested-block-requires-3
-    same-length-3
-    returns-3
-    sub-if4
-    tested-block-requires-4
-    same-length-4
-    returns-4
+    roomy-requires
     cast-spell
     spell-requires
     roomy-block-requires
-    same-length-5
-    returns-5)
+    same-length
+    returns
+    tested-block-requires
+    same-length-2
+    returns-2)

@@ -1,38 +1,22 @@
 use native.Mathlib.Omega.{arith}
-use Rattle.scope.specs.Text.{line}
-use mathlib.Core.List.{flatMap}
-use Rattle.sink.specs.Run.{none, then}
+use Rattle.sink.specs.Run.{then, same}
+use Rattle.sink.proofs.LineParts.{pair-parts}
 use borrow.Author.Needs.{needs}
 use Rattle.sink.proofs.lines.pair_line.Statement.{statement}
 use Rattle.sink.proofs.lines.pair_line.Tie as tie
 
-put-spelled-requires : tie.Need-put-spelled-requires
-put-spelled-requires c κs = search needs
+first-literal-requires : tie.Need-first-literal-requires
+first-literal-requires c κs = search needs
 
-put-spelled-literal-requires : tie.Need-put-spelled-literal-requires
-put-spelled-literal-requires c κs = search needs
-
-put-spelled-literal-requires-2 : tie.Need-put-spelled-literal-requires-2
-put-spelled-literal-requires-2 c κs = search needs
-
-end-line-requires : tie.Need-end-line-requires
-end-line-requires c κs = search needs
+last-literal-requires : tie.Need-last-literal-requires
+last-literal-requires c κs = search needs
 
 same-length : tie.Need-same-length
 same-length c = search needs
 
 returns : tie.Need-returns
-unfolding line flatMap
 returns c =
-    (then (then (c .before .before .before .before .before .before .before .before .before .before .before .before .before .before .put-spelled .ensures .0) (then (c .before .before .before .before .before .before .before .before .before .before .put-spelled-literal .ensures .0) (then (c .before .before .before .before .before .before .put-spelled-literal2 .ensures .0) none))) (c .before .before .end-line .ensures .0), omega arith)
+    (same (pair-parts _ _ _) (then (c .before .before .before .before .before .before .first-literal .ensures .0) (c .before .before .last-literal .ensures .0)), omega arith)
 
 pub pair-line-spec : {M : Type 1} → statement M
-pair-line-spec =
-    tie.close
-    (tie.spec
-    put-spelled-requires
-    put-spelled-literal-requires
-    put-spelled-literal-requires-2
-    end-line-requires
-    same-length
-    returns)
+pair-line-spec = tie.close (tie.spec first-literal-requires last-literal-requires same-length returns)

@@ -1,9 +1,6 @@
-use mathlib.Core.Path.{ap, _∙_}
-use mathlib.Core.List.{_∷_}
+use Rattle.sink.specs.Run.{out}
 use native.Mathlib.Omega.{arith}
-use borrow.Author.Tests.{lt-leb, le-leb}
-use Rattle.scope.specs.Text.{literalText, newline}
-use Rattle.sink.specs.Run.{run, put}
+use Rattle.sink.proofs.Words.{written-open, written-last}
 use borrow.Author.Needs.{needs}
 use Rattle.sink.proofs.roomy.roomy_word.Statement.{statement}
 use Rattle.sink.proofs.roomy.roomy_word.Tie as tie
@@ -19,10 +16,8 @@ same-length c = search needs
 
 returns : tie.Need-returns
 returns c =
-    (rw (lt-leb _ _ (c .before .before .before .before .if1 .taken)) (c .before .before .fast-literal .ensures .0 .eq ∙ ap (run put (literalText _)) (c .before .before .before .before .before .before .before .roomy-start .ensures .0)), omega arith)
-
-fast-literal-requires-2 : tie.Need-fast-literal-requires-2
-fast-literal-requires-2 c κs = search needs
+    let a = c .before .before .before .before .before .before .before .before .before .before .args in
+    (written-open (a .top .value) (a .first) (a .w) (out (a .at) (a .text .now)) (c .before .before .before .before .before .before .before .roomy-start .ensures .0) (c .before .before .before .fast-literal .ensures .0) (c .if1 .taken), omega arith)
 
 end-line-requires : tie.Need-end-line-requires
 end-line-requires c κs = search needs
@@ -31,12 +26,9 @@ same-length-2 : tie.Need-same-length-2
 same-length-2 c = search needs
 
 returns-2 : tie.Need-returns-2
-returns-2 c = (
-  rw (le-leb _ _ (c .before .before .before .before .before .before .before .before .if1 .left))
-      (c .before .before .end-line .ensures .0 .eq
-      ∙ ap (run put (48 ∷ newline)) (c .before .before .before .before .before .before .fast-literal2 .ensures .0 .eq ∙ ap (run put (literalText _)) (c .before .before .before .before .before .before .before .before .before .before .before .roomy-start .ensures .0))),
-  omega arith,
-)
+returns-2 c =
+    let a = c .before .before .before .before .before .before .before .before .before .before .before .before .before .before .args in
+    (written-last (a .top .value) (a .first) (a .w) (out (a .at) (a .text .now)) (c .before .before .before .before .before .before .before .before .before .before .before .roomy-start .ensures .0) (c .before .before .before .before .before .before .before .fast-literal .ensures .0) (c .before .before .end-line .ensures .0) (c .before .before .before .before .if1 .left) (search needs), omega arith)
 
 pub roomy-word-spec : {M : Type 1} → statement M
 roomy-word-spec =
@@ -46,7 +38,6 @@ roomy-word-spec =
     fast-literal-requires
     same-length
     returns
-    fast-literal-requires-2
     end-line-requires
     same-length-2
     returns-2)

@@ -5,20 +5,22 @@ use borrow.Author.Needs.{needs}
 use Rattle.sink.proofs.store.words_block.Statement.{statement}
 use Rattle.sink.proofs.store.words_block.Tie as tie
 
-sub-if2 : tie.Need-sub-if2
-sub-if2 c = search needs
+room-requires : tie.Need-room-requires
+room-requires c κs = search needs
 
 copy-words-requires : tie.Need-copy-words-requires
-copy-words-requires c κs = search needs
+copy-words-requires c κs = c .before .before .room .ensures (c .before .if1 .taken)
 
 add-result : tie.Need-add-result
-add-result c = search needs
+add-result c = omega (arith, c .before .before .before .before .before .room .ensures (c .before .before .before .before .if1 .taken))
 
 same-length : tie.Need-same-length
 same-length c = search needs
 
 returns : tie.Need-returns
-returns c = rw (c .before .before .copy-words .ensures) (ran-sets _ _ _ _ (omega arith) refl)
+returns c =
+    rw (c .before .before .copy-words .ensures)
+    (ran-sets _ _ _ _ (omega (arith, c .before .before .before .before .before .room .ensures (c .before .before .before .before .if1 .taken))) refl)
 
 put-words-requires : tie.Need-put-words-requires
 put-words-requires c κs = search needs
@@ -33,7 +35,7 @@ pub words-block-spec : {M : Type 1} → statement M
 words-block-spec =
     tie.close
     (tie.spec
-    sub-if2
+    room-requires
     copy-words-requires
     add-result
     same-length
