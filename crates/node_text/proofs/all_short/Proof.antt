@@ -3,10 +3,10 @@ use Prim.Native.Nat.{ℕ, _+_, _-_, _≤_, _<_}
 use native.Mathlib.Omega.{arith}
 use lib.ListN.{length, getD}
 use Rattle.laws.specs.Booleans.{never-true}
-use Rattle.pair_text.proofs.PairLines.{one-more}
+use Rattle.node_text.proofs.PairLines.{one-more}
 use borrow.Author.Needs.{needs}
-use Rattle.pair_text.proofs.all_short.Statement.{statement}
-use Rattle.pair_text.proofs.all_short.Tie as tie
+use Rattle.node_text.proofs.all_short.Statement.{statement}
+use Rattle.node_text.proofs.all_short.Tie as tie
 
 abbrev Inv-loop : tie.InvT-loop
 Inv-loop lits i₀ i-end i = (i ≤ i-end) × (i-end ≡ length lits) × ((k : ℕ) → k < i → getD lits k 0 < 20000000)

@@ -1,8 +1,8 @@
 use native.Mathlib.Omega.{arith}
 use Rattle.laws.specs.Booleans.{never-true}
 use borrow.Author.Needs.{needs}
-use Rattle.pair_text.proofs.fits.Statement.{statement}
-use Rattle.pair_text.proofs.fits.Tie as tie
+use Rattle.node_text.proofs.fits.Statement.{statement}
+use Rattle.node_text.proofs.fits.Tie as tie
 
 returns : tie.Need-returns
 returns c = λ e. never-true e

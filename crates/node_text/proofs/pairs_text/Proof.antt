@@ -8,10 +8,10 @@ use Rattle.scope.specs.Text.{line}
 use Rattle.digits.specs.Spelled.{Spelt}
 use Rattle.digits.proofs.Spelling.{spelt-own}
 use Rattle.sink.specs.Run.{out, put, Todo, todo-start, todo-turn, todo-done}
-use Rattle.pair_text.proofs.PairLines.{lines-turn, lines-end, spelt-opposite}
+use Rattle.node_text.proofs.PairLines.{lines-turn, lines-end, spelt-opposite}
 use borrow.Author.Needs.{needs}
-use Rattle.pair_text.proofs.pairs_text.Statement.{statement}
-use Rattle.pair_text.proofs.pairs_text.Tie as tie
+use Rattle.node_text.proofs.pairs_text.Statement.{statement}
+use Rattle.node_text.proofs.pairs_text.Tie as tie
 
 abbrev Inv-loop : tie.InvT-loop
 Inv-loop text₀ at top lits q weight second number₀ p₀ i₀ i-end text number p i =

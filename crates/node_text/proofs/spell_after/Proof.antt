@@ -3,8 +3,8 @@ use Prim.Native.Nat.{ℕ, _+_}
 use native.Mathlib.Omega.{arith}
 use Rattle.digits.specs.Spelled.{Spelt}
 use borrow.Author.Needs.{needs}
-use Rattle.pair_text.proofs.spell_after.Statement.{statement}
-use Rattle.pair_text.proofs.spell_after.Tie as tie
+use Rattle.node_text.proofs.spell_after.Statement.{statement}
+use Rattle.node_text.proofs.spell_after.Tie as tie
 
 spell-requires : tie.Need-spell-requires
 spell-requires c κs = search needs

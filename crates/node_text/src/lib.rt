@@ -1,19 +1,23 @@
-// Clauses of two literals with the same second one, as text, where every number has at most seven digits: the second literal's
-// number is turned into bytes once, and one that follows the number before it is made from that.
+// The clauses of a node as text, where every number has at most seven digits: those of two literals with the same second one,
+// whose number is turned into bytes once, and the long one. A number that follows the one before it is made from that.
 use digits::spelled::Spelled;
 use digits::spelled::following;
+use digits::spelled::put_spelled;
+use digits::spelled::put_spelled_literal;
 use digits::spelled::spell;
+use sink::lines::end_line;
 use sink::lines::pair_line;
 ghost use mathlib.Core.Path.{_≡_};
 ghost use mathlib.Core.Bool.{true};
-ghost use mathlib.Core.List.{map};
+ghost use mathlib.Core.List.{[], _∷_, _++_, map};
 ghost use Prim.Native.Nat.{_+_, _*_, _/_, _≤_, _<_};
 ghost use lib.ListN.{length};
 ghost use Rattle.scope.specs.Cnf.{opp, pairs};
+ghost use Rattle.scope.specs.Text.{line};
 ghost use Rattle.digits.specs.Spelled.{Spelt};
 ghost use Rattle.sink.specs.Run.{Ran, out, put};
 ghost use Rattle.sink.specs.Meaning.{hardText};
-ghost use Rattle.pair_text.specs.Fits.{Short, Fits};
+ghost use Rattle.node_text.specs.Fits.{Short, Fits};
 
 // Whether the numbers of all literals have at most seven digits.
 fn all_short(lits: &[u32]) -> bool
@@ -27,7 +31,8 @@ fn all_short(lits: &[u32]) -> bool
     true
 }
 
-// Whether the lines of a weight, some literals and a second one can be written so from a place on in an output of a length.
+// Whether the lines of a weight, some literals and another can be written so from a place on in an output of a length, with room
+// for one more.
 pub fn fits(len: usize, at: usize, top: u64, lits: &[u32], q: u32) -> bool
     ensures { λ r. ⌜ (r ≡ true → Fits len at top (now (lits .entry)) q) ⌝ }
 {
@@ -40,7 +45,7 @@ pub fn fits(len: usize, at: usize, top: u64, lits: &[u32], q: u32) -> bool
     if len < at {
         return false;
     }
-    if (len - at) / 28 < lits.len() {
+    if (len - at) / 28 <= lits.len() {
         return false;
     }
     all_short(lits)
@@ -75,4 +80,20 @@ pub fn pairs_text(text: &mut [u8], at: usize, top: u32, lits: &[u32], q: u32) ->
         p = pair_line(text, p, weight, row_words::opposite(l), number, q, second);
     }
     p
+}
+
+// The line of the clause of some literals and then q.
+pub fn long_text(text: &mut [u8], at: usize, top: u32, lits: &[u32], q: u32) -> usize
+    requires { ⌜ Fits (length (now text)) at top (now lits) q ⌝ }
+    ensures { λ r. ⌜ Ran put (line top (now (lits .entry) ++ q ∷ [])) (out at (now (text .entry))) (out r (now (text .exit))) ⌝ }
+{
+    let mut number = spell(top);
+    let mut p = put_spelled(text, at, number);
+    for i in 0..lits.len() {
+        let l = lits[i];
+        number = spell_after(number, l / 2);
+        p = put_spelled_literal(text, p, l, number);
+    }
+    let last = put_spelled_literal(text, p, q, spell(q / 2));
+    end_line(text, last)
 }

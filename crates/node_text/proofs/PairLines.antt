@@ -1,7 +1,7 @@
 -- The lines of clauses of two literals, one by one.
-use mathlib.Core.Path.{_≡_, refl, sym, subst}
+use mathlib.Core.Path.{_≡_, refl, ap, sym, subst, _∙_}
 use mathlib.Core.Bool.{Bool, true, false}
-use mathlib.Core.List.{List, [], _∷_, _++_, map, flatMap}
+use mathlib.Core.List.{List, [], _∷_, _++_, map, flatMap, append-assoc}
 use Prim.Native.Nat.{ℕ, suc, _+_, _/_, _≤_, _<_}
 use native.Mathlib.Numerals.{add-one}
 use native.Mathlib.Omega.{arith}
@@ -10,7 +10,7 @@ use borrow.Author.Tests.{ltb-true, ltb-false}
 use lib.ListN.{length, drop, getD, drop-of-length-le}
 use lib.Seq.{drop-cons}
 use Rattle.scope.specs.Cnf.{opp, pairs}
-use Rattle.scope.specs.Text.{line}
+use Rattle.scope.specs.Text.{line, literalText}
 use Rattle.digits.specs.Spelled.{Spelt}
 use Rattle.digits.specs.declared.spelled.Spelled.{Spelled}
 
@@ -36,3 +36,19 @@ one-more ls i h e k l = go (ltb k i) refl
 -- a literal's number is its opposite's
 pub spelt-opposite : (l : ℕ) {n : Spelled} {k : ℕ} → Spelt (l / 2) n → k ≡ opp l → Spelt (k / 2) n
 spelt-opposite l {n} {k} s e = let h : l / 2 ≡ k / 2 = rw e (omega arith) in subst (λ (v : ℕ). Spelt v n) h s
+
+-- a clause's literals, one by one
+module _ (ls : List ℕ) (i : ℕ) where
+  pub literals-turn : i < length ls → flatMap literalText (drop i ls) ≡ literalText (getD ls i 0) ++ flatMap literalText (drop (i + 1) ls)
+  unfolding flatMap
+  literals-turn h = rw (drop-cons ls i 0 h, add-one i)
+
+  pub literals-end : length ls ≤ i → flatMap literalText (drop i ls) ≡ []
+  unfolding flatMap
+  literals-end h = rw (drop-of-length-le ls h)
+
+-- and another after them
+pub literals-last : (ls : List ℕ) (q : ℕ) → flatMap literalText (ls ++ q ∷ []) ≡ flatMap literalText ls ++ (literalText q ++ [])
+unfolding flatMap
+literals-last [] q = refl
+literals-last (l ∷ ls) q = ap (_++_ (literalText l)) (literals-last ls q) ∙ sym (append-assoc (literalText l) (flatMap literalText ls) (literalText q ++ []))
