@@ -6,13 +6,18 @@ ghost use lib.ListN.{length, take};
 ghost use Rattle.scope.specs.Cnf.{opp, pairs};
 ghost use Rattle.sink.specs.Run.{Ran};
 ghost use Rattle.sink.specs.Lines.{clauseLine};
+ghost use Rattle.sink.specs.Block.{split};
 ghost use Rattle.sink.specs.World.{world, step};
 ghost use Rattle.counters.specs.Literals.{Literals};
 ghost use Rattle.node_clauses.specs.Pairs.{pairWords};
 ghost use Rattle.node_clauses.specs.LongClauses.{LongClause, nodeClauses};
 use super::LAST;
 use super::evaluate::node_right;
+use node_text::fits;
+use node_text::long_text;
+use node_text::pairs_text;
 use sink::Job;
+use sink::Mode;
 use sink::Sink;
 
 // The clauses (opposite of l, p) for some literals l, where last is p marked.
@@ -28,7 +33,7 @@ fn pair_words(block: &mut [u32], lits: &[u32], last: u32)
 }
 
 // The same for any number of literals, 32 in a block.
-fn write_pairs(
+fn write_pair_blocks(
     job: Job,
     model: &[u8],
     text: &mut [u8],
@@ -52,6 +57,70 @@ fn write_pairs(
         i = e;
     }
     z
+}
+
+// The same; a text of them is written at once where that is possible.
+fn write_pairs(
+    job: Job,
+    model: &[u8],
+    text: &mut [u8],
+    words: &mut [u32],
+    s: Sink,
+    lits: &[u32],
+    last: u32,
+) -> Sink
+    requires { ⌜ Literals (now lits) × (2147483648 ≤ last) ⌝ }
+    ensures { λ r. ⌜ Ran (step job (now (model .entry))) (map clauseLine (pairs (map opp (now (lits .entry))) (last - 2147483648)))
+        (world s (now (text .entry)) (now (words .entry))) (world r (now (text .exit)) (now (words .exit))) ⌝ }
+{
+    let at = s.at;
+    let q = last - LAST;
+    let mode = job.mode;
+    match mode {
+        Mode::Measure => {}
+        Mode::Text => {
+            if fits(text.len(), at, job.top, lits, q) {
+                return sink::placed(s, pairs_text(text, at, job.top as u32, lits, q));
+            }
+        }
+        Mode::SoftText => {}
+        Mode::Words => {}
+        Mode::Evaluate => {}
+        Mode::Tail => {}
+    }
+    write_pair_blocks(job, model, text, words, s, lits, last)
+}
+
+// The long clause; a text of it is written at once where that is possible.
+fn write_long(
+    job: Job,
+    model: &[u8],
+    text: &mut [u8],
+    words: &mut [u32],
+    s: Sink,
+    clause: &[u32],
+) -> Sink
+    requires { ⌜ LongClause (now clause) ⌝ }
+    ensures { λ r. ⌜ Ran (step job (now (model .entry))) (map clauseLine (split (now (clause .entry))))
+        (world s (now (text .entry)) (now (words .entry))) (world r (now (text .exit)) (now (words .exit))) ⌝ }
+{
+    let at = s.at;
+    let n = clause.len() - 1;
+    let q = clause[n] - LAST;
+    let mode = job.mode;
+    match mode {
+        Mode::Measure => {}
+        Mode::Text => {
+            if fits(text.len(), at, job.top, &clause[..n], q) {
+                return sink::placed(s, long_text(text, at, job.top as u32, &clause[..n], q));
+            }
+        }
+        Mode::SoftText => {}
+        Mode::Words => {}
+        Mode::Evaluate => {}
+        Mode::Tail => {}
+    }
+    sink::emit(job, model, text, words, s, clause)
 }
 
 // The clauses of a node by its long clause.
@@ -79,5 +148,5 @@ pub fn write_node(
     }
     let last = row_words::opposite(q) + LAST;
     let z = write_pairs(job, model, text, words, s, &clause[..n], last);
-    sink::emit(job, model, text, words, z, clause)
+    write_long(job, model, text, words, z, clause)
 }

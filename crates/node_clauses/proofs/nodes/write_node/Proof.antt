@@ -5,7 +5,7 @@ use lib.ListN.{length, getD}
 use lib.Seq.{length-take-le}
 use Rattle.sink.proofs.laws.Skipped.{skipped}
 use Rattle.node_clauses.specs.LongClauses.{nodeClauses}
-use Rattle.node_clauses.proofs.laws.LongClauses.{long-others, long-whole, long-ran}
+use Rattle.node_clauses.proofs.laws.LongClauses.{long-others, long-ran}
 use Rattle.node_clauses.proofs.laws.Evaluate.{node-passed}
 use borrow.Author.Needs.{needs}
 use borrow.Author.Needs.{needs}
@@ -69,10 +69,8 @@ write-pairs-requires : tie.Need-write-pairs-requires
 write-pairs-requires c κs =
     (long-others (c .before .before .before .before .before .before .before .before .before .before .before .before .before .pre), omega arith)
 
-emit-requires : tie.Need-emit-requires
-emit-requires c κs =
-    let ws = c .before .before .before .before .before .before .before .before .before .before .before .before .before .before .before .before .before .before .before .before .args .clause .now in
-    long-whole (c .before .before .before .before .before .before .before .before .before .before .before .before .before .before .before .before .before .before .before .before .pre) (omega (arith, c .before .before .before .before .before .before .before .before .before .before .before .before .before .shared-slice-known3 .given (length ws - 1)))
+write-long-requires : tie.Need-write-long-requires
+write-long-requires c κs = search needs
 
 same-length : tie.Need-same-length
 same-length c = search needs
@@ -82,7 +80,7 @@ same-length-2 c = search needs
 
 returns-3 : tie.Need-returns-3
 returns-3 c =
-    long-ran (c .before .before .before .before .before .before .before .before .before .before .before .before .before .before .before .before .before .before .before .before .before .before .before .before .before .args .clause .now) (c .before .before .before .before .before .before .before .before .before .before .before .before .before .before .before .opposite .ensures) (c .before .before .before .before .before .before .before .before .before .before .before .write-pairs .ensures) (c .before .before .before .before .emit .ensures)
+    long-ran (c .before .before .before .before .before .before .before .before .before .before .before .before .before .before .before .before .before .before .before .before .before .before .before .before .before .args .clause .now) (c .before .before .before .before .before .before .before .before .before .before .before .before .before .before .before .opposite .ensures) (c .before .before .before .before .before .before .before .before .before .before .before .write-pairs .ensures) (c .before .before .before .before .write-long .ensures)
 
 pub write-node-spec : {M : Type 1} → statement M
 write-node-spec =
@@ -104,7 +102,7 @@ write-node-spec =
     add-last
     slice-aggregate-write-pairs
     write-pairs-requires
-    emit-requires
+    write-long-requires
     same-length
     same-length-2
     returns-3)
