@@ -2,20 +2,19 @@
 use mathlib.Core.Path.{_≡_, refl, sym, ap, _∙_}
 use mathlib.Core.Bool.{Bool, true, false, cond}
 use mathlib.Core.List.{List}
-use Prim.Native.Nat.{ℕ, zero, suc, _<_, _≤_, _+_, _-_, min}
+use Prim.Native.Nat.{ℕ, zero, suc, _<_, _≤_, _+_, _-_, _/_, min}
 use native.Mathlib.Omega.{arith}
-use borrow.Author.Tests.{ltb-true, ltb-false, eqb-true, eqb-false, lt-ltb, le-ltb}
+use borrow.Author.Tests.{ltb-true, ltb-false, eqb-true, eqb-false, eq-eqb, ne-eqb, lt-ltb, le-ltb}
 use lib.Dec.{ltb, eqb}
 use lib.ListN.{length}
 use Rattle.directory.specs.declared.Row.{Row}
 use Rattle.lookup.specs.declared.Probe.{Probe}
 use Rattle.directory.specs.Rows.{noRow}
 use Rattle.directory.proofs.laws.Rows.{Rising}
-use Rattle.lookup.specs.Lookup.{started, upward, downward, narrowed, seek}
+use Rattle.lookup.specs.Lookup.{started, halving, narrowed, seek}
 use Rattle.lookup.proofs.laws.Lookup.{Found, hit, miss, Finds}
 use Rattle.directory.specs.Directory.{rowsOf}
 use Rattle.lookup.specs.Lookup.{lookUp}
-use Rattle.lookup.proofs.Aims.{aimed-within}
 
 -- the place that is looked at next lies between the bounds, and these within the directory's cap rows
 pub record Bounded (cap : ℕ) (p : Probe) : Type 0 where
@@ -25,56 +24,79 @@ pub record Bounded (cap : ℕ) (p : Probe) : Type 0 where
 pub starts-bounded : (cap n id : ℕ) → n ≤ cap → Bounded cap (started n id)
 starts-bounded cap n id h = record { inside = λ l. (omega arith, omega arith); high = h }
 
--- the three outcomes of a look
+-- the outcomes of a look
 pub data Narrowed (s : Probe) (row : Row) (id : ℕ) (p : Probe) : Type 0 where
-  met : row .id ≡ id → p .lo ≡ s .hi → p .hi ≡ s .hi → p .at ≡ s .at → p .hit ≡ row → Narrowed s row id p
-  above : row .id < id → p ≡ upward s (id - row .id) → Narrowed s row id p
-  below : id < row .id → p ≡ downward s (row .id - id) → Narrowed s row id p
+  met : row .id ≡ id → p .lo ≡ s .hi → p .hi ≡ s .hi → p .at ≡ s .at → p .hit ≡ row → p .guess ≡ 0 → Narrowed s row id p
+  failed : 0 < s .guess → p ≡ halving (s .lo) (s .hi) (s .hit) → Narrowed s row id p
+  above : s .guess ≤ 0 → row .id < id → p ≡ halving (s .at + 1) (s .hi) (s .hit) → Narrowed s row id p
+  below : s .guess ≤ 0 → id < row .id → p ≡ halving (s .lo) (s .at) (s .hit) → Narrowed s row id p
 
 pub narrows : (s : Probe) (row : Row) (id : ℕ) → Narrowed s row id (narrowed s row id)
 unfolding narrowed
-narrows s row id = go (eqb (row .id) id) refl (ltb (row .id) id) refl
+narrows s row id = go (eqb (row .id) id) refl (ltb 0 (s .guess)) refl (ltb (row .id) id) refl
   where
-    go : (t : Bool) → eqb (row .id) id ≡ t → (u : Bool) → ltb (row .id) id ≡ u
-        → Narrowed s row id (cond t (record { lo = s .hi; hi = s .hi; at = s .at; hit = row; below = s .below; above = s .above; left = s .left })
-        (cond u (upward s (id - row .id)) (downward s (row .id - id))))
-    go true t u e = met (eqb-true (row .id) id t) refl refl refl refl
-    go false t true e = above (ltb-true (row .id) id e) refl
-    go false t false e =
+    go : (t : Bool) → eqb (row .id) id ≡ t → (g : Bool) → ltb 0 (s .guess) ≡ g → (u : Bool) → ltb (row .id) id ≡ u
+        → Narrowed s row id (cond t (record { lo = s .hi; hi = s .hi; at = s .at; hit = row; guess = 0 })
+        (cond g (halving (s .lo) (s .hi) (s .hit))
+        (cond u (halving (s .at + 1) (s .hi) (s .hit)) (halving (s .lo) (s .at) (s .hit)))))
+    go true t g d u e = met (eqb-true (row .id) id t) refl refl refl refl refl
+    go false t true d u e = failed (ltb-true 0 (s .guess) d) refl
+    go false t false d true e = above (ltb-false 0 (s .guess) d) (ltb-true (row .id) id e) refl
+    go false t false d false e =
         let l = ltb-false (row .id) id e in
-        let d = eqb-false (row .id) id t in
-        below (omega arith) refl
+        let d′ = eqb-false (row .id) id t in
+        below (ltb-false 0 (s .guess) d) (omega arith) refl
+
+-- what `narrow` answers, by its tests
+module _ (s : Probe) (row : Row) (id : ℕ) where
+  pub look-met : {seen : ℕ} → seen ≡ row .id → seen ≡ id
+      → record { lo = s .hi; hi = s .hi; at = s .at; hit = row; guess = 0 } ≡ narrowed s row id
+  unfolding narrowed
+  look-met e h = rw (eq-eqb (row .id) id (sym e ∙ h))
+
+  pub look-failed : {seen : ℕ} {r : Probe} → seen ≡ row .id → (seen ≡ id → ⊥) → 0 < s .guess → r ≡ halving (s .lo) (s .hi) (s .hit)
+      → r ≡ narrowed s row id
+  unfolding narrowed
+  look-failed e n g q = rw (ne-eqb (row .id) id (λ h. n (e ∙ h)), lt-ltb 0 (s .guess) g) q
+
+  pub look-above : {seen : ℕ} {r : Probe} → seen ≡ row .id → (seen ≡ id → ⊥) → s .guess ≤ 0 → seen < id
+      → r ≡ halving (s .at + 1) (s .hi) (s .hit) → r ≡ narrowed s row id
+  unfolding narrowed
+  look-above e n g h q =
+      let k : row .id < id = omega arith in
+      rw (ne-eqb (row .id) id (λ h. n (e ∙ h)), le-ltb 0 (s .guess) g, lt-ltb (row .id) id k) q
+
+  pub look-below : {seen : ℕ} {r : Probe} → seen ≡ row .id → (seen ≡ id → ⊥) → s .guess ≤ 0 → id ≤ seen
+      → r ≡ halving (s .lo) (s .at) (s .hit) → r ≡ narrowed s row id
+  unfolding narrowed
+  look-below e n g h q =
+      let k : id ≤ row .id = omega arith in
+      rw (ne-eqb (row .id) id (λ h. n (e ∙ h)), le-ltb 0 (s .guess) g, le-ltb (row .id) id k) q
+
+pub ruleset looks = (look-met, look-failed, look-above, look-below)
+
+-- how many looks a search may still take
+abbrev pub ahead : Probe → ℕ
+ahead p = p .hi - p .lo + p .guess
 
 -- a look
 module _ (p : Probe) (row : Row) (id : ℕ) (l : p .lo ≤ p .at) (h : p .at < p .hi) where
-  pub nearer : (r : Probe) → Narrowed p row id r → r .hi - r .lo < p .hi - p .lo
-  nearer r (met e lo hi x y) = omega arith
-  nearer r (above e q) = rw q (omega arith)
-  nearer r (below e q) = rw q (omega arith)
+  pub nearer : (r : Probe) → Narrowed p row id r → ahead r < ahead p
+  nearer r (met e lo hi x y z) = omega arith
+  nearer r (failed g q) = rw q (omega arith)
+  nearer r (above g e q) = rw q (omega arith)
+  nearer r (below g e q) = rw q (omega arith)
 
   pub bounded : (cap : ℕ) → p .hi ≤ cap → (r : Probe) → Narrowed p row id r → Bounded cap r
-  bounded cap k r (met e lo hi x y) = record { inside = λ m. absurd (omega arith); high = omega arith }
-  bounded cap k r (above e q) =
-      rw q (record {
-        inside =
-            λ m.
-            let i = aimed-within (p .hi - (p .at + 1)) (id - row .id) (p .above) (p .left - min (p .left) 1) in
-            (omega arith, omega arith);
-        high = k;
-      })
-  bounded cap k r (below e q) =
-      rw q (record {
-        inside =
-            λ m.
-            let i = aimed-within (p .at - p .lo) (p .below) (row .id - id) (p .left - min (p .left) 1) in
-            (omega arith, omega arith);
-        high = omega arith;
-      })
+  bounded cap k r (met e lo hi x y z) = record { inside = λ m. absurd (omega arith); high = omega arith }
+  bounded cap k r (failed g q) = rw q (record { inside = λ m. (omega arith, omega arith); high = k })
+  bounded cap k r (above g e q) = rw q (record { inside = λ m. (omega arith, omega arith); high = k })
+  bounded cap k r (below g e q) = rw q (record { inside = λ m. (omega arith, omega arith); high = omega arith })
 
 -- what is left of a search that comes to g
 pub record Left (R : ℕ → Row) (id : ℕ) (p g : Probe) : Type 0 where
   pub fuel : ℕ
-  pub enough : p .hi - p .lo ≤ fuel
+  pub enough : ahead p ≤ fuel
   pub todo : seek fuel R id p ≡ g
 
 module _ (R : ℕ → Row) (id : ℕ) (p g : Probe) (w : Left R id p g) where
@@ -90,15 +112,15 @@ module _ (R : ℕ → Row) (id : ℕ) (p g : Probe) (w : Left R id p g) where
   unfolding seek
   left-more h a b r e = go (w .fuel) (w .enough) (w .todo)
     where
-      near : r .hi - r .lo < p .hi - p .lo
+      near : ahead r < ahead p
       near = rw e (nearer p (R (p .at)) id a b (narrowed p (R (p .at)) id) (narrows p (R (p .at)) id))
 
-      go : (k : ℕ) → p .hi - p .lo ≤ k → seek k R id p ≡ g → Left R id r g
+      go : (k : ℕ) → ahead p ≤ k → seek k R id p ≡ g → Left R id r g
       go zero n t = absurd (omega arith)
       go (suc k) n t = record { fuel = k; enough = omega (arith, near); todo = rw e (rw (lt-ltb (p .lo) (p .hi) h) at t) }
 
 pub left-all : (xs : List Row) (n id : ℕ) → Left (rowsOf xs) id (started (min n (length xs)) id) (lookUp xs n id)
-left-all xs n id = record { fuel = length xs; enough = omega arith; todo = refl }
+left-all xs n id = record { fuel = suc (length xs); enough = omega arith; todo = refl }
 
 -- a search of n rows: still to be met, or met
 pub data Seeking (R : ℕ → Row) (n id : ℕ) (p : Probe) : Type 0 where
@@ -128,22 +150,23 @@ module _ (R : ℕ → Row) (n : ℕ) (up : Rising R n) where
   module _ (id : ℕ) (p : Probe) (l : p .lo ≤ p .at) (h : p .at < p .hi) where
     looked : Seeking R n id p → (r : Probe) → Narrowed p (R (p .at)) id r → Seeking R n id r
     looked (holds e a b c) r _ = absurd (omega arith)
-    looked (seeks k w z) r (met e lo hi x y) =
+    looked (seeks k w z) r (met e lo hi x y g) =
         holds (omega arith) (omega arith) (y ∙ ap R (sym x)) (ap (λ q. q .id) y ∙ e)
-    looked (seeks k w z) r (above e q) =
+    looked (seeks k w z) r (failed g q) = rw q (seeks k w z)
+    looked (seeks k w z) r (above g e q) =
         rw q (seeks (omega arith)
         (λ i m f.
         let a = in-order (p .at) i (omega arith) (omega arith) in
         (omega arith, omega (arith, w i m f .1)))
         z)
-    looked (seeks k w z) r (below e q) =
+    looked (seeks k w z) r (below g e q) =
         rw q (seeks (omega arith)
         (λ i m f.
         let a = in-order i (p .at) m (omega arith) in
         (omega (arith, w i m f .0), omega arith))
         z)
 
-  seeks-found : (k id : ℕ) (p : Probe) → Bounded n p → p .hi - p .lo ≤ k → Seeking R n id p → Found R n id (seek k R id p)
+  seeks-found : (k id : ℕ) (p : Probe) → Bounded n p → ahead p ≤ k → Seeking R n id p → Found R n id (seek k R id p)
   unfolding seek
   seeks-found zero id p b m s = ends R n id p s (omega arith)
   seeks-found (suc k) id p b m s = go (λ r. seeks-found k id r) (ltb (p .lo) (p .hi)) refl
@@ -151,7 +174,7 @@ module _ (R : ℕ → Row) (n : ℕ) (up : Rising R n) where
       r : Probe
       r = narrowed p (R (p .at)) id
 
-      go : ((r : Probe) → Bounded n r → r .hi - r .lo ≤ k → Seeking R n id r → Found R n id (seek k R id r)) → (t : Bool) → ltb (p .lo) (p .hi) ≡ t
+      go : ((r : Probe) → Bounded n r → ahead r ≤ k → Seeking R n id r → Found R n id (seek k R id r)) → (t : Bool) → ltb (p .lo) (p .hi) ≡ t
           → Found R n id (cond t (seek k R id r) p)
       go ih true t =
           let i = b .inside (ltb-true (p .lo) (p .hi) t) in
@@ -168,6 +191,6 @@ finds xs n id p e =
           λ h up.
           let m : min n (length xs) ≡ n = omega arith in
           rw (e, m)
-          (seeks-found (rowsOf xs) n up (length xs) id (started n id) (starts-bounded n n id (omega arith)) (omega arith)
+          (seeks-found (rowsOf xs) n up (suc (length xs)) id (started n id) (starts-bounded n n id (omega arith)) (omega arith)
           (seeks (omega arith) (λ i l f. (omega arith, l)) refl));
     }

@@ -55,7 +55,7 @@ use Rattle.directory.proofs.Row.Laws as R′
 use lib.WfN.{Nat·lt-wfRel}
 use mathlib.Core.WellFounded.{WellFounded, InvImage·wf}
 use denote.Signature.{shrSliceOf}
-use Rattle.lookup.proofs.Search.{Bounded, starts-bounded, narrows, nearer, bounded, Left, left-all, left-more, left-over}
+use Rattle.lookup.proofs.Search.{Bounded, starts-bounded, ahead, narrows, nearer, bounded, Left, left-all, left-more, left-over}
 use Rattle.walks.proofs.Calls.{uint-same, calls-to, calls-to-last}
 use Rattle.lookup.proofs.Probe as P
 use Rattle.lookup.proofs.Probe.Laws as P′
@@ -96,10 +96,10 @@ module _ (ys : List Row) (n id : ℕ) where
     pub left : Left (rowsOf ys) id p (lookUp ys n id)
 
   abbrev Nearer : Upto → Upto → Type 0
-  Nearer s t = s .p .hi - s .p .lo < t .p .hi - t .p .lo
+  Nearer s t = ahead (s .p) < ahead (t .p)
 
   Nearer-wf : WellFounded Nearer
-  Nearer-wf = InvImage·wf (λ (t : Upto). t .p .hi - t .p .lo) (Nat·lt-wfRel .wf)
+  Nearer-wf = InvImage·wf (λ (t : Upto). ahead (t .p)) (Nat·lt-wfRel .wf)
 
 module _ {ys : List Row} {n id : ℕ} where
   next : (t : Upto ys n id) (r : Probe) → IsProbe r (P′.lowered r) → t .p .lo < t .p .hi → r ≡ narrowed (t .p) (getD ys (t .p .at) noRow) id → Upto ys n id

@@ -1,5 +1,7 @@
+use mathlib.Core.Path.{_≡_}
+use native.Mathlib.Omega.{arith}
 use borrow.Author.Needs.{needs}
-use Rattle.lookup.proofs.Aims.{looks}
+use Rattle.lookup.proofs.Search.{looks}
 use Rattle.lookup.proofs.narrow.Statement.{statement}
 use Rattle.lookup.proofs.narrow.Tie as tie
 
@@ -9,20 +11,26 @@ id-of-requires c κs = search needs
 returns : tie.Need-returns
 returns c = search looks depth 12
 
-sub-upwards : tie.Need-sub-upwards
-sub-upwards c = search needs
-
-upwards-requires : tie.Need-upwards-requires
-upwards-requires c κs = search needs
+halve-requires : tie.Need-halve-requires
+halve-requires c κs = search needs
 
 returns-2 : tie.Need-returns-2
 returns-2 c = search looks depth 12
 
-downwards-requires : tie.Need-downwards-requires
-downwards-requires c κs = search needs
+add-halve : tie.Need-add-halve
+add-halve c = search needs
+
+halve-requires-2 : tie.Need-halve-requires-2
+halve-requires-2 c κs = search needs
 
 returns-3 : tie.Need-returns-3
 returns-3 c = search looks depth 12
+
+halve-requires-3 : tie.Need-halve-requires-3
+halve-requires-3 c κs = search needs
+
+returns-4 : tie.Need-returns-4
+returns-4 c = search looks depth 12
 
 pub narrow-spec : {M : Type 1} → statement M
 narrow-spec =
@@ -30,8 +38,10 @@ narrow-spec =
     (tie.spec
     id-of-requires
     returns
-    sub-upwards
-    upwards-requires
+    halve-requires
     returns-2
-    downwards-requires
-    returns-3)
+    add-halve
+    halve-requires-2
+    returns-3
+    halve-requires-3
+    returns-4)
