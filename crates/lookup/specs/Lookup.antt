@@ -2,7 +2,7 @@
 use mathlib.Core.Bool.{cond}
 use mathlib.Core.List.{List}
 use Prim.Native.Nat.{ℕ, zero, suc, _+_, _-_, _/_, min}
-use lib.Dec.{eqb, ltb}
+use lib.Dec.{eqb, leb, ltb}
 use lib.ListN.{length}
 use Rattle.directory.specs.declared.Row.{Row}
 use Rattle.directory.specs.Rows.{noRow}
@@ -17,12 +17,17 @@ started n id = record { lo = 0; hi = n; at = min n id - 1; hit = noRow; guess = 
 abbrev pub halving : ℕ → ℕ → Row → Probe
 halving lo hi hit = record { lo = lo; hi = hi; at = lo + (hi - lo) / 2; hit = hit; guess = 0 }
 
--- the search after a look at a row: it is met; a guess failed; the wanted row stands after it; or before it
+-- a search that is over, with a row
+abbrev pub ended : Probe → Row → Probe
+ended s hit = record { lo = s .hi; hi = s .hi; at = s .at; hit = hit; guess = 0 }
+
+-- the search after a look at a row: a guess is right or fails; the last row that is left is the wanted one or not; the wanted row is
+-- this one or after it, or it stands before it
 unfoldable pub narrowed : Probe → Row → ℕ → Probe
 narrowed s row id =
-    cond (eqb (row .id) id) (record { lo = s .hi; hi = s .hi; at = s .at; hit = row; guess = 0 })
-    (cond (ltb 0 (s .guess)) (halving (s .lo) (s .hi) (s .hit))
-    (cond (ltb (row .id) id) (halving (s .at + 1) (s .hi) (s .hit)) (halving (s .lo) (s .at) (s .hit))))
+    cond (ltb 0 (s .guess)) (cond (eqb (row .id) id) (ended s row) (halving (s .lo) (s .hi) (s .hit)))
+    (cond (ltb (s .hi - s .lo) 2) (cond (eqb (row .id) id) (ended s row) (ended s (s .hit)))
+    (cond (leb (row .id) id) (halving (s .at) (s .hi) (s .hit)) (halving (s .lo) (s .at) (s .hit))))
 
 -- at most k looks
 unfoldable pub seek : ℕ → (ℕ → Row) → ℕ → Probe → Probe

@@ -4,7 +4,7 @@ use directory::id_of;
 use directory::no_row;
 ghost use mathlib.Core.Path.{_≡_};
 ghost use Prim.Native.Nat.{_≤_, _<_, min};
-ghost use Rattle.lookup.specs.Lookup.{started, halving, narrowed, lookUp};
+ghost use Rattle.lookup.specs.Lookup.{started, halving, ended, narrowed, lookUp};
 
 // Where a search stands: the row is in lo..hi if it is anywhere, at is looked at next, and hit is the row once it is met. The
 // first look is a guess from the id, and guess is 1 before it, then 0.
@@ -58,28 +58,41 @@ fn halve(lo: usize, hi: usize, hit: Row) -> Probe
     }
 }
 
-// The search after a look at a row. A guess that fails narrows nothing: then the searches for all ids halve the same rows, which the
-// cache holds, and only their last looks differ.
+// The search has ended, with the row that is met or with none.
+fn end(s: Probe, hit: Row) -> Probe
+    ensures { λ r. ⌜ r ≡ ended s hit ⌝ }
+{
+    Probe {
+        lo: s.hi,
+        hi: s.hi,
+        at: s.at,
+        hit,
+        guess: 0,
+    }
+}
+
+// The search after a look at a row. A guess that fails narrows nothing: the searches for all ids then halve the same rows, which the
+// cache holds. Ids are compared for being the same at the last look alone, so that the next look can begin before this one is over.
 fn narrow(s: Probe, row: Row, id: usize) -> Probe
     requires { ⌜ (s .lo ≤ s .at) × (s .at < s .hi) ⌝ }
     ensures { λ r. ⌜ r ≡ narrowed s row id ⌝ }
 {
     let seen = id_of(row);
-    if seen == id {
-        return Probe {
-            lo: s.hi,
-            hi: s.hi,
-            at: s.at,
-            hit: row,
-            guess: 0,
-        };
-    }
     let hit = s.hit;
     if 0 < s.guess {
+        if seen == id {
+            return end(s, row);
+        }
         return halve(s.lo, s.hi, hit);
     }
-    if seen < id {
-        return halve(s.at + 1, s.hi, hit);
+    if s.hi - s.lo < 2 {
+        if seen == id {
+            return end(s, row);
+        }
+        return end(s, hit);
+    }
+    if seen <= id {
+        return halve(s.at, s.hi, hit);
     }
     halve(s.lo, s.at, hit)
 }
