@@ -1,5 +1,4 @@
 pub mod laws
-pub mod Aims
 pub mod Search
 pub mod Looks
 pub mod Elements

@@ -4,19 +4,16 @@ use directory::id_of;
 use directory::no_row;
 ghost use mathlib.Core.Path.{_≡_};
 ghost use Prim.Native.Nat.{_≤_, _<_, min};
-ghost use Rattle.lookup.specs.Lookup.{started, evenly, halvedAbove, aimed, upward, downward, narrowed, lookUp};
+ghost use Rattle.lookup.specs.Lookup.{started, halving, ended, narrowed, lookUp};
 
-// Where a search stands: the row is in lo..hi if it is anywhere, at is looked at next, and hit is the row once it is met. An id
-// before all of lo..hi is known that lies below the wanted one by below, and one after them that lies above it by above (0
-// where none is known yet). Left is how many looks may still go by these distances.
+// Where a search stands: the row is in lo..hi if it is anywhere, at is looked at next, and hit is the row once it is met. The
+// first look is a guess from the id, and guess is 1 before it, then 0.
 pub struct Probe {
     pub lo: usize,
     pub hi: usize,
     pub at: usize,
     pub hit: Row,
-    pub below: usize,
-    pub above: usize,
-    pub left: usize,
+    pub guess: usize,
 }
 
 fn least(a: usize, b: usize) -> usize
@@ -42,120 +39,62 @@ fn start(n: usize, id: usize) -> Probe
         hi: n,
         at,
         hit,
-        below: id,
-        above: 0,
-        left: 10,
+        guess: 1,
     }
 }
 
-// How many of len rows come before the wanted one if their ids stand evenly; half of them where a distance is not known or a
-// product might not fit.
-fn even_share(len: usize, below: usize, above: usize) -> usize
-    ensures { λ r. ⌜ r ≡ evenly len below above ⌝ }
+// A search of lo..hi, whose next look is in the middle.
+fn halve(lo: usize, hi: usize, hit: Row) -> Probe
+    requires { ⌜ lo ≤ hi ⌝ }
+    ensures { λ r. ⌜ r ≡ halving lo hi hit ⌝ }
 {
-    if len < 2 {
-        return len / 2;
-    }
-    if below < 1 {
-        return len / 2;
-    }
-    if 4294967295 < len {
-        return len / 2;
-    }
-    if 4294967295 < below {
-        return len / 2;
-    }
-    if 4294967295 < above {
-        return len / 2;
-    }
-    let share = below * len / (below + above);
-    least(share, len - 1)
-}
-
-// With more looks left than this the next one halves. Far from the wanted id the first three do: they meet the same rows for most
-// ids, which the cache holds, and ids stand more evenly in what remains.
-fn halves_above(distance: usize) -> usize
-    ensures { λ r. ⌜ r ≡ halvedAbove distance ⌝ }
-{
-    if distance < 1024 {
-        return 10;
-    }
-    6
-}
-
-// How many of len rows the next look passes over. Once no look by distances is left, looks halve: no order of ids takes many.
-fn aim(len: usize, below: usize, above: usize, left: usize) -> usize
-    ensures { λ r. ⌜ r ≡ aimed len below above left ⌝ }
-{
-    if left < 1 {
-        return len / 2;
-    }
-    if halves_above(least(below, above)) < left {
-        return len / 2;
-    }
-    even_share(len, below, above)
-}
-
-// The search after a look at a row whose id lies below the wanted one: that one's row stands after it.
-fn upwards(s: Probe, below: usize) -> Probe
-    requires { ⌜ s .at < s .hi ⌝ }
-    ensures { λ r. ⌜ r ≡ upward s below ⌝ }
-{
-    let hit = s.hit;
-    let lo = s.at + 1;
-    let left = s.left - least(s.left, 1);
-    let at = lo + aim(s.hi - lo, below, s.above, left);
+    let at = lo + (hi - lo) / 2;
     Probe {
         lo,
-        hi: s.hi,
+        hi,
         at,
         hit,
-        below,
-        above: s.above,
-        left,
+        guess: 0,
     }
 }
 
-// The search after a look at a row whose id lies above the wanted one: that one's row stands before it.
-fn downwards(s: Probe, above: usize) -> Probe
-    requires { ⌜ s .lo ≤ s .at ⌝ }
-    ensures { λ r. ⌜ r ≡ downward s above ⌝ }
+// The search has ended, with the row that is met or with none.
+fn end(s: Probe, hit: Row) -> Probe
+    ensures { λ r. ⌜ r ≡ ended s hit ⌝ }
 {
-    let hit = s.hit;
-    let left = s.left - least(s.left, 1);
-    let at = s.lo + aim(s.at - s.lo, s.below, above, left);
     Probe {
-        lo: s.lo,
-        hi: s.at,
-        at,
+        lo: s.hi,
+        hi: s.hi,
+        at: s.at,
         hit,
-        below: s.below,
-        above,
-        left,
+        guess: 0,
     }
 }
 
-// The search after a look at a row.
+// The search after a look at a row. A guess that fails narrows nothing: the searches for all ids then halve the same rows, which the
+// cache holds. Ids are compared for being the same at the last look alone, so that the next look can begin before this one is over.
 fn narrow(s: Probe, row: Row, id: usize) -> Probe
     requires { ⌜ (s .lo ≤ s .at) × (s .at < s .hi) ⌝ }
     ensures { λ r. ⌜ r ≡ narrowed s row id ⌝ }
 {
     let seen = id_of(row);
-    if seen == id {
-        return Probe {
-            lo: s.hi,
-            hi: s.hi,
-            at: s.at,
-            hit: row,
-            below: s.below,
-            above: s.above,
-            left: s.left,
-        };
+    let hit = s.hit;
+    if 0 < s.guess {
+        if seen == id {
+            return end(s, row);
+        }
+        return halve(s.lo, s.hi, hit);
     }
-    if seen < id {
-        return upwards(s, id - seen);
+    if s.hi - s.lo < 2 {
+        if seen == id {
+            return end(s, row);
+        }
+        return end(s, hit);
     }
-    downwards(s, seen - id)
+    if seen <= id {
+        return halve(s.at, s.hi, hit);
+    }
+    halve(s.lo, s.at, hit)
 }
 
 // The row with an id among the first n, whose ids ascend; where there is none, the row that is found is not live.

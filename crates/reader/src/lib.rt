@@ -43,11 +43,32 @@ pub fn step_byte<'a>(r: Reader<'a>) -> u8
     byte_at(r.bytes, r.at)
 }
 
+fn value_of(b: u8) -> u32
+    ensures { λ r. ⌜ r ≡ b ⌝ }
+{
+    b as u32
+}
+
+// The number at a position; one of a single byte is read at once, without a call.
+fn near_number(bytes: &[u8], at: usize) -> Number
+    ensures { λ n. ⌜ said n ≡ numberAt (now (bytes .entry)) at ⌝ }
+{
+    if bytes.len() <= at {
+        return number_at(bytes, at);
+    }
+    let first = value_of(bytes[at]);
+    if first < 128 {
+        let next = at + 1;
+        return Number::Value(first, next);
+    }
+    number_at(bytes, at)
+}
+
 // A number, with the position after it.
 pub fn read_number<'a>(r: Reader<'a>) -> Number
     ensures { λ n. ⌜ said n ≡ numberAt (now (r .entry .bytes)) (r .entry .at) ⌝ }
 {
-    number_at(r.bytes, r.at)
+    near_number(r.bytes, r.at)
 }
 
 // The same for functions that have the proof and a position.

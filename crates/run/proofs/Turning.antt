@@ -106,9 +106,9 @@ pub record Few (s ws : List ℕ) (cap : ℕ) : Type 0 where
   pub words : length ws ≤ largest
   pub rows : cap ≤ largest
 
-no-trail-long : length noTrail ≡ 4096
+no-trail-long : length noTrail ≡ 32768
 unfolding noTrail
-no-trail-long = length-replicate {A = ℕ} 4096 0
+no-trail-long = length-replicate {A = ℕ} 32768 0
 
 -- what a check leaves, as a chain of turns
 pub driven-chain : (s : List ℕ) (last n used : ℕ) (ys : List Row) (ws ms : List ℕ) {r : CheckAnswer} {ys′ : List Row} {ws′ ms′ : List ℕ}

@@ -141,9 +141,9 @@ outcomeOf w = outcome (answerOf (w .check .tally .steps) (w .machine .phase)) (w
 unfoldable pub drivenWith : List ℕ → ℕ → ℕ → ℕ → List Row → List ℕ → List ℕ → List ℕ → Outcome
 drivenWith s last n used ys ws ms tr = outcomeOf (ended s last (atFirst n used ys ws ms tr))
 
--- a check has a trail of 4,096
+-- a check has a trail of 32,768
 unfoldable pub noTrail : List ℕ
-noTrail = replicate 4096 0
+noTrail = replicate 32768 0
 
 abbrev pub drivenBy : List ℕ → ℕ → ℕ → ℕ → List Row → List ℕ → List ℕ → Outcome
 drivenBy s last n used ys ws ms = drivenWith s last n used ys ws ms noTrail

@@ -95,6 +95,6 @@ pub fn drive(
     ensures { λ r. ⌜ outcome r (now (rows .exit)) (now (words .exit)) (now (marks .exit))
         ≡ drivenBy (now (proof .entry)) last n used (now (rows .entry)) (now (words .entry)) (now (marks .entry)) ⌝ }
 {
-    let mut trail = [0u32; 4096];
+    let mut trail = [0u32; 32768];
     drive_with(proof, words, rows, marks, &mut trail, last, n, used)
 }

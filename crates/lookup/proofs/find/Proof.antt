@@ -55,7 +55,7 @@ use Rattle.directory.proofs.Row.Laws as R′
 use lib.WfN.{Nat·lt-wfRel}
 use mathlib.Core.WellFounded.{WellFounded, InvImage·wf}
 use denote.Signature.{shrSliceOf}
-use Rattle.lookup.proofs.Search.{Bounded, starts-bounded, narrows, nearer, bounded, Left, left-all, left-more, left-over}
+use Rattle.lookup.proofs.Search.{Bounded, starts-bounded, ahead, narrows, nearer, bounded, Left, left-all, left-more, left-over}
 use Rattle.walks.proofs.Calls.{uint-same, calls-to, calls-to-last}
 use Rattle.lookup.proofs.Probe as P
 use Rattle.lookup.proofs.Probe.Laws as P′
@@ -96,20 +96,19 @@ module _ (ys : List Row) (n id : ℕ) where
     pub left : Left (rowsOf ys) id p (lookUp ys n id)
 
   abbrev Nearer : Upto → Upto → Type 0
-  Nearer s t = s .p .hi - s .p .lo < t .p .hi - t .p .lo
+  Nearer s t = ahead (s .p) < ahead (t .p)
 
   Nearer-wf : WellFounded Nearer
-  Nearer-wf = InvImage·wf (λ (t : Upto). t .p .hi - t .p .lo) (Nat·lt-wfRel .wf)
+  Nearer-wf = InvImage·wf (λ (t : Upto). ahead (t .p)) (Nat·lt-wfRel .wf)
 
 module _ {ys : List Row} {n id : ℕ} where
   next : (t : Upto ys n id) (r : Probe) → IsProbe r (P′.lowered r) → t .p .lo < t .p .hi → r ≡ narrowed (t .p) (getD ys (t .p .at) noRow) id → Upto ys n id
   next t r is less e =
-      let inside = t .bound .inside less in
       record {
         p = r;
         is = is;
-        bound = bounded (t .p) (getD ys (t .p .at) noRow) id (inside .0) (inside .1) (length ys) (t .bound .high) r (rw e (narrows (t .p) (getD ys (t .p .at) noRow) id));
-        left = left-more (rowsOf ys) id (t .p) (lookUp ys n id) (t .left) less (inside .0) (inside .1) r e;
+        bound = bounded (length ys) (t .p) (getD ys (t .p .at) noRow) id (t .bound) less r (rw e (narrows (t .p) (getD ys (t .p .at) noRow) id));
+        left = left-more (rowsOf ys) id (t .p) (lookUp ys n id) (t .left) (t .bound) less r e;
       }
 
 started-at : {ys : List Row} {n id : ℕ} (p : Probe) → IsProbe p (P′.lowered p) → p ≡ started (min n (length ys)) id → Upto ys n id
@@ -226,7 +225,7 @@ module _ {M : Type 1} (𝓤 : URA M) (H : Heap 𝓤) (A : Atoms 𝓤) (W : Given
         drop ! $
         land-last ! (from ! (stop !)) (store ! 16 refl (probe-typed W r _ is)) $
         forget ! 14 refl $ forget ! 8 refl $ forget ! 6 refl $ forget ! 4 refl $ forget ! 2 refl $
-        rotate ! 2 $ again ! (Nearer ys n id) At t (next t r is less e) (nearer (t .p) (h t) id (inside .0) (inside .1) r (rw e (narrows (t .p) (h t) id)))))))
+        rotate ! 2 $ again ! (Nearer ys n id) At t (next t r is less e) (nearer (length ys) (t .p) (h t) id (t .bound) less r (rw e (narrows (t .p) (h t) id)))))))
         (λ over.
         jumps ! $ exec ! C Λ En body.t-5 (atRet En Post) $ fills ! 22 (of-opd ! (var ! 14 refl)) refl (probe-typed W (t .p) _ (t .is)) $
         returns ! (look ! 22 refl) $

@@ -87,9 +87,9 @@ module _ {M : Type 1} {𝓤 : URA M} {H : Heap 𝓤} {A : Atoms 𝓤} (W : Given
 abbrev zeros : List ℕ
 zeros = noTrail
 
-zeros-long : length zeros ≡ 4096
+zeros-long : length zeros ≡ 32768
 unfolding noTrail
-zeros-long = length-replicate {A = ℕ} 4096 0
+zeros-long = length-replicate {A = ℕ} 32768 0
 
 fit-zeros : Room u32 (length zeros)
 fit-zeros = (omega (arith, zeros-long), omega (arith, zeros-long))
@@ -179,15 +179,15 @@ module _ {M : Type 1} (𝓤 : URA M) (H : Heap 𝓤) (A : Atoms 𝓤) (W : Given
 
   -- the array: its elements in memory, and the room that they leave
   abbrev Array-own : Fml
-  Array-own = Array u32 4096 .own (replicate 4096 0) (arrayVal (replicate 4096 (vint w32 0)) ∷ [])
+  Array-own = Array u32 32768 .own (replicate 32768 0) (arrayVal (replicate 32768 (vint w32 0)) ∷ [])
 
-  made-zeros : (b : ℕ) → ent 𝓤 (sep 𝓤 (H .at fullShare (tyArray (lone (u32 .mir)) 4096) b 0 (arrayVal (replicate 4096 (vint w32 0)))) (sem 𝓤 H A Array-own)) (sem 𝓤 H A (cells (mem u32) zeros b 0))
+  made-zeros : (b : ℕ) → ent 𝓤 (sep 𝓤 (H .at fullShare (tyArray (lone (u32 .mir)) 32768) b 0 (arrayVal (replicate 32768 (vint w32 0)))) (sem 𝓤 H A Array-own)) (sem 𝓤 H A (cells (mem u32) zeros b 0))
   unfolding noTrail
-  made-zeros b = made 𝓤 H A W u32 tt 4096 0 (vint w32 0) b
+  made-zeros b = made 𝓤 H A W u32 tt 32768 0 (vint w32 0) b
 
-  freed : (b : ℕ) (zs : List ℕ) → length zs ≡ length zeros → ent 𝓤 (sem 𝓤 H A (cells (mem u32) zs b 0)) (H .room (tyArray (lone (u32 .mir)) 4096) b 0)
+  freed : (b : ℕ) (zs : List ℕ) → length zs ≡ length zeros → ent 𝓤 (sem 𝓤 H A (cells (mem u32) zs b 0)) (H .room (tyArray (lone (u32 .mir)) 32768) b 0)
   freed b zs e =
-      qed W (‵ (cells (mem u32) zs b 0) ∷ []) {P = H .room (tyArray (lone (u32 .mir)) 4096) b 0} (
+      qed W (‵ (cells (mem u32) zs b 0) ∷ []) {P = H .room (tyArray (lone (u32 .mir)) 32768) b 0} (
       use1 W (‵ (froom (tyArray (lone (u32 .mir)) (length zs)) b 0)) (emptied 𝓤 H A W u32 zs b 0) $
       rewrite ! 0 (λ (k : ℕ). ‵ (froom (tyArray (lone (u32 .mir)) k) b 0)) (omega (arith, e, zeros-long)) refl $ done !)
 
@@ -207,9 +207,9 @@ module _ {M : Type 1} (𝓤 : URA M) (H : Heap 𝓤) (A : Atoms 𝓤) (W : Given
       pass1 ! (init ! 20 refl (tt, record { fits = n-fits })) $ pass1 ! (init ! 18 refl (tt, record { fits = used-fits })) $ pass0 ! $
       -- the array
       owned ! u32 (Is u32) (uint-makes 𝓤 H A W w32) 0 (vint w32 0 ∷ []) (refl, lit< tt) $
-      use1 W (‵ Array-own) (array-repeat 𝓤 H A W u32 (uint-copy 𝓤 H A W w32) 4096 0 (vint w32 0)) $
-      peeks ! (Array u32 4096) (Is (Array u32 4096)) (shows 𝓤 H A (Array u32 4096)) (replicate 4096 0) (arrayVal (replicate 4096 (vint w32 0)) ∷ []) (λ is-all.
-      fills ! 17 (rep ! 4096 (lit ! tt)) refl (array-lawful 𝓤 H A W u32 (uint-lawful 𝓤 H A W w32) 4096 .typed (replicate 4096 0) (arrayVal (replicate 4096 (vint w32 0)) ∷ []) is-all .0) $
+      use1 W (‵ Array-own) (array-repeat 𝓤 H A W u32 (uint-copy 𝓤 H A W w32) 32768 0 (vint w32 0)) $
+      peeks ! (Array u32 32768) (Is (Array u32 32768)) (shows 𝓤 H A (Array u32 32768)) (replicate 32768 0) (arrayVal (replicate 32768 (vint w32 0)) ∷ []) (λ is-all.
+      fills ! 17 (rep ! 32768 (lit ! tt)) refl (array-lawful 𝓤 H A W u32 (uint-lawful 𝓤 H A W w32) 32768 .typed (replicate 32768 0) (arrayVal (replicate 32768 (vint w32 0)) ∷ []) is-all .0) $
       move ! (17 ∷ 0 ∷ []) $ use2 W (‵ (cells (mem u32) zeros (l ls 8) 0)) (made-zeros (l ls 8)) $ rotate ! 1 $
       -- the slices that are lent
       fills ! 14 (addr ! (from ! (fld ! refl (hop ! (look-in ! 27 (sub ! 0 refl (whole !))) (stop !))))) refl (tt, tt) $
