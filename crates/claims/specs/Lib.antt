@@ -1,1 +1,3 @@
+pub mod Bounded
 pub mod Prepared
+pub mod Written

@@ -1,7 +1,7 @@
 // What comes before a proof's first step: refusals 1 to 9, and in the lent words the formula that the claim is about.
+use crate::bounded::write_bounded;
 use crate::claim::Claim;
-use bounded_words::write_bounded;
-use claim_words::write_hard;
+use crate::rows::write_hard;
 use lent::fits;
 use marks::clear_bytes;
 use scope::FormulaSize;

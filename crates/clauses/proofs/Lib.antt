@@ -1,1 +1,2 @@
+pub mod ListTurn
 pub mod laws

@@ -1,5 +1,7 @@
 -- Laws, for other crates to use.
-pub mod Known
+pub mod Blocks
 pub mod Position
+pub mod Walked
+pub mod Known
 pub mod Whole
 pub mod Writable

@@ -1,1 +1,5 @@
+pub mod Before
+pub mod Blocks
+pub mod Fits
+pub mod Walked
 pub mod Writable

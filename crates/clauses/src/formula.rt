@@ -1,9 +1,9 @@
 // The whole formula.
-use before_clauses::write_before;
+use crate::before::write_before;
+use crate::walk::write_constraints;
 use constraint::Head;
 use sink::Job;
 use sink::Sink;
-use walk_clauses::write_constraints;
 ghost use Prim.Native.Nat.{_≤_};
 ghost use Rattle.instance.specs.Answers.{instanceOf};
 ghost use Rattle.sink.specs.Run.{Ran};

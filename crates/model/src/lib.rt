@@ -2,5 +2,6 @@
 // clauses that it falsifies.
 mod operations;
 mod size;
+mod truth;
 
 pub use operations::evaluate;

@@ -1,10 +1,10 @@
 // The operation that evaluates a model. It asks nothing of the caller.
 use crate::size::Form;
 use crate::size::form_of;
+use crate::truth::truth_of;
 use constraint::Head;
 use evaluation::Evaluation;
 use evaluation::judge;
-use model_truth::truth_of;
 use sizes::Measured;
 use sizes::measure;
 use sizing::Size;

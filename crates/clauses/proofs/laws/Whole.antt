@@ -21,10 +21,10 @@ use Rattle.list_nodes.specs.Ground.{layoutOf}
 use Rattle.items.specs.Written.{Room, Wrote}
 use Rattle.items.proofs.laws.Written.{room-first, room-rest}
 use Rattle.clauses.specs.Writable.{Writable, formulaLines}
-use Rattle.before_clauses.specs.Before.{formula-parts}
-use Rattle.before_clauses.specs.Blocks.{beforeItems, Begun}
+use Rattle.clauses.specs.Before.{formula-parts}
+use Rattle.clauses.specs.Blocks.{beforeItems, Begun}
 use Rattle.clauses.proofs.laws.Known.{known-durations, known-formula}
-use Rattle.walk_clauses.specs.Walked.{itemsOf, Walkable}
+use Rattle.clauses.specs.Walked.{itemsOf, Walkable}
 
 module _ {s d te tg list us : List ℕ} {h : Head} (w : Writable s d te tg list h) (u : Filled us (usersIn te (h .events))) where
   -- the variables of the blocks start here, and those of the constraints after them

@@ -26,8 +26,8 @@ use Rattle.sink.specs.declared.Sink.{Sink}
 use Rattle.model.specs.declared.size.Form.{Form}
 use Rattle.evaluation.specs.declared.Evaluation.{Evaluation}
 use Rattle.evaluation.specs.Evaluated.{judgedOf}
-use Rattle.model_truth.specs.Truth.{TruthOf}
-use Rattle.model_truth.proofs.laws.Truth.{clause-false, clauses-true}
+use Rattle.model.specs.Truth.{TruthOf}
+use Rattle.model.proofs.laws.Truth.{clause-false, clauses-true}
 use Rattle.model.specs.Answers.{Decoded, formThen, FormOf, EvaluatedAs}
 
 module _ (n : ℕ) (m : List ℕ) where

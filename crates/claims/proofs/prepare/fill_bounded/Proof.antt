@@ -2,7 +2,7 @@
 use borrow.Author.Needs.{needs}
 use mathlib.Core.Path.{refl, sym, _∙_}
 use native.Mathlib.Omega.{arith}
-use Rattle.bounded_words.proofs.laws.Bounded.{bounding}
+use Rattle.claims.proofs.laws.Bounded.{bounding}
 use Rattle.claims.proofs.laws.Prepared.{bounded-refused, bounded-short, bounded-in, left-same}
 use Rattle.claims.proofs.prepare.fill_bounded.Statement.{statement}
 use Rattle.claims.proofs.prepare.fill_bounded.Tie as tie

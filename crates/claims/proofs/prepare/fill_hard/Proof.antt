@@ -2,7 +2,7 @@
 use borrow.Author.Needs.{needs}
 use mathlib.Core.Path.{refl, sym, _∙_}
 use native.Mathlib.Omega.{arith}
-use Rattle.bounded_words.proofs.laws.Bounded.{hard-writable}
+use Rattle.claims.proofs.laws.Bounded.{hard-writable}
 use Rattle.claims.proofs.laws.Prepared.{hard-refused, hard-short, hard-in, left-same}
 use Rattle.claims.proofs.prepare.fill_hard.Statement.{statement}
 use Rattle.claims.proofs.prepare.fill_hard.Tie as tie

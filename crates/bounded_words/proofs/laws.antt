@@ -1,3 +1,0 @@
--- Laws, for other crates to use.
-pub mod Tails
-pub mod Bounded

@@ -1,4 +1,0 @@
-// The counted lists of a constraint: each is filled, and written.
-mod lists;
-
-pub use lists::write_lists;
