@@ -16,7 +16,7 @@ pub mod judge;
 mod judge_block;
 pub mod lines;
 mod roomy;
-mod store;
+pub mod store;
 
 // What a run over the formula is for: the text's length; its hard lines; its soft lines; the hard clauses as words; a model's
 // lowest false clause and falsified weight; the tail's rows as words.

@@ -6,10 +6,20 @@ ghost use lib.ListN.{length};
 ghost use Rattle.scope.specs.Text.{newline, decimal, space, literalText, line};
 ghost use Rattle.digits.specs.Spelled.{Spelt};
 ghost use Rattle.sink.specs.Run.{Ran, out, put};
-use crate::roomy::end_line;
 use digits::spelled::Spelled;
 use digits::spelled::put_spelled;
 use digits::spelled::put_spelled_literal;
+
+// What ends a line.
+pub fn end_line(text: &mut [u8], at: usize) -> usize
+    requires { ⌜ at + 2 ≤ length (now text) ⌝ }
+    ensures { λ r. ⌜ Ran put (48 ∷ newline) (out at (now (text .entry))) (out r (now (text .exit))) ⌝ }
+    ensures { λ r. ⌜ r ≤ at + 2 ⌝ }
+{
+    text[at] = 48;
+    text[at + 1] = 10;
+    at + 2
+}
 
 // The weight of a line and its first literal, with its number.
 fn first_literal(text: &mut [u8], at: usize, top: Spelled, k: u32, a: Spelled) -> usize

@@ -1,28 +1,16 @@
 // A block as text, where there is room for all of it and the weight is spelt once.
 ghost use mathlib.Core.Path.{_≡_};
 ghost use mathlib.Core.Bool.{true};
-ghost use mathlib.Core.List.{_∷_};
 ghost use Prim.Native.Nat.{_+_, _*_, _≤_};
 ghost use lib.ListN.{length};
-ghost use Rattle.scope.specs.Text.{newline};
 ghost use Rattle.digits.specs.Spelled.{Spelt};
 ghost use Rattle.sink.specs.Run.{Ran, out, put};
 ghost use Rattle.sink.specs.Block.{opened, byWord, byWords};
 ghost use Rattle.sink.specs.Parts.{textParts};
+use crate::lines::end_line;
 use digits::fast_literal;
 use digits::spelled::Spelled;
 use digits::spelled::put_spelled;
-
-// What ends a line.
-pub fn end_line(text: &mut [u8], at: usize) -> usize
-    requires { ⌜ at + 2 ≤ length (now text) ⌝ }
-    ensures { λ r. ⌜ Ran put (48 ∷ newline) (out at (now (text .entry))) (out r (now (text .exit))) ⌝ }
-    ensures { λ r. ⌜ r ≤ at + 2 ⌝ }
-{
-    text[at] = 48;
-    text[at + 1] = 10;
-    at + 2
-}
 
 // The start of a hard line, where a word is the first of its clause.
 fn roomy_start(text: &mut [u8], at: usize, top: Spelled, first: bool) -> usize

@@ -5,8 +5,8 @@ use native.Mathlib.Omega.{arith}
 use lib.ListN.{length-set}
 use Rattle.sink.proofs.laws.Run.{ran-sets}
 use borrow.Author.Needs.{needs}
-use Rattle.sink.proofs.roomy.end_line.Statement.{statement}
-use Rattle.sink.proofs.roomy.end_line.Tie as tie
+use Rattle.sink.proofs.lines.end_line.Statement.{statement}
+use Rattle.sink.proofs.lines.end_line.Tie as tie
 
 slice-write-text : tie.Need-slice-write-text
 slice-write-text c = search needs
