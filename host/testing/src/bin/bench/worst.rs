@@ -41,7 +41,7 @@ pub fn table(bench: &Bench) {
     let school = generated(bench.scale.shown[0]);
     let clauses = Clauses::of(&school.instance, BOUND);
     let sizes = engine::sizes(&school.file, BOUND).expect("an accepted file");
-    // As many literals in all, in clauses just above a trail of 4,096 and in the longest.
+    // As many literals in all, in clauses of 5,000 and in the longest.
     let literals = 20_000_000 / part;
     for length in [5_000, sizes.variables as usize] {
         let proof = long_clauses(&clauses, length, (literals / length).max(2));
