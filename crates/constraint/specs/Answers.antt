@@ -24,6 +24,8 @@ kindOf l (Kind.Spread f) = kinds.spread (leading (f .events) l) (f .group) (f .l
 kindOf l (Kind.Busy f) = kinds.busy (f .resource) (f .group) (f .lo) (f .hi)
 kindOf l (Kind.Cluster f) = kinds.cluster (f .resource) (leading (f .groups) l) (f .lo) (f .hi)
 kindOf l (Kind.Idle f) = kinds.idle (f .resource) (leading (f .groups) l) (f .lo) (f .hi)
+kindOf l (Kind.Distribute f) = kinds.distribute (f .event) (f .length) (f .lo) (f .hi)
+kindOf l (Kind.Lengths f) = kinds.lengths (f .event) (f .shortest) (f .longest)
 
 abbrev pub constraintOf : List ℕ → Constraint → kinds.Constraint
 constraintOf l c = record { weight = c .weight; kind = kindOf l (c .kind) }

@@ -1,7 +1,7 @@
 -- The bounds of a kind as written: fixed for the kinds without lo and hi; in a busy limit a count of 0 is free.
 use Prim.Native.Nat.{ℕ}
 use mathlib.Core.Bool.{Bool, true, false}
-use Rattle.scope.specs.Kinds.{Kind, clash, unavailable, preferred, split, spread, busy, cluster, idle}
+use Rattle.scope.specs.Kinds.{Kind, clash, unavailable, preferred, split, spread, busy, cluster, idle, distribute, lengths}
 
 abbrev pub lowOf : Kind → ℕ
 lowOf (clash r) = 0
@@ -12,6 +12,8 @@ lowOf (spread vs g lo hi) = lo
 lowOf (busy r g lo hi) = lo
 lowOf (cluster r hs lo hi) = lo
 lowOf (idle r hs lo hi) = lo
+lowOf (distribute e n lo hi) = lo
+lowOf (lengths e a b) = 0
 
 abbrev pub highOf : Kind → ℕ
 highOf (clash r) = 1
@@ -22,6 +24,8 @@ highOf (spread vs g lo hi) = hi
 highOf (busy r g lo hi) = hi
 highOf (cluster r hs lo hi) = hi
 highOf (idle r hs lo hi) = hi
+highOf (distribute e n lo hi) = hi
+highOf (lengths e a b) = 0
 
 abbrev pub freeOf : Kind → Bool
 freeOf (clash r) = false
@@ -32,3 +36,5 @@ freeOf (spread vs g lo hi) = false
 freeOf (busy r g lo hi) = true
 freeOf (cluster r hs lo hi) = false
 freeOf (idle r hs lo hi) = false
+freeOf (distribute e n lo hi) = false
+freeOf (lengths e a b) = false

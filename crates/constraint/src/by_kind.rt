@@ -2,8 +2,10 @@
 use crate::busy::busy_of;
 use crate::clash::clash_of;
 use crate::cluster::cluster_of;
+use crate::distribute::distribute_of;
 use crate::idle::idle_of;
 use crate::kinds::Kind;
+use crate::lengths::lengths_of;
 use crate::preferred::preferred_of;
 use crate::split::split_of;
 use crate::spread::spread_of;
@@ -27,6 +29,8 @@ pub fn kind_of(kind: u32, w: Flat) -> Kind
         5 => spread_of(w),
         6 => busy_of(w),
         7 => cluster_of(w),
-        _ => idle_of(w),
+        8 => idle_of(w),
+        9 => distribute_of(w),
+        _ => lengths_of(w),
     }
 }

@@ -2,6 +2,8 @@
 // length. lo and hi are as written.
 use crate::busy::Busy;
 use crate::clash::Clash;
+use crate::distribute::Distribute;
+use crate::lengths::Lengths;
 use crate::over_groups::OverGroups;
 use crate::preferred::Preferred;
 use crate::split::Split;
@@ -23,6 +25,8 @@ pub enum Kind {
     Busy(Busy),
     Cluster(OverGroups),
     Idle(OverGroups),
+    Distribute(Distribute),
+    Lengths(Lengths),
 }
 
 // The weight 0 means hard.
@@ -98,6 +102,16 @@ pub fn bounds_of(k: Kind) -> Bounds
         Kind::Idle(f) => Bounds {
             lo: f.lo,
             hi: f.hi,
+            free: false,
+        },
+        Kind::Distribute(f) => Bounds {
+            lo: f.lo,
+            hi: f.hi,
+            free: false,
+        },
+        Kind::Lengths(_) => Bounds {
+            lo: 0,
+            hi: 0,
             free: false,
         },
     }

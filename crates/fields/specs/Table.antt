@@ -10,21 +10,28 @@ unfoldable pub firstOf : Totals → ℕ → Field
 firstOf n k =
     cond (eqb k 3) (Field.Reference (n .events))
     (cond (eqb k 4) (Field.Reference (n .events))
-    (cond (eqb k 5) (Field.List (n .events)) (Field.Reference (n .resources))))
+    (cond (eqb k 5) (Field.List (n .events))
+    (cond (eqb k 9) (Field.Reference (n .events))
+    (cond (eqb k 10) (Field.Reference (n .events)) (Field.Reference (n .resources))))))
 
 unfoldable pub secondOf : Totals → ℕ → Field
 secondOf n k =
     cond (eqb k 4) (Field.Number 0 255)
     (cond (eqb k 7) (Field.List (n .groups))
-    (cond (eqb k 8) (Field.List (n .groups)) (Field.Reference (n .groups))))
+    (cond (eqb k 8) (Field.List (n .groups))
+    (cond (eqb k 9) (Field.Number 1 (n .times))
+    (cond (eqb k 10) (Field.Number 1 (n .times)) (Field.Reference (n .groups))))))
+
+unfoldable pub thirdOf : Totals → ℕ → Field
+thirdOf n k = cond (eqb k 10) (Field.Number 1 (n .times)) (Field.Number 0 255)
 
 -- the field after i others
 unfoldable pub fieldAt : Totals → ℕ → ℕ → Field
-fieldAt n k i = cond (eqb i 0) (firstOf n k) (cond (eqb i 1) (secondOf n k) (Field.Number 0 255))
+fieldAt n k i = cond (eqb i 0) (firstOf n k) (cond (eqb i 1) (secondOf n k) (cond (eqb i 2) (thirdOf n k) (Field.Number 0 255)))
 
 -- how many fields a kind has
 unfoldable pub countOf : ℕ → ℕ
-countOf k = cond (eqb k 1) 1 (cond (eqb k 2) 2 (cond (eqb k 3) 2 (cond (eqb k 4) 3 4)))
+countOf k = cond (eqb k 1) 1 (cond (eqb k 2) 2 (cond (eqb k 3) 2 (cond (eqb k 4) 3 (cond (eqb k 10) 3 4))))
 
 -- j fields, after i others
 unfoldable pub fieldsFrom : Totals → (k i j : ℕ) → List Field

@@ -21,7 +21,7 @@ pub enum FlatRead {
     Refused(Refusal),
 }
 
-// The fields of a kind from 1 to 8. The list stands in the store.
+// The fields of a kind from 1 to 10. The list stands in the store.
 pub fn fields_at(s: &[u8], at: usize, kind: u32, t: Totals, list: &mut [u16]) -> FlatRead
     requires { ⌜ length (now list) ≡ 2048 ⌝ }
     requires { ⌜ t .events ≤ 2048 ⌝ }

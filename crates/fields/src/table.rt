@@ -1,10 +1,11 @@
 // Which fields each kind has, in their order: data, so one table in one place for all kinds. The law `row-right` says that
 // they are the rows of the table in the definitions.
 ghost use mathlib.Core.Path.{_≡_};
-ghost use Rattle.fields.specs.Table.{firstOf, secondOf, fieldAt, countOf};
+ghost use Rattle.fields.specs.Table.{firstOf, secondOf, thirdOf, fieldAt, countOf};
 
 // How many things there are to refer to.
 pub struct Totals {
+    pub times: u32,
     pub events: u32,
     pub resources: u32,
     pub groups: u32,
@@ -24,6 +25,8 @@ fn first(kind: u32, t: Totals) -> Field
         3 => Field::Reference(t.events),
         4 => Field::Reference(t.events),
         5 => Field::List(t.events),
+        9 => Field::Reference(t.events),
+        10 => Field::Reference(t.events),
         _ => Field::Reference(t.resources),
     }
 }
@@ -35,17 +38,29 @@ fn second(kind: u32, t: Totals) -> Field
         4 => Field::Number(0, 255),
         7 => Field::List(t.groups),
         8 => Field::List(t.groups),
+        9 => Field::Number(1, t.times),
+        10 => Field::Number(1, t.times),
         _ => Field::Reference(t.groups),
     }
 }
 
-// The field after i others; what stands after the second is a bound.
+fn third(kind: u32, t: Totals) -> Field
+    ensures { λ r. ⌜ r ≡ thirdOf t kind ⌝ }
+{
+    match kind {
+        10 => Field::Number(1, t.times),
+        _ => Field::Number(0, 255),
+    }
+}
+
+// The field after i others; what stands after the third is a bound.
 pub fn field_of(kind: u32, i: u32, t: Totals) -> Field
     ensures { λ r. ⌜ r ≡ fieldAt t kind i ⌝ }
 {
     match i {
         0 => first(kind, t),
         1 => second(kind, t),
+        2 => third(kind, t),
         _ => Field::Number(0, 255),
     }
 }
@@ -59,6 +74,7 @@ pub fn count_of(kind: u32) -> u32
         2 => 2,
         3 => 2,
         4 => 3,
+        10 => 3,
         _ => 4,
     }
 }

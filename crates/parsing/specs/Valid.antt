@@ -1,6 +1,7 @@
--- The fields of a kind within their limits: each is a reference to something, an ascending list of them, or a bound up to 255.
+-- The fields of a kind within their limits: each is a reference to something, an ascending list of them, a length from 1 to T, or a
+-- bound up to 255.
 use Prim.Native.Nat.{ℕ, _≤_}
-use Rattle.scope.specs.Kinds.{Kind, clash, unavailable, preferred, split, spread, busy, cluster, idle}
+use Rattle.scope.specs.Kinds.{Kind, clash, unavailable, preferred, split, spread, busy, cluster, idle, distribute, lengths}
 use Rattle.scope.specs.Instance.{Counts}
 use Rattle.parsing.specs.Numbers.{Ascending}
 
@@ -28,3 +29,5 @@ InRange n (spread vs g lo hi) = Ascending (n .events) 0 vs × OneOf (n .groups) 
 InRange n (busy r g lo hi) = OneOf (n .resources) r × OneOf (n .groups) g × BoundsIn lo hi
 InRange n (cluster r hs lo hi) = OneOf (n .resources) r × Ascending (n .groups) 0 hs × BoundsIn lo hi
 InRange n (idle r hs lo hi) = OneOf (n .resources) r × Ascending (n .groups) 0 hs × BoundsIn lo hi
+InRange n (distribute e l lo hi) = OneOf (n .events) e × Within 1 (n .times) l × BoundsIn lo hi
+InRange n (lengths e a b) = OneOf (n .events) e × Within 1 (n .times) a × Within 1 (n .times) b

@@ -1,15 +1,19 @@
--- Demands 2 and 3, and what is owed for the two operations beside them, as types over the definitions. The upper crates prove
--- them.
+-- Demands 2 and 3, what is owed for the two operations beside them, and what kinds 9 and 10 count, as types over the definitions.
+-- The upper crates prove them.
 use mathlib.Core.Path.{_≡_}
-use mathlib.Core.Bool.{true}
+use mathlib.Core.Bool.{Bool, true, _||_}
 use mathlib.Core.Logic.{_↔_}
-use mathlib.Core.List.{List}
-use Prim.Native.Nat.{ℕ, _-_, _≤_, _<_}
+use mathlib.Core.List.{List, map}
+use Prim.Native.Nat.{ℕ, _+_, _-_, _*_, _≤_, _<_}
 use lib.ListN.{length, getD}
+use lib.Dec.{ltb, eqb}
 use Rattle.scope.specs.Parsed.{got, answered}
+use Rattle.scope.specs.Kinds.{distribute, lengths, Atom, Listed, ofLength, ofLengthOutside, rulesOf}
 use Rattle.scope.specs.Instance.{Instance, parse}
-use Rattle.scope.specs.Cnf.{bit, clauses}
-use Rattle.scope.specs.Formula.{variables, hardOf, mostVariables}
+use Rattle.scope.specs.Cnf.{gate, hardClauses, bit, clauses}
+use Rattle.scope.specs.Score.{deviation, deviations}
+use Rattle.scope.specs.Subevents.{subevents}
+use Rattle.scope.specs.Formula.{nodeGate, variables, hardOf, words, mostVariables}
 use Rattle.scope.specs.Operations.{scoreOf, decodeOf, part, falsifiedSoft, checkOf, checkHardOf, bestOf, Lent}
 use Rattle.scope.specs.Refutation.{NoTimetable, NoneAtAll}
 use Rattle.scope.specs.declared.Objective.{Objective}
@@ -77,3 +81,23 @@ pub record IsBest (file : List ℕ) (i : Instance) (m : List ℕ) (w : Objective
 abbrev pub DemandBest : Type 0
 DemandBest = (file : List ℕ) (i : Instance) (m proof : List ℕ) (l : Lent) (w : Objective) (n : ℕ) → Accepted file i
     → bestOf file m proof l ≡ answered (w, n) → IsBest file i m w
+
+-- The list of kind 9 or 10 in T times, where n is the longest length that it speaks of
+pub record ListedByTime (T n : ℕ) (l : Listed) : Type 0 where
+  -- "The counted list of both kinds has one member for each time."
+  pub members : length (l .members) ≡ T
+  -- variables beside the counter's
+  pub variables : length (l .nodes) ≤ 4 * ((T + 1) * (T + 1))
+  -- words of their clauses: they grow with T × n
+  pub words : (num : Atom → ℕ) (v : ℕ) → words (hardClauses v (map gate (map (nodeGate num v) (l .nodes)))) ≤ (T + 1) * (3 * n + 19)
+
+-- Kinds 9 and 10
+pub record DemandLengths : Type 0 where
+  -- "Kind 9 (event, length 1..T, lo, hi) counts subevents of that length."
+  pub of-length : (T : ℕ) (us group : ℕ → List ℕ) (τ : Atom → Bool) (e n lo hi : ℕ) → 1 ≤ n
+      → deviations τ (rulesOf T us group (distribute e n lo hi)) ≡ deviation lo hi (subevents T τ e (eqb n))
+  -- "Kind 10 (event, shortest, longest, each 1..T) counts subevents whose length lies outside, allowed 0 to 0."
+  pub outside : (T : ℕ) (us group : ℕ → List ℕ) (τ : Atom → Bool) (e a b : ℕ) → 1 ≤ a
+      → deviations τ (rulesOf T us group (lengths e a b)) ≡ deviation 0 0 (subevents T τ e (λ n. ltb n a || ltb b n))
+  pub list : (T e n : ℕ) → ListedByTime T n (ofLength T e n)
+  pub list-outside : (T e a b : ℕ) → 1 ≤ a → a ≤ b → ListedByTime T b (ofLengthOutside T e a b)

@@ -1,5 +1,5 @@
--- The examples of document 01 that are marked P, file A's listing, and its limits, as one table under one theorem.
--- A case is what the definitions compute and what the paper says, both as numbers.
+-- The examples of document 01 that are marked P, file A's listing, its limits, and those of kinds 9 and 10, as one table under one
+-- theorem. A case is what the definitions compute and what the paper says, both as numbers.
 use mathlib.Core.Path.{_≡_, refl}
 use mathlib.Core.Bool.{Bool, false, cond, _||_}
 use mathlib.Core.List.{List, [], _∷_, _++_, map, flatMap}
@@ -8,11 +8,12 @@ use lib.ListN.{drop, replicate}
 use lib.Dec.{eqb, ltb}
 use Rattle.scope.specs.Parsed.{Parsed, got, refused, Answer, answered, refusal, repeat}
 use Rattle.scope.specs.Number.{group, front, within, number, limited, reference, references, listed}
-use Rattle.scope.specs.Kinds.{Atom, Y, S, X, Rule, rule, Listed, atom, entriesNodes, entriesMembers, entries, spread, limit, upTo, usesAt, from, member, usersFrom, outside, groupAt, gapsAfter, gaps, countedOf, rulesOf, longest}
+use Rattle.scope.specs.Kinds.{Atom, Y, S, X, Rule, rule, Listed, atom, entriesNodes, entriesMembers, entries, spread, limit, upTo, usesAt, from, member, usersFrom, outside, groupAt, gapsAfter, gaps, goingOn, span, timeByTime, ofLength, ofLengthOutside, countedOf, rulesOf, longest}
 use Rattle.scope.specs.Instance.{eventAt, fieldsRead, fieldsTable, ended, constraintAt, sizesAt, groupsAt, constraintsAt, parse}
-use Rattle.scope.specs.Cnf.{Item, gate, bit, lit, clause, clauses, hasTrue, withoutFalse, tidy, pairs, gateClauses, hardClauses, softUnits, falsified}
-use Rattle.scope.specs.Score.{trues, any, all, deviation, charged, valuesAfter, count, deviations, truth, eventRight, firstWrong, infeasibilityOf, objectiveOf, firstAbove}
-use Rattle.scope.specs.Formula.{noRow, ones, row, counter, lastRow, lowUnits, highUnits, shortUnits, boundItems, countInto, ruleItems, rulesItems, starts, uses, durationRules, constraintRules, formula, variables, hardOf, softOf, tail, bounded, boundedVariables, boundedHard, words}
+use Rattle.scope.specs.Cnf.{pos, Item, gate, bit, lit, clause, clauses, hasTrue, withoutFalse, tidy, pairs, gateClauses, hardClauses, softUnits, falsified}
+use Rattle.scope.specs.Score.{layoutAt, varAt, trues, any, all, deviation, charged, valuesAfter, count, deviations, truth, eventRight, firstWrong, infeasibilityOf, objectiveOf, firstAbove}
+use Rattle.scope.specs.Subevents.{before, subevents}
+use Rattle.scope.specs.Formula.{nodeGate, noRow, ones, row, counter, lastRow, lowUnits, highUnits, shortUnits, boundItems, countInto, ruleItems, rulesItems, starts, uses, durationRules, constraintRules, formula, variables, hardOf, softOf, tail, bounded, boundedVariables, boundedHard, words}
 use Rattle.scope.specs.Text.{digits, literalText, line, sumWeights, top, headerLine, text}
 use Rattle.scope.specs.Steps.{numbers, stepAt, literalsOk, wellFormed, hintsShow, deleted}
 use Rattle.scope.specs.PlainRun.{perform, run, start, plainRun}
@@ -128,6 +129,49 @@ six = rule (limit 3 5 []) (entries (map atom (usesAt 1 (upTo 6))))
 idleSix : Listed
 idleSix = entries (gaps (usesAt 1 (upTo 6)))
 
+-- a file of one event that takes d of T times, with n constraints
+lengthFile : (T d n : ℕ) → List ℕ → List ℕ
+lengthFile T d n cs = T ∷ 0x01 ∷ 0x00 ∷ d ∷ 0x00 ∷ 0x00 ∷ n ∷ cs
+
+-- "two doubles and a single" in six times: two subevents of length 2, one of length 1, none outside 1 to 2
+doubles : List ℕ
+doubles =
+    lengthFile 6 5 3
+    (0x09 ∷ 0x00 ∷ 0x01 ∷ 0x02 ∷ 0x02 ∷ 0x02 ∷ 0x09 ∷ 0x00 ∷ 0x01 ∷ 0x01 ∷ 0x01 ∷ 0x01 ∷ 0x0A ∷ 0x00 ∷ 0x01 ∷ 0x01 ∷ 0x02 ∷ [])
+
+-- one constraint of kind 9 at weight 1, of kind 9 hard, of kind 10 hard
+softNine : (T d n lo hi : ℕ) → List ℕ
+softNine T d n lo hi = lengthFile T d 1 (0x09 ∷ 0x01 ∷ 0x01 ∷ n ∷ lo ∷ hi ∷ [])
+
+readNine : (n lo hi : ℕ) → List ℕ
+readNine n lo hi = sizeSaid (readOf (lengthFile 2 1 1 (0x09 ∷ 0x00 ∷ 0x01 ∷ n ∷ lo ∷ hi ∷ [])))
+
+readTen : (a b : ℕ) → List ℕ
+readTen a b = sizeSaid (readOf (lengthFile 2 1 1 (0x0A ∷ 0x00 ∷ 0x01 ∷ a ∷ b ∷ [])))
+
+-- the clauses of a list's nodes from the variable v on, one event in T times, each clause ended by a 0
+nodeListing : (T v : ℕ) → Listed → List ℕ
+nodeListing T v l =
+    flatMap (λ c. c ++ 0 ∷ []) (hardClauses v (map gate (map (nodeGate (λ a. pos (varAt T (layoutAt T 1 0) a)) v) (l .nodes))))
+
+nineListing : List ℕ
+nineListing =
+    4 ∷ 33 ∷ 0 ∷ 11 ∷ 33 ∷ 0 ∷ 5 ∷ 10 ∷ 32 ∷ 0 ∷ 6 ∷ 35 ∷ 0 ∷ 13 ∷ 35 ∷ 0 ∷ 7 ∷ 12 ∷ 34 ∷ 0 ∷ 37 ∷ 0 ∷ 8 ∷ 39 ∷ 0
+    ∷ 32 ∷ 39 ∷ 0 ∷ 35 ∷ 39 ∷ 0 ∷ 9 ∷ 33 ∷ 34 ∷ 38 ∷ 0 ∷ 10 ∷ 41 ∷ 0 ∷ 34 ∷ 41 ∷ 0 ∷ 37 ∷ 41 ∷ 0
+    ∷ 11 ∷ 35 ∷ 36 ∷ 40 ∷ 0 ∷ 12 ∷ 43 ∷ 0 ∷ 36 ∷ 43 ∷ 0 ∷ 13 ∷ 37 ∷ 42 ∷ 0 ∷ []
+
+tenListing : List ℕ
+tenListing =
+    4 ∷ 21 ∷ 0 ∷ 9 ∷ 21 ∷ 0 ∷ 5 ∷ 8 ∷ 20 ∷ 0 ∷ 23 ∷ 0 ∷ 22 ∷ 25 ∷ 0 ∷ 23 ∷ 24 ∷ 0 ∷ 20 ∷ 26 ∷ 0 ∷ 25 ∷ 26 ∷ 0
+    ∷ 21 ∷ 24 ∷ 27 ∷ 0 ∷ 6 ∷ 29 ∷ 0 ∷ 26 ∷ 29 ∷ 0 ∷ 7 ∷ 27 ∷ 28 ∷ 0 ∷ 30 ∷ 0 ∷ 22 ∷ 32 ∷ 0 ∷ 31 ∷ 32 ∷ 0
+    ∷ 23 ∷ 30 ∷ 33 ∷ 0 ∷ 8 ∷ 35 ∷ 0 ∷ 32 ∷ 35 ∷ 0 ∷ 9 ∷ 33 ∷ 34 ∷ 0 ∷ []
+
+-- an event that takes all times of some, and starts at times 1, 3 and 4
+threeStarts : Atom → Bool
+threeStarts (Y e t) = ltb 0 t
+threeStarts (S e t) = eqb t 1 || eqb t 3 || eqb t 4
+threeStarts (X r t) = false
+
 pub record Case : Type 0 where
   pub computed : List ℕ
   pub expected : List ℕ
@@ -201,9 +245,32 @@ cases =
     ∷ shows (sizeSaid (readOf (listFile 255))) (0 ∷ 1 ∷ 1 ∷ 1 ∷ 255 ∷ 1 ∷ [])
     ∷ shows (sizeSaid (readOf (listFile 256))) (4 ∷ 264 ∷ [])
     ∷ shows (checkA 4096 []) (7 ∷ 4096 ∷ [])
+    -- two doubles and a single, the last after a gap; a triple and a double: one double, one single and one length outside are wrong
+    ∷ shows (scoreSaid (scoreOf doubles (1 ∷ 1 ∷ 1 ∷ 1 ∷ 0 ∷ 1 ∷ 1 ∷ 0 ∷ 1 ∷ 0 ∷ 0 ∷ 1 ∷ []))) (0 ∷ 0 ∷ 0 ∷ [])
+    ∷ shows (scoreSaid (scoreOf doubles (1 ∷ 1 ∷ 1 ∷ 0 ∷ 1 ∷ 1 ∷ 1 ∷ 0 ∷ 0 ∷ 0 ∷ 1 ∷ 0 ∷ []))) (0 ∷ 3 ∷ 0 ∷ [])
+    -- a double at the last two times; two singles side by side are no double; a length above the duration counts 0
+    ∷ shows (scoreSaid (scoreOf (softNine 6 2 2 1 1) (0 ∷ 0 ∷ 0 ∷ 0 ∷ 1 ∷ 1 ∷ 0 ∷ 0 ∷ 0 ∷ 0 ∷ 1 ∷ 0 ∷ []))) (0 ∷ 0 ∷ 0 ∷ [])
+    ∷ shows (scoreSaid (scoreOf (softNine 2 2 2 1 1) (1 ∷ 1 ∷ 1 ∷ 0 ∷ []))) (0 ∷ 0 ∷ 0 ∷ [])
+    ∷ shows (scoreSaid (scoreOf (softNine 2 2 2 1 1) (1 ∷ 1 ∷ 1 ∷ 1 ∷ []))) (0 ∷ 0 ∷ 1 ∷ [])
+    ∷ shows (scoreSaid (scoreOf (softNine 2 1 2 1 1) (1 ∷ 0 ∷ 1 ∷ 0 ∷ []))) (0 ∷ 0 ∷ 1 ∷ [])
+    -- starts at 1, 3 and 4 of five times: lengths 2, 1 and 2
+    ∷ shows (map (λ n. subevents 5 threeStarts 1 (eqb n)) (upTo 4)) (1 ∷ 2 ∷ 0 ∷ 0 ∷ [])
+    ∷ shows (map (λ n. count threeStarts (ofLength 5 1 n)) (upTo 4)) (1 ∷ 2 ∷ 0 ∷ 0 ∷ [])
+    ∷ shows (map (λ n. count threeStarts (ofLengthOutside 5 1 n n)) (upTo 4)) (2 ∷ 1 ∷ 3 ∷ 3 ∷ [])
+    -- a length of 0 or above T gives 2, lo above T gives 5, lo = T passes; shortest above longest gives 5 at the kind
+    ∷ shows (readNine 0 0 0) (2 ∷ 10 ∷ [])
+    ∷ shows (readNine 3 0 0) (2 ∷ 10 ∷ [])
+    ∷ shows (readNine 2 2 2) (0 ∷ 2 ∷ 1 ∷ 0 ∷ 0 ∷ 1 ∷ [])
+    ∷ shows (readNine 2 3 3) (5 ∷ 7 ∷ [])
+    ∷ shows (readTen 2 3) (2 ∷ 11 ∷ [])
+    ∷ shows (readTen 2 1) (5 ∷ 7 ∷ [])
+    ∷ shows (readTen 1 2) (0 ∷ 2 ∷ 1 ∷ 0 ∷ 0 ∷ 1 ∷ [])
+    -- the clauses of M and K in three times for length 2; of M, Q, W and K in two times for 2 to 2
+    ∷ shows (nodeListing 3 16 (ofLength 3 1 2)) nineListing
+    ∷ shows (nodeListing 2 10 (ofLengthOutside 2 1 2 2)) tenListing
     ∷ []
 
 -- the definitions compute what the paper says
 pub examples : map (λ c. c .computed) cases ≡ map (λ c. c .expected) cases
-unfolding repeat group front within number limited reference references listed from member usersFrom outside gapsAfter gaps entriesNodes entriesMembers countedOf longest eventAt fieldsRead fieldsTable ended constraintAt sizesAt groupsAt constraintsAt parse bit lit clause clauses hasTrue withoutFalse tidy pairs gateClauses hardClauses softUnits falsified trues any all deviation charged valuesAfter count deviations truth eventRight firstWrong infeasibilityOf objectiveOf firstAbove row counter lastRow lowUnits highUnits shortUnits boundItems countInto ruleItems rulesItems starts uses durationRules constraintRules formula variables hardOf softOf tail bounded boundedVariables boundedHard words digits literalText line sumWeights top headerLine text numbers stepAt literalsOk wellFormed hintsShow deleted perform run start plainRun readOf scoreOf sameBytes sameSheetOf sizesOf textSizeOf textOf programPrints lowestFalse decodeOf formulaFits checkOf checkHardOf bestOf fileA fileHardA fileFree proofA listingA numberSaid stepsSaid scoreSaid decodeSaid bestSaid sizeSaid ample checkA roomA bestA busyTimes startAt1 counter3 holds3 timesFile spelt listFile six idleSix cases flatMap
+unfolding repeat group front within number limited reference references listed from member usersFrom outside gapsAfter gaps goingOn span timeByTime ofLength ofLengthOutside entriesNodes entriesMembers countedOf longest eventAt fieldsRead fieldsTable ended constraintAt sizesAt groupsAt constraintsAt parse bit lit clause clauses hasTrue withoutFalse tidy pairs gateClauses hardClauses softUnits falsified trues any all deviation charged valuesAfter count deviations truth eventRight firstWrong infeasibilityOf objectiveOf firstAbove row counter lastRow lowUnits highUnits shortUnits boundItems countInto ruleItems rulesItems starts uses durationRules constraintRules formula variables hardOf softOf tail bounded boundedVariables boundedHard words digits literalText line sumWeights top headerLine text numbers stepAt literalsOk wellFormed hintsShow deleted perform run start plainRun readOf scoreOf sameBytes sameSheetOf sizesOf textSizeOf textOf programPrints lowestFalse decodeOf formulaFits checkOf checkHardOf bestOf fileA fileHardA fileFree proofA listingA numberSaid stepsSaid scoreSaid decodeSaid bestSaid sizeSaid ample checkA roomA bestA busyTimes startAt1 counter3 holds3 timesFile spelt listFile six idleSix before subevents lengthFile doubles softNine readNine readTen nodeListing nineListing tenListing threeStarts cases flatMap
 examples = refl

@@ -1,11 +1,12 @@
 -- The instance file, and refusals 1 to 6 in file order.
 use Prim.Native.Nat.{ℕ, _-_}
+use mathlib.Core.Bool.{Bool, true}
 use mathlib.Core.List.{List, [], _∷_}
 use lib.ListN.{length, getD}
 use lib.Dec.{leb}
 use Rattle.scope.specs.Parsed.{Parsed, got, andThen, unless, repeat}
 use Rattle.scope.specs.Number.{limited, reference, listed}
-use Rattle.scope.specs.Kinds.{Event, Kind, clash, unavailable, preferred, split, spread, busy, cluster, idle, Constraint, Counted, users, groupAt, countedOf, longest}
+use Rattle.scope.specs.Kinds.{Event, Kind, clash, unavailable, preferred, split, spread, busy, cluster, idle, distribute, lengths, Constraint, Counted, users, groupAt, countedOf, longest}
 
 pub record Instance : Type 0 where
   pub times : ℕ
@@ -47,7 +48,7 @@ fieldsRead (theKind k) s at = got k at
 abbrev pub bounds : (ℕ → ℕ → Kind) → Fields
 bounds k = aNumber 0 255 (λ lo. aNumber 0 255 (λ hi. theKind (k lo hi)))
 
--- the fields of each kind, 1 to 8, a row for each
+-- the fields of each kind, 1 to 10, a row for each
 unfoldable pub fieldsTable : Counts → List Fields
 fieldsTable n =
     aReference (n .resources) (λ r. theKind (clash r))
@@ -58,26 +59,41 @@ fieldsTable n =
     ∷ aReference (n .resources) (λ r. aReference (n .groups) (λ g. bounds (busy r g)))
     ∷ aReference (n .resources) (λ r. aList (n .groups) (λ hs. bounds (cluster r hs)))
     ∷ aReference (n .resources) (λ r. aList (n .groups) (λ hs. bounds (idle r hs)))
+    ∷ aReference (n .events) (λ e. aNumber 1 (n .times) (λ l. bounds (distribute e l)))
+    ∷ aReference (n .events) (λ e. aNumber 1 (n .times) (λ a. aNumber 1 (n .times) (λ b. theKind (lengths e a b))))
     ∷ []
 
 abbrev pub fieldsOf : Counts → ℕ → Fields
 fieldsOf n k = getD (fieldsTable n) (k - 1) (theKind (clash 0))
 
--- the checks at a constraint's end, with the offset of its kind: 4 for a counted list longer than 255,
--- 5 for lo above hi as written or above the list's length
-unfoldable pub ended : (at lo hi n weight : ℕ) → Kind → ℕ → Parsed Constraint
-ended at lo hi n weight k end =
+-- of kind 10: shortest is not above longest
+abbrev pub ordered : Kind → Bool
+ordered (clash r) = true
+ordered (unavailable r g) = true
+ordered (preferred e g) = true
+ordered (split e lo hi) = true
+ordered (spread vs g lo hi) = true
+ordered (busy r g lo hi) = true
+ordered (cluster r hs lo hi) = true
+ordered (idle r hs lo hi) = true
+ordered (distribute e n lo hi) = true
+ordered (lengths e a b) = leb a b
+
+-- the checks at a constraint's end, with the offset of its kind: 4 for a counted list longer than 255, 5 for shortest above
+-- longest, for lo above hi as written or above the list's length
+unfoldable pub ended : (at : ℕ) → Bool → (lo hi n weight : ℕ) → Kind → ℕ → Parsed Constraint
+ended at o lo hi n weight k end =
     unless (leb n 255) 4 at
-    (unless (leb lo hi) 5 at (unless (leb lo n) 5 at (got (record { weight = weight; kind = k }) end)))
+    (unless o 5 at (unless (leb lo hi) 5 at (unless (leb lo n) 5 at (got (record { weight = weight; kind = k }) end))))
 
 -- the same, by what a kind counts
 abbrev pub endedAs : ℕ → Counted → ℕ → Kind → ℕ → Parsed Constraint
-endedAs at c weight k end = ended at (c .lo) (c .hi) (longest (c .lists)) weight k end
+endedAs at c weight k end = ended at (ordered k) (c .lo) (c .hi) (longest (c .lists)) weight k end
 
--- a constraint: kind 1..8, weight 0..1,000, its fields
+-- a constraint: kind 1..10, weight 0..1,000, its fields
 unfoldable pub constraintAt : ℕ → ℕ → List Event → List (List ℕ) → List ℕ → ℕ → Parsed Constraint
 constraintAt T R es gs s at =
-    andThen (limited 1 8 s at)
+    andThen (limited 1 10 s at)
     (λ kind next.
     andThen (limited 0 1000 s next)
     (λ weight more.

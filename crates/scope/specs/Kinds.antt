@@ -1,6 +1,6 @@
 -- The table of kinds: the counted lists of each, with their bounds. Events, times, resources and groups count from 1.
 -- A list is said once: valued in a timetable it gives the score (Score), numbered it gives the clauses (Formula).
-use Prim.Native.Nat.{ℕ, zero, suc, _+_, _-_, min, max}
+use Prim.Native.Nat.{ℕ, zero, suc, _+_, _-_, _*_, min, max}
 use mathlib.Core.List.{List, [], _∷_, _++_, map, flatMap}
 use mathlib.Core.Bool.{Bool, true, false, cond, _||_}
 use lib.ListN.{length, getD}
@@ -20,6 +20,8 @@ pub data Kind : Type 0 where
   busy : (resource group lo hi : ℕ) → Kind
   cluster : (resource : ℕ) (groups : List ℕ) (lo hi : ℕ) → Kind
   idle : (resource : ℕ) (groups : List ℕ) (lo hi : ℕ) → Kind
+  distribute : (event length lo hi : ℕ) → Kind
+  lengths : (event shortest longest : ℕ) → Kind
 
 -- the weight 0 means hard
 pub record Constraint : Type 0 where
@@ -59,7 +61,7 @@ isNot x = record { negated = true; thing = x }
 abbrev pub atoms : List Atom → List Ref
 atoms xs = map (λ a. is (anAtom a)) xs
 
--- the members of today's kinds: an atom; whether some atom of a group is true; whether a member of a group is idle: false
+-- the members of kinds 1 to 8: an atom; whether some atom of a group is true; whether a member of a group is idle: false
 -- itself, with a true one earlier and a true one later
 pub data Entry : Type 0 where
   atom : Atom → Entry
@@ -168,6 +170,53 @@ unfoldable pub gaps : List Atom → List Entry
 gaps [] = []
 gaps (x ∷ xs) = gapsAfter (x ∷ []) xs
 
+-- Kinds 9 and 10, for T times: M of a time, whether it goes on with the subevent before it, taken and no start. M of the times
+-- 2 to T + 1 stand first in the list, M of time T + 1 never true
+abbrev pub goesOn : ℕ → ℕ → Node
+goesOn e t = allOf (is (anAtom (Y e t)) ∷ isNot (anAtom (S e t)) ∷ [])
+
+unfoldable pub goingOn : ℕ → ℕ → List Node
+goingOn T e = map (goesOn e) (from 2 (T - 1)) ++ someOf [] ∷ []
+
+abbrev pub onAt : ℕ → Ref
+onAt t = is (aNode (t - 2))
+
+abbrev pub notOnAt : ℕ → Ref
+notOnAt t = isNot (aNode (t - 2))
+
+-- the times from a to b; "what lies beyond T + 1 is left out"
+unfoldable pub span : (T a b : ℕ) → List ℕ
+span T a b = from a (min b (T + 1) + 1 - a)
+
+-- K of time t: a start whose subevent has the length n; one whose subevent is longer than n
+abbrev pub startOf : (T e n t : ℕ) → List Node
+startOf T e n t =
+    allOf (is (anAtom (S e t)) ∷ map onAt (span T (t + 1) (t + n - 1)) ++ map notOnAt (span T (t + n) (t + n))) ∷ []
+
+abbrev pub startAbove : (T e n t : ℕ) → List Node
+startAbove T e n t = allOf (is (anAtom (S e t)) ∷ map onAt (span T (t + 1) (t + n))) ∷ []
+
+-- Q, W and K of time t, which stand after k nodes: on from a to b times later; not on before that, or Q; a start with W, whose
+-- subevent is shorter than a or longer than b
+abbrev pub startOutside : (T e a b k t : ℕ) → List Node
+startOutside T e a b k t =
+    allOf (map onAt (span T (t + a) (t + b)))
+    ∷ someOf (map notOnAt (span T (t + 1) (t + a - 1)) ++ is (aNode k) ∷ [])
+    ∷ allOf (is (anAtom (S e t)) ∷ is (aNode (k + 1)) ∷ [])
+    ∷ []
+
+-- after M of all times s nodes for each time, of which the last is counted
+unfoldable pub timeByTime : (T e s : ℕ) → (ℕ → List Node) → Listed
+timeByTime T e s f =
+    record { nodes = goingOn T e ++ flatMap f (upTo T); members = map (λ t. is (aNode (T + s * t - 1))) (upTo T) }
+
+unfoldable pub ofLength : (T e n : ℕ) → Listed
+ofLength T e n = timeByTime T e 1 (startOf T e n)
+
+unfoldable pub ofLengthOutside : (T e a b : ℕ) → Listed
+ofLengthOutside T e a b =
+    cond (eqb a 1) (timeByTime T e 1 (startAbove T e b)) (timeByTime T e 3 (λ t. startOutside T e a b (T + 3 * (t - 1)) t))
+
 -- The table of kinds, for T times, the users of a resource and the times of a group
 module _ (T : ℕ) (us group : ℕ → List ℕ) where
   unfoldable pub countedOf : Kind → Counted
@@ -179,6 +228,8 @@ module _ (T : ℕ) (us group : ℕ → List ℕ) where
   countedOf (busy r g lo hi) = limit lo hi (entries (map atom (usesAt r (group g))) ∷ [])
   countedOf (cluster r hs lo hi) = between lo hi (entries (map (λ g. anyOf (usesAt r (group g))) hs) ∷ [])
   countedOf (idle r hs lo hi) = between lo hi (entries (flatMap (λ g. gaps (usesAt r (group g))) hs) ∷ [])
+  countedOf (distribute e n lo hi) = between lo hi (ofLength T e n ∷ [])
+  countedOf (lengths e a b) = between 0 0 (ofLengthOutside T e a b ∷ [])
 
   abbrev pub rulesOf : Kind → List Rule
   rulesOf k = map (rule (countedOf k)) (countedOf k .lists)

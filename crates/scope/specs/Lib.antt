@@ -4,6 +4,7 @@ pub mod Kinds
 pub mod Instance
 pub mod Cnf
 pub mod Score
+pub mod Subevents
 pub mod Formula
 pub mod Text
 pub mod Steps

@@ -2,7 +2,7 @@
 use Prim.Native.Nat.{ℕ}
 use mathlib.Core.Path.{_≡_, refl}
 use mathlib.Core.List.{List}
-use Rattle.scope.specs.Kinds.{Kind, clash, unavailable, preferred, split, spread, busy, cluster, idle, countedOf}
+use Rattle.scope.specs.Kinds.{Kind, clash, unavailable, preferred, split, spread, busy, cluster, idle, distribute, lengths, countedOf}
 use Rattle.constraint.specs.Bounds.{lowOf, highOf, freeOf}
 
 -- they are those of the kind's row in the table
@@ -21,3 +21,5 @@ bounds-right T us group (spread vs g lo hi) = record { lo = refl; hi = refl; fre
 bounds-right T us group (busy r g lo hi) = record { lo = refl; hi = refl; free = refl }
 bounds-right T us group (cluster r hs lo hi) = record { lo = refl; hi = refl; free = refl }
 bounds-right T us group (idle r hs lo hi) = record { lo = refl; hi = refl; free = refl }
+bounds-right T us group (distribute e n lo hi) = record { lo = refl; hi = refl; free = refl }
+bounds-right T us group (lengths e a b) = record { lo = refl; hi = refl; free = refl }

@@ -29,6 +29,12 @@ cluster-of-requires c κs = search needs
 idle-of-requires : tie.Need-idle-of-requires
 idle-of-requires c κs = search needs
 
+distribute-of-requires : tie.Need-distribute-of-requires
+distribute-of-requires c κs = search needs
+
+lengths-of-requires : tie.Need-lengths-of-requires
+lengths-of-requires c κs = search needs
+
 returns : tie.Need-returns
 unfolding kindFrom
 returns c = λ l. rw (c .before .match .keys1) (c .clash-of .ensures l)
@@ -59,17 +65,27 @@ returns-7 c = λ l. rw (c .before .match .keys7) (c .cluster-of .ensures l)
 
 returns-8 : tie.Need-returns-8
 unfolding kindFrom
-returns-8 c = λ l.
+returns-8 c = λ l. rw (c .before .match .keys8) (c .idle-of .ensures l)
+
+returns-9 : tie.Need-returns-9
+unfolding kindFrom
+returns-9 c = λ l. rw (c .before .match .keys9) (c .distribute-of .ensures l)
+
+returns-10 : tie.Need-returns-10
+unfolding kindFrom
+returns-10 c = λ l.
     let n = c .before .match .rest in
     simp (
-      c .idle-of .ensures l,
-      ne-eqb _ 1 (n .0 .0 .0 .0 .0 .0 .1),
-      ne-eqb _ 2 (n .0 .0 .0 .0 .0 .1),
-      ne-eqb _ 3 (n .0 .0 .0 .0 .1),
-      ne-eqb _ 4 (n .0 .0 .0 .1),
-      ne-eqb _ 5 (n .0 .0 .1),
-      ne-eqb _ 6 (n .0 .1),
-      ne-eqb _ 7 (n .1),
+      c .lengths-of .ensures l,
+      ne-eqb _ 1 (n .0 .0 .0 .0 .0 .0 .0 .0 .1),
+      ne-eqb _ 2 (n .0 .0 .0 .0 .0 .0 .0 .1),
+      ne-eqb _ 3 (n .0 .0 .0 .0 .0 .0 .1),
+      ne-eqb _ 4 (n .0 .0 .0 .0 .0 .1),
+      ne-eqb _ 5 (n .0 .0 .0 .0 .1),
+      ne-eqb _ 6 (n .0 .0 .0 .1),
+      ne-eqb _ 7 (n .0 .0 .1),
+      ne-eqb _ 8 (n .0 .1),
+      ne-eqb _ 9 (n .1),
     )
 
 pub kind-of-spec : {M : Type 1} → statement M
@@ -84,6 +100,8 @@ kind-of-spec =
     busy-of-requires
     cluster-of-requires
     idle-of-requires
+    distribute-of-requires
+    lengths-of-requires
     returns
     returns-2
     returns-3
@@ -91,4 +109,6 @@ kind-of-spec =
     returns-5
     returns-6
     returns-7
-    returns-8)
+    returns-8
+    returns-9
+    returns-10)

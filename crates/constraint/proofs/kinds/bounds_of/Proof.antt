@@ -27,6 +27,12 @@ enum-known-k-4 c = search needs
 enum-known-k-5 : tie.Need-enum-known-k-5
 enum-known-k-5 c = search needs
 
+enum-known-k-6 : tie.Need-enum-known-k-6
+enum-known-k-6 c = search needs
+
+enum-told-4 : tie.Need-enum-told-4
+enum-told-4 c = search needs
+
 returns : tie.Need-returns
 returns c = λ l. rw (c .enum-told .given .1)
 
@@ -51,6 +57,12 @@ returns-7 c = λ l. rw (c .before .k4 .given .1)
 returns-8 : tie.Need-returns-8
 returns-8 c = λ l. rw (c .before .k5 .given .1)
 
+returns-9 : tie.Need-returns-9
+returns-9 c = λ l. rw (c .before .k6 .given .1)
+
+returns-10 : tie.Need-returns-10
+returns-10 c = λ l. rw (c .enum-told4 .given .1)
+
 pub bounds-of-spec : {M : Type 1} → statement M
 bounds-of-spec =
     tie.close
@@ -63,6 +75,8 @@ bounds-of-spec =
     enum-known-k-3
     enum-known-k-4
     enum-known-k-5
+    enum-known-k-6
+    enum-told-4
     returns
     returns-2
     returns-3
@@ -70,4 +84,6 @@ bounds-of-spec =
     returns-5
     returns-6
     returns-7
-    returns-8)
+    returns-8
+    returns-9
+    returns-10)

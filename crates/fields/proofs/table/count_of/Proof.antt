@@ -22,9 +22,13 @@ returns-4 c = rw (c .match .keys4)
 
 returns-5 : tie.Need-returns-5
 unfolding countOf
-returns-5 c =
+returns-5 c = rw (c .match .keys5)
+
+returns-6 : tie.Need-returns-6
+unfolding countOf
+returns-6 c =
     let n = c .match .rest in
-    simp (ne-eqb _ 1 (n .0 .0 .0 .1), ne-eqb _ 2 (n .0 .0 .1), ne-eqb _ 3 (n .0 .1), ne-eqb _ 4 (n .1))
+    simp (ne-eqb _ 1 (n .0 .0 .0 .0 .1), ne-eqb _ 2 (n .0 .0 .0 .1), ne-eqb _ 3 (n .0 .0 .1), ne-eqb _ 4 (n .0 .1), ne-eqb _ 10 (n .1))
 
 pub count-of-spec : {M : Type 1} → statement M
-count-of-spec = tie.close (tie.spec returns returns-2 returns-3 returns-4 returns-5)
+count-of-spec = tie.close (tie.spec returns returns-2 returns-3 returns-4 returns-5 returns-6)
