@@ -10,6 +10,7 @@ pub const BAD_REFERENCE: u8 = 3;
 // "a counted list is longer than 255"
 pub const LIST_TOO_LONG: u8 = 4;
 // "lo > hi as written, or lo above the list's length"
+// kind 10: shortest above longest
 pub const BAD_BOUNDS: u8 = 5;
 // "bytes left over"
 pub const BYTES_LEFT: u8 = 6;
