@@ -14,6 +14,7 @@ pub mod Bounds
 pub mod Nodes
 pub mod Values
 pub mod Entries
+pub mod Runs
 pub mod Rules
 pub mod RuleOrder
 pub mod KindRules
