@@ -15,7 +15,9 @@ pub mod Nodes
 pub mod TimeByTime
 pub mod Values
 pub mod Entries
+pub mod Lowered
 pub mod Runs
+pub mod Subevents
 pub mod Rules
 pub mod RuleOrder
 pub mod KindRules

@@ -1,17 +1,17 @@
 -- Times that go on with a subevent, one after the other: what kinds 9 and 10 look at, against the subevent's length.
-use mathlib.Core.Path.{_≡_, refl, sym, ap, ap₂, _∙_}
+use mathlib.Core.Path.{_≡_, refl, sym, ap, _∙_}
 use mathlib.Core.Bool.{Bool, true, false, not, cond, _&&_, _||_}
 use mathlib.Core.List.{List, [], _∷_, _++_, map, map-append}
 use Prim.Native.Nat.{ℕ, zero, suc, _+_, _-_, _≤_, _<_, min}
 use native.Mathlib.Omega.{arith}
 use lib.Dec.{leb, ltb, eqb, leb·zero, leb·suc-zero, leb·suc-suc}
-use borrow.Author.Tests.{leb-true, leb-false, le-leb, lt-leb, ltb-true, ltb-false, lt-ltb, le-ltb, eq-eqb, ne-eqb}
-use Rattle.scope.specs.Kinds.{Atom, Y, S, from, span}
-use Rattle.scope.specs.Score.{all, any}
+use borrow.Author.Tests.{leb-true, leb-false, lt-leb, lt-ltb, le-ltb, eq-eqb, ne-eqb}
+use Rattle.scope.specs.Kinds.{Atom, S, from, span}
+use Rattle.scope.specs.Score.{all}
 use Rattle.scope.specs.Subevents.{taken, before}
 
 -- all of one list after another
-all-append : (xs ys : List Bool) → all (xs ++ ys) ≡ (all xs && all ys)
+pub all-append : (xs ys : List Bool) → all (xs ++ ys) ≡ (all xs && all ys)
 unfolding all
 all-append [] ys = refl
 all-append (true ∷ xs) ys = all-append xs ys
@@ -93,6 +93,7 @@ module _ (T : ℕ) (τ : Atom → Bool) (e : ℕ) where
     where
       next : t + 1 ≡ suc t
       next = omega arith
+
       go : (b : Bool) → leb m (T + 1 - t) ≡ b
           → all (map on (from (t + 1) (min (t + m) (T + 1) + 1 - (t + 1)))) ≡ leb m (later t)
       go true q =
