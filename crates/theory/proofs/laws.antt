@@ -12,8 +12,12 @@ pub mod Costs
 pub mod Ranges
 pub mod Bounds
 pub mod Nodes
+pub mod TimeByTime
 pub mod Values
 pub mod Entries
+pub mod Lowered
+pub mod Runs
+pub mod Subevents
 pub mod Rules
 pub mod RuleOrder
 pub mod KindRules
