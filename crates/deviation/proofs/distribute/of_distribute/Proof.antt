@@ -13,7 +13,7 @@ deviation-requires c κs = search needs
 
 returns : tie.Need-returns
 unfolding distributeCharge
-returns c = rw (c .before .subevents-of .ensures, wanted-one (c .before .before .before .args .f .length)) at (c .deviation .ensures)
+returns c = rw (← (wanted-one (c .before .before .before .args .f .length))) (rw (c .before .subevents-of .ensures) at (c .deviation .ensures))
 
 pub of-distribute-spec : {M : Type 1} → statement M
 of-distribute-spec = tie.close (tie.spec subevents-of-requires deviation-requires returns)

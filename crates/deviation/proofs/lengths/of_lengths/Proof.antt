@@ -10,7 +10,7 @@ subevents-of-requires c κs = search needs
 
 returns : tie.Need-returns
 unfolding lengthsCharge
-returns c = let f = c .before .before .args .f in rw (wanted-outside (f .shortest) (f .longest)) at (c .subevents-of .ensures)
+returns c = let f = c .before .before .args .f in rw (← (wanted-outside (f .shortest) (f .longest))) (c .subevents-of .ensures)
 
 pub of-lengths-spec : {M : Type 1} → statement M
 of-lengths-spec = tie.close (tie.spec subevents-of-requires returns)

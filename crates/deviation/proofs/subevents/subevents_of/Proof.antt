@@ -24,7 +24,7 @@ count-wanted-requires c κs =
     (omega (arith, event-row (p .0) (p .1), e), (omega (arith, start-row (p .0) (p .1), c .before .starts-of .ensures, e), p .0 .sizes .times))
 
 returns : tie.Need-returns
-returns c = rw (c .before .before .starts-of .ensures, c .before .before .before .row-of .ensures) at (c .count-wanted .ensures)
+returns c = rw (← (c .before .before .before .row-of .ensures), ← (c .before .before .starts-of .ensures)) (c .count-wanted .ensures)
 
 pub subevents-of-spec : {M : Type 1} → statement M
 subevents-of-spec =
