@@ -2,6 +2,7 @@
 pub mod Group
 pub mod Idle
 pub mod Sums
+pub mod Subevents
 pub mod Outside
 pub mod Charge
 pub mod Counting

@@ -1,11 +1,11 @@
 -- What each kind charges, told from the bytes of a timetable, the table of uses, the table of X and the rows of groups.
 use Prim.Native.Nat.{ℕ, _+_, _-_, _*_, _<_, _≤_}
 use mathlib.Core.Path.{_≡_}
-use mathlib.Core.Bool.{cond}
+use mathlib.Core.Bool.{cond, _||_}
 use mathlib.Core.List.{List}
 use lib.ListN.{length, getD}
-use lib.Dec.{eqb}
-use Rattle.scope.specs.Kinds.{Kind, clash, unavailable, preferred, split, spread, busy, cluster, idle, upTo, outside}
+use lib.Dec.{eqb, ltb}
+use Rattle.scope.specs.Kinds.{Kind, clash, unavailable, preferred, split, spread, busy, cluster, idle, distribute, lengths, upTo, outside}
 use Rattle.scope.specs.Instance.{Counts}
 use Rattle.scope.specs.Score.{trues, any, deviation}
 use Rattle.parsing.specs.Numbers.{Ascending}
@@ -13,6 +13,7 @@ use Rattle.tables.specs.Rows.{rowAt, RowIn}
 use Rattle.timetable.specs.Bits.{marks}
 use Rattle.deviation.specs.Idle.{idles}
 use Rattle.deviation.specs.Sums.{total}
+use Rattle.deviation.specs.Subevents.{subeventsAt}
 
 -- the charge of each kind, where T is the number of times and c the number of cells
 unfoldable pub clashCharge : ℕ → List ℕ → ℕ → ℕ
@@ -41,6 +42,12 @@ clusterCharge T x gs r hs lo hi = deviation lo hi (total (λ g. cond (any (marks
 unfoldable pub idleCharge : ℕ → List ℕ → List ℕ → ℕ → List ℕ → ℕ → ℕ → ℕ
 idleCharge T x gs r hs lo hi = deviation lo hi (total (λ g. idles (marks x ((r - 1) * T) (rowAt gs (g - 1)))) hs)
 
+unfoldable pub distributeCharge : ℕ → ℕ → List ℕ → (e n lo hi : ℕ) → ℕ
+distributeCharge c T b e n lo hi = deviation lo hi (subeventsAt T b ((e - 1) * T) (c + (e - 1) * T) (eqb n))
+
+unfoldable pub lengthsCharge : ℕ → ℕ → List ℕ → (e shortest longest : ℕ) → ℕ
+lengthsCharge c T b e shortest longest = subeventsAt T b ((e - 1) * T) (c + (e - 1) * T) (λ n. ltb n shortest || ltb longest n)
+
 abbrev pub chargeOf : ℕ → ℕ → List ℕ → List ℕ → List ℕ → List ℕ → Kind → ℕ
 chargeOf c T b u x gs (clash r) = clashCharge T u r
 chargeOf c T b u x gs (unavailable r g) = unavailableCharge T x gs r g
@@ -50,6 +57,8 @@ chargeOf c T b u x gs (spread vs g lo hi) = spreadCharge c T b gs vs g lo hi
 chargeOf c T b u x gs (busy r g lo hi) = busyCharge T x gs r g lo hi
 chargeOf c T b u x gs (cluster r hs lo hi) = clusterCharge T x gs r hs lo hi
 chargeOf c T b u x gs (idle r hs lo hi) = idleCharge T x gs r hs lo hi
+chargeOf c T b u x gs (distribute e n lo hi) = distributeCharge c T b e n lo hi
+chargeOf c T b u x gs (lengths e shortest longest) = lengthsCharge c T b e shortest longest
 
 -- the sizes of an accepted instance; a table of 99 rows of up to 125 times; the bytes of a timetable; the rows of groups; a store
 -- with a list

@@ -2,7 +2,9 @@
 use crate::busy::of_busy;
 use crate::clash::of_clash;
 use crate::cluster::of_cluster;
+use crate::distribute::of_distribute;
 use crate::idle::of_idle;
+use crate::lengths::of_lengths;
 use crate::preferred::of_preferred;
 use crate::split::of_split;
 use crate::spread::of_spread;
@@ -40,5 +42,7 @@ pub fn deviation_of(
         Kind::Busy(f) => of_busy(f, head, used, groups),
         Kind::Cluster(f) => of_cluster(f, head, used, groups, list),
         Kind::Idle(f) => of_idle(f, head, used, groups, list),
+        Kind::Distribute(f) => of_distribute(f, head, bytes),
+        Kind::Lengths(f) => of_lengths(f, head, bytes),
     }
 }

@@ -5,12 +5,15 @@ mod by_kind;
 mod charge;
 mod clash;
 mod cluster;
+mod distribute;
 mod group;
 mod idle;
+mod lengths;
 mod preferred;
 mod rows;
 mod split;
 mod spread;
+mod subevents;
 mod unavailable;
 
 pub use by_kind::deviation_of;

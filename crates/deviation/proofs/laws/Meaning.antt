@@ -2,17 +2,19 @@
 -- uses and the table x of X.
 use Prim.Native.Nat.{ℕ, zero, suc, _+_, _-_, _*_, _<_, _≤_}
 use mathlib.Core.Path.{_≡_, refl, sym, ap, ap₂, fun-ext, _∙_}
-use mathlib.Core.Bool.{Bool, true, false, cond}
+use mathlib.Core.Bool.{Bool, true, false, cond, _||_}
 use mathlib.Core.List.{List, _∷_, map, flatMap}
 use lib.ListN.{length, getD}
 use lib.Dec.{ltb, eqb}
 use native.Mathlib.Omega.{arith}
 use native.Mathlib.Nat.{add-assoc, mul-le-mul}
 use Rattle.scope.specs.Cnf.{bit}
-use Rattle.scope.specs.Kinds.{Kind, clash, unavailable, preferred, split, spread, busy, cluster, idle, Y, S, X, atom, anyOf, from, upTo, users, outside, groupAt, usesAt, takesAt, startsAt, gaps, countedOf, rulesOf}
+use Rattle.scope.specs.Kinds.{Kind, clash, unavailable, preferred, split, spread, busy, cluster, idle, distribute, lengths, Y, S, X, atom, anyOf, from, upTo, users, outside, groupAt, usesAt, takesAt, startsAt, gaps, countedOf, rulesOf}
 use Rattle.scope.specs.Instance.{Instance, Counts}
 use Rattle.scope.specs.Score.{trues, any, deviation, deviations, truth, slots}
+use Rattle.scope.specs.Subevents.{subevents}
 use Rattle.theory.proofs.laws.Entries.{entryTrue}
+use Rattle.theory.proofs.laws.Subevents.{distribute-counts, lengths-counts}
 use Rattle.parsing.specs.Numbers.{Ascending, none, more}
 use Rattle.tables.specs.Rows.{rowAt, rows, eventsOf}
 use Rattle.tables.proofs.laws.Laws.{group-row}
@@ -22,8 +24,10 @@ use Rattle.timetable.proofs.laws.Bits.{bit-next}
 use Rattle.timetable.proofs.laws.Takers.{takers-users, any-trues}
 use Rattle.timetable.specs.Uses.{UsesOf, Marked}
 use Rattle.deviation.specs.Sums.{total}
+use Rattle.deviation.specs.Subevents.{alone, subeventsAt}
+use Rattle.deviation.proofs.laws.Subevents.{subevents-same}
 use Rattle.deviation.proofs.laws.Counting.{map-map, trues-total, trues-flat, deviation-zero, deviation-one, one-list, one-limit, many-lists, gaps-idle}
-use Rattle.deviation.specs.Charge.{chargeOf, clashCharge, unavailableCharge, preferredCharge, splitCharge, spreadCharge, busyCharge, clusterCharge, idleCharge}
+use Rattle.deviation.specs.Charge.{chargeOf, clashCharge, unavailableCharge, preferredCharge, splitCharge, spreadCharge, busyCharge, clusterCharge, idleCharge, distributeCharge, lengthsCharge}
 
 -- the table of uses and the table of X say of an instance's timetable what the definitions say
 pub record Seen (i : Instance) (b u x : List ℕ) : Type 0 where
@@ -169,6 +173,28 @@ module _ (i : Instance) (b u x gs : List ℕ) (G : ℕ) (seen : Seen i b u x) (t
       (trues-flat (entryTrue (truth i b)) (λ g. gaps (usesAt r (groupAt (i .groups) g))) hs
       ∙ total-listed _ _ G a (λ g o. gaps-idle (truth i b) (usesAt r (groupAt (i .groups) g)) ∙ rw (group-used r g p q o))))
 
+  -- the subevents of an event, told from its bytes alone
+  event-alone : (e : ℕ) (such : ℕ → Bool)
+      → subevents (i .times) (truth i b) e such ≡ subeventsAt (i .times) b ((e - 1) * i .times) (slots i + (e - 1) * i .times) such
+  unfolding truth alone
+  event-alone e such =
+      subevents-same (i .times) (truth i b) (alone b ((e - 1) * i .times) (slots i + (e - 1) * i .times)) e 1
+      (λ t. refl)
+      (λ t. ap (bit b) (sym (add-assoc (slots i) ((e - 1) * i .times) t)))
+      such
+
+  distribute-right : (e n lo hi : ℕ) → 1 ≤ n → Right (distribute e n lo hi)
+  unfolding distributeCharge
+  distribute-right e n lo hi h =
+      sym (distribute-counts (i .times) (λ r. users r (i .events)) (groupAt (i .groups)) (truth i b) e n lo hi h ∙ ap (deviation lo hi) (event-alone e (eqb n)))
+
+  lengths-right : (e shortest longest : ℕ) → 1 ≤ shortest → Right (lengths e shortest longest)
+  unfolding lengthsCharge
+  lengths-right e shortest longest h =
+      sym (lengths-counts (i .times) (λ r. users r (i .events)) (groupAt (i .groups)) (truth i b) e shortest longest h
+      ∙ deviation-zero (subevents (i .times) (truth i b) e (λ n. ltb n shortest || ltb longest n))
+      ∙ event-alone e (λ n. ltb n shortest || ltb longest n))
+
   -- a kind whose fields are references to what there is
   pub charge-right : (n : Counts) (k : Kind) → n .resources ≤ 99 → n .groups ≡ G → InRange n k → Right k
   charge-right n (clash r) h e v = clash-right r (v .low) (omega (arith, v .high))
@@ -179,3 +205,5 @@ module _ (i : Instance) (b u x gs : List ℕ) (G : ℕ) (seen : Seen i b u x) (t
   charge-right n (busy r g lo hi) h e v = busy-right r g lo hi (v .0 .low) (omega (arith, v .0 .high)) (rw e at (v .1))
   charge-right n (cluster r hs lo hi) h e v = cluster-right r hs lo hi (v .0 .low) (omega (arith, v .0 .high)) (rw e at (v .1))
   charge-right n (idle r hs lo hi) h e v = idle-right r hs lo hi (v .0 .low) (omega (arith, v .0 .high)) (rw e at (v .1))
+  charge-right n (distribute ev l lo hi) h e v = distribute-right ev l lo hi (v .1 .low)
+  charge-right n (lengths ev shortest longest) h e v = lengths-right ev shortest longest (v .1 .low)

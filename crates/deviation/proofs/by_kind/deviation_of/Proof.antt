@@ -62,6 +62,18 @@ of-idle-requires c κs =
     let v = rw (c .before .kind8 .given .1) at (p .1 .1 .1) in
     (p .0 .used, (p .0 .groups, (listed-in _ _ _ (p .1 .0) (p .1 .1 .0) (v .1), v)))
 
+enum-known-kind-9 : tie.Need-enum-known-kind-9
+enum-known-kind-9 c = search needs
+
+of-distribute-requires : tie.Need-of-distribute-requires
+of-distribute-requires c κs = let p = c .before .before .before .before .before .before .before .before .pre in (p .0 .bytes, rw (c .before .kind9 .given .1) at (p .1 .1 .1))
+
+enum-known-kind-10 : tie.Need-enum-known-kind-10
+enum-known-kind-10 c = search needs
+
+of-lengths-requires : tie.Need-of-lengths-requires
+of-lengths-requires c κs = let p = c .before .before .before .before .before .before .before .before .pre in (p .0 .bytes, rw (c .before .kind10 .given .1) at (p .1 .1 .1))
+
 returns : tie.Need-returns
 returns c = rw (c .before .before .kind .given .1) (c .of-clash .ensures)
 
@@ -86,6 +98,12 @@ returns-7 c = rw (c .before .before .kind7 .given .1) (c .of-cluster .ensures)
 returns-8 : tie.Need-returns-8
 returns-8 c = rw (c .before .before .kind8 .given .1) (c .of-idle .ensures)
 
+returns-9 : tie.Need-returns-9
+returns-9 c = rw (c .before .before .kind9 .given .1) (c .of-distribute .ensures)
+
+returns-10 : tie.Need-returns-10
+returns-10 c = rw (c .before .before .kind10 .given .1) (c .of-lengths .ensures)
+
 pub deviation-of-spec : {M : Type 1} → statement M
 deviation-of-spec =
     tie.close
@@ -106,6 +124,10 @@ deviation-of-spec =
     of-cluster-requires
     enum-known-kind-8
     of-idle-requires
+    enum-known-kind-9
+    of-distribute-requires
+    enum-known-kind-10
+    of-lengths-requires
     returns
     returns-2
     returns-3
@@ -113,4 +135,6 @@ deviation-of-spec =
     returns-5
     returns-6
     returns-7
-    returns-8)
+    returns-8
+    returns-9
+    returns-10)
