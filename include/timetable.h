@@ -17,7 +17,8 @@
  *    2   a value is outside its limit                          offset of its first byte
  *    3   a reference to nothing, or a list not ascending       offset of its first byte
  *    4   a counted list is longer than 255                     offset of the constraint's kind
- *    5   lo is above hi, or above the list's length            offset of the constraint's kind
+ *    5   lo is above hi, or above the list's length, or        offset of the constraint's kind
+ *        shortest above longest
  *    6   bytes are left over                                   offset of the first
  *    7   the bound is above 4,095                              the bound
  *    8   the formula has more than 8,000,000 variables         0

@@ -75,6 +75,18 @@ INLINE uint32_t write_or(struct walk *w, uint32_t *literals, uint32_t n)
     return o;
 }
 
+INLINE uint32_t write_and(struct walk *w, const uint32_t *literals, uint32_t n)
+{
+    uint32_t o = 2 * ++w->last, clause[MOST_TIMES + 3];
+    for (uint32_t i = 0; i < n; i++) {
+        HARD(w, literals[i], o ^ 1);
+        clause[i] = literals[i] ^ 1;
+    }
+    clause[n] = o;
+    w->hard(w->job, clause, n + 1);
+    return o;
+}
+
 INLINE void write_unit(struct walk *w, uint32_t weight, uint32_t unit)
 {
     if (weight)
@@ -140,6 +152,55 @@ INLINE uint32_t write_idle(struct walk *w, uint32_t *x, uint32_t n, uint32_t *ou
     return count;
 }
 
+/* The variables M of the times 2 to T + 1, at their times in on: whether a time goes on with the subevent before it. */
+INLINE void write_going_on(struct walk *w, uint32_t y, uint32_t s, uint32_t *on)
+{
+    uint32_t times = w->in->times;
+    for (uint32_t t = 2; t <= times; t++) {
+        uint32_t both[] = {y + 2 * t, (s + 2 * t) ^ 1};
+        on[t] = write_and(w, both, 2);
+    }
+    on[times + 1] = 2 * ++w->last;
+    HARD(w, on[times + 1] ^ 1);
+}
+
+/* Kind 9's K, or kind 10's where shortest is 1: a start with M at all times up to the last, and not at the one after it. */
+INLINE uint32_t write_start(struct walk *w, const uint32_t *on, uint32_t s, uint32_t t, const struct constraint *c)
+{
+    uint32_t x[MOST_TIMES + 3], n = 0, end = w->in->times + 1;
+    x[n++] = s + 2 * t;
+    for (uint32_t u = t + 1; u < t + c->longest && u <= end; u++)
+        x[n++] = on[u];
+    if (t + c->longest <= end)
+        x[n++] = on[t + c->longest] ^ (c->kind == 9);
+    return write_and(w, x, n);
+}
+
+/* Kind 10's Q, W and K: M from shortest to longest; not M at an earlier time, or Q; a start with W. */
+INLINE uint32_t write_outside(struct walk *w, const uint32_t *on, uint32_t s, uint32_t t, const struct constraint *c)
+{
+    uint32_t x[MOST_TIMES + 3], n = 0, end = w->in->times + 1;
+    for (uint32_t u = t + c->shortest; u <= t + c->longest && u <= end; u++)
+        x[n++] = on[u];
+    uint32_t q = write_and(w, x, n);
+    n = 0;
+    for (uint32_t u = t + 1; u < t + c->shortest && u <= end; u++)
+        x[n++] = on[u] ^ 1;
+    x[n++] = q;
+    uint32_t both[] = {s + 2 * t, write_or(w, x, n)};
+    return write_and(w, both, 2);
+}
+
+/* The K of kind 9 or 10 for each time. */
+INLINE uint32_t write_lengths(struct walk *w, const struct constraint *c, uint32_t *out)
+{
+    uint32_t times = w->in->times, y = 2 * (c->one - 1) * times, s = y + 2 * w->in->events * times, on[MOST_TIMES + 2];
+    write_going_on(w, y, s, on);
+    for (uint32_t t = 1; t <= times; t++)
+        out[t - 1] = c->kind == 9 || c->shortest == 1 ? write_start(w, on, s, t, c) : write_outside(w, on, s, t, c);
+    return times;
+}
+
 INLINE void write_constraint(struct walk *w, const struct constraint *c)
 {
     const struct instance *in = w->in;
@@ -173,6 +234,8 @@ INLINE void write_constraint(struct walk *w, const struct constraint *c)
         for (uint32_t e = 0; e < c->many.count; e++)
             for (uint32_t i = 0; i < g.count; i++)
                 literals[n++] = 2 * (starts + (store[c->many.first + e] - 1u) * times + store[g.first + i]);
+    } else if (c->kind > 8) {
+        n = write_lengths(w, c, literals);
     } else {
         for (uint32_t i = 0; i < c->many.count; i++) {
             uint32_t size = gather(in, c->one, store[c->many.first + i], x);

@@ -71,6 +71,8 @@ static uint32_t list_length(const struct instance *in, const struct constraint *
     case 3:
         return in->times - in->group[c->group - 1].count;
     case 4:
+    case 9:
+    case 10:
         return in->times;
     case 5:
         return c->many.count * in->group[c->group - 1].count;
@@ -85,26 +87,36 @@ static uint32_t list_length(const struct instance *in, const struct constraint *
     }
 }
 
+/* Kind 9's length, or kind 10's shortest and longest. */
+static int read_lengths(const struct instance *in, struct reader *r, struct constraint *c)
+{
+    int bad = limited(r, 1, in->times, &c->shortest);
+    c->longest = c->shortest;
+    return bad || c->kind == 9 ? bad : limited(r, 1, in->times, &c->longest);
+}
+
 static int read_constraint(struct instance *in, struct reader *r, struct constraint *c)
 {
     int bad;
-    if ((bad = limited(r, 1, 8, &c->kind)) || (bad = limited(r, 0, 1000, &c->weight)))
+    if ((bad = limited(r, 1, 10, &c->kind)) || (bad = limited(r, 0, 1000, &c->weight)))
         return bad;
     uint32_t kind = c->kind;
     c->lo = 0;
     c->hi = kind == 1;
-    if (kind != 5 && (bad = reference(r, 0, kind == 3 || kind == 4 ? in->events : in->resources, &c->one)))
+    if (kind != 5 && (bad = reference(r, 0, kind == 3 || kind == 4 || kind > 8 ? in->events : in->resources, &c->one)))
         return bad;
-    if ((kind == 5 || kind > 6) && (bad = read_list(in, r, kind == 5 ? in->events : in->groups, &c->many)))
+    if ((kind == 5 || kind == 7 || kind == 8) && (bad = read_list(in, r, kind == 5 ? in->events : in->groups, &c->many)))
         return bad;
     if ((kind == 2 || kind == 3 || kind == 5 || kind == 6) && (bad = reference(r, 0, in->groups, &c->group)))
         return bad;
-    if (kind > 3 && ((bad = limited(r, 0, 255, &c->lo)) || (bad = limited(r, 0, 255, &c->hi))))
+    if (kind > 8 && (bad = read_lengths(in, r, c)))
+        return bad;
+    if (kind > 3 && kind != 10 && ((bad = limited(r, 0, 255, &c->lo)) || (bad = limited(r, 0, 255, &c->hi))))
         return bad;
     uint32_t n = list_length(in, c);
     if (n > 255)
         return 4;
-    if (c->lo > c->hi || c->lo > n)
+    if (c->lo > c->hi || c->lo > n || (kind == 10 && c->shortest > c->longest))
         return 5;
     return 0;
 }

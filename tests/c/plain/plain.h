@@ -16,9 +16,12 @@ struct list {
     uint32_t first, count;
 };
 
-/* Kind 1 to 8; one is its resource or event, group its group, many its list of events or groups. */
+/*
+ * Kind 1 to 10; one is its resource or event, group its group, many its list of events or groups. Kind 10 has
+ * two lengths of subevents, and kind 9 one, which is both shortest and longest.
+ */
 struct constraint {
-    uint32_t kind, weight, one, group, lo, hi;
+    uint32_t kind, weight, one, group, lo, hi, shortest, longest;
     struct list many;
 };
 

@@ -33,6 +33,22 @@ static uint32_t idle_times(const uint8_t *used, const uint16_t *members, uint32_
     return busy ? last - first + 1 - busy : 0;
 }
 
+/* How many subevents have a length from shortest to longest, or for kind 10 another. */
+static uint32_t of_length(const struct constraint *c, const uint8_t *y, const uint8_t *s, uint32_t times)
+{
+    uint32_t n = 0;
+    for (uint32_t t = 0; t < times;) {
+        uint32_t start = t++;
+        if (!s[start])
+            continue;
+        while (t < times && y[t] && !s[t])
+            t++;
+        int inside = t - start >= c->shortest && t - start <= c->longest;
+        n += inside != (c->kind == 10);
+    }
+    return n;
+}
+
 struct tables {
     const uint8_t *y, *s;
     uint8_t used[MOST_RESOURCES * MOST_TIMES];
@@ -44,7 +60,7 @@ static uint32_t deviation(const struct instance *in, const struct constraint *c,
     uint32_t times = in->times, n = 0;
     struct list g = c->kind == 2 || c->kind == 3 || c->kind == 5 || c->kind == 6 ? in->group[c->group - 1] : (struct list){0, 0};
     const uint16_t *members = in->store + g.first;
-    const uint8_t *used = c->kind == 1 || c->kind == 2 || c->kind > 5 ? t->used + (c->one - 1) * times : 0;
+    const uint8_t *used = c->kind == 1 || c->kind == 2 || (c->kind > 5 && c->kind < 9) ? t->used + (c->one - 1) * times : 0;
     switch (c->kind) {
     case 1:
         for (uint32_t i = 0; i < times; i++)
@@ -70,6 +86,10 @@ static uint32_t deviation(const struct instance *in, const struct constraint *c,
         for (uint32_t i = 0; i < g.count; i++)
             n += used[members[i] - 1];
         return c->kind == 6 && !n ? 0 : outside(n, c->lo, c->kind == 2 ? 0 : c->hi);
+    case 9:
+    case 10:
+        n = of_length(c, t->y + (c->one - 1) * times, t->s + (c->one - 1) * times, times);
+        return outside(n, c->lo, c->hi);
     default:
         for (uint32_t k = 0; k < c->many.count; k++) {
             struct list h = in->group[in->store[c->many.first + k] - 1];

@@ -1,7 +1,7 @@
 /*
  * One walk over an instance's formula, for every job over clauses. It is made
  * anew for each job: the functions given to it are constants once it is inlined.
- * An OR is handed over whole, so that a job need not see its clauses.
+ * An OR is handed over whole, so that a job need not see its clauses; an AND is the OR of its negated inputs, negated.
  */
 #ifndef FORMULA_H
 #define FORMULA_H
@@ -14,7 +14,7 @@ typedef void hard_function(void *job, const uint32_t *clause, uint32_t n);
 typedef void soft_function(void *job, uint32_t weight, uint32_t unit);
 /* A counter's cells: literals of the weight 1, n rows of so many columns, from the variable first on. */
 typedef void counter_function(void *job, const uint32_t *literals, uint32_t n, uint32_t columns, uint32_t first);
-/* An OR of n literals; after these there is room for one more. */
+/* A literal that is the OR of n literals; after these there is room for one more. */
 typedef void or_function(void *job, uint32_t *literals, uint32_t n, uint32_t output);
 
 /* What a job does with each part of a formula. */
@@ -89,6 +89,14 @@ INLINE uint32_t next_or(struct walk *w, uint32_t *literals, uint32_t n)
     return output;
 }
 
+/* The AND of the literals whose negations are given. */
+INLINE uint32_t next_and(struct walk *w, uint32_t *negated, uint32_t n)
+{
+    uint32_t output = 2 * ++w->last;
+    w->parts.or(w->job, negated, n, output ^ 1);
+    return output;
+}
+
 INLINE void write_unit(struct walk *w, uint32_t weight, uint32_t unit)
 {
     if (weight)
@@ -154,6 +162,60 @@ INLINE uint32_t write_idle(struct walk *w, uint32_t *x, uint32_t n, uint32_t *ou
     return count;
 }
 
+/* The variables M of the times 2 to T + 1: whether a time goes on with the subevent before it. They are consecutive. */
+INLINE void write_going_on(struct walk *w, uint32_t y, uint32_t s)
+{
+    for (uint32_t t = 2; t <= w->in->times; t++) {
+        uint32_t x[3] = {(y + 2 * t) ^ 1, s + 2 * t};
+        next_and(w, x, 2);
+    }
+    uint32_t none[1] = {0};
+    next_or(w, none, 0);
+}
+
+/* The negated M from time u on, at most so many and none after T + 1. */
+INLINE uint32_t gather_on(const struct walk *w, uint32_t on, uint32_t u, uint32_t most, uint32_t *literals)
+{
+    uint32_t left = w->in->times + 2 - u, n = u > w->in->times + 1 ? 0 : most < left ? most : left;
+    for (uint32_t i = 0; i < n; i++)
+        literals[i] = (on + 2 * (u + i)) ^ 1;
+    return n;
+}
+
+/* Kind 9's K, or kind 10's where shortest is 1: a start with M at the next times, for kind 9 not at the last of them. */
+INLINE uint32_t write_start(struct walk *w, uint32_t on, uint32_t s, uint32_t t, const struct constraint *c)
+{
+    uint32_t x[MOST_TIMES + 3], n = gather_on(w, on, t + 1, c->longest, x + 1);
+    x[0] = (s + 2 * t) ^ 1;
+    x[n] ^= c->kind == 9 && n == c->longest;
+    return next_and(w, x, n + 1);
+}
+
+/* Kind 10's Q, W and K: M from shortest to longest; not M at an earlier time, or Q; a start with W. */
+INLINE uint32_t write_outside(struct walk *w, uint32_t on, uint32_t s, uint32_t t, const struct constraint *c)
+{
+    uint32_t x[MOST_TIMES + 3], n = gather_on(w, on, t + c->shortest, c->longest - c->shortest + 1, x);
+    uint32_t q = next_and(w, x, n);
+    n = gather_on(w, on, t + 1, c->shortest - 1, x);
+    x[n] = q;
+    uint32_t both[3] = {(s + 2 * t) ^ 1, next_or(w, x, n + 1) ^ 1};
+    return next_and(w, both, 2);
+}
+
+/* The K of kind 9 or 10 for each time. */
+INLINE uint32_t write_lengths(struct walk *w, const struct constraint *c, uint32_t *out)
+{
+    uint32_t times = w->in->times, y = 2 * (c->one - 1) * times, s = y + 2 * w->in->events * times, on = 2 * w->last - 2;
+    write_going_on(w, y, s);
+    if (c->kind == 9 || c->shortest == 1)
+        for (uint32_t t = 1; t <= times; t++)
+            out[t - 1] = write_start(w, on, s, t, c);
+    else
+        for (uint32_t t = 1; t <= times; t++)
+            out[t - 1] = write_outside(w, on, s, t, c);
+    return times;
+}
+
 INLINE void write_constraint(struct walk *w, const struct constraint *c)
 {
     const struct instance *in = w->in;
@@ -187,6 +249,8 @@ INLINE void write_constraint(struct walk *w, const struct constraint *c)
         for (uint32_t e = 0; e < c->many.count; e++)
             for (uint32_t i = 0; i < g.count; i++)
                 literals[n++] = 2 * (starts + (store[c->many.first + e] - 1u) * times + store[g.first + i]);
+    } else if (c->kind > 8) {
+        n = write_lengths(w, c, literals);
     } else {
         for (uint32_t i = 0; i < c->many.count; i++) {
             uint32_t size = gather(in, c->one, store[c->many.first + i], x);

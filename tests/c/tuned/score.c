@@ -33,6 +33,42 @@ static uint32_t idle_times(const uint8_t *used, const uint16_t *members, uint32_
     return busy ? last - first + 1 - busy : 0;
 }
 
+/* A bit for each time, the first lowest. */
+__extension__ typedef unsigned __int128 bits;
+
+/* The bits of a row of bytes 0 and 1, eight at a time. */
+static bits pack(const uint8_t *row, uint32_t times)
+{
+    bits all = 0;
+    uint32_t t = 0;
+    for (; t + 8 <= times; t += 8) {
+        uint64_t eight;
+        memcpy(&eight, row + t, 8);
+        all |= (bits)(eight * 0x0102040810204080 >> 56) << t;
+    }
+    for (; t < times; t++)
+        all |= (bits)row[t] << t;
+    return all;
+}
+
+/* Of the starts those whose subevents have n times or more, by the times that go on with the one before. */
+static bits at_least(bits starts, bits on, uint32_t n)
+{
+    for (uint32_t u = 1; u < n; u++)
+        starts &= on >> u;
+    return starts;
+}
+
+/* How many subevents have a length from shortest to longest, or for kind 10 another. */
+static uint32_t of_length(const struct constraint *c, const uint8_t *y, const uint8_t *s, uint32_t times)
+{
+    bits starts = pack(s, times), on = pack(y, times) & ~starts;
+    bits enough = at_least(starts, on, c->shortest);
+    bits above = at_least(enough, on >> (c->shortest - 1), c->longest - c->shortest + 2);
+    bits counted = c->kind == 9 ? enough & ~above : above | (starts & ~enough);
+    return (uint32_t)(__builtin_popcountll((uint64_t)counted) + __builtin_popcountll((uint64_t)(counted >> 64)));
+}
+
 struct tables {
     const uint8_t *y, *s;
     uint8_t used[MOST_RESOURCES * MOST_TIMES];
@@ -44,7 +80,7 @@ static uint32_t deviation(const struct instance *in, const struct constraint *c,
     uint32_t times = in->times, n = 0;
     struct list g = c->kind == 2 || c->kind == 3 || c->kind == 5 || c->kind == 6 ? in->group[c->group - 1] : (struct list){0, 0};
     const uint16_t *members = in->store + g.first;
-    const uint8_t *used = c->kind == 1 || c->kind == 2 || c->kind > 5 ? t->used + (c->one - 1) * times : 0;
+    const uint8_t *used = c->kind == 1 || c->kind == 2 || (c->kind > 5 && c->kind < 9) ? t->used + (c->one - 1) * times : 0;
     switch (c->kind) {
     case 1:
         for (uint32_t i = 0; i < times; i++)
@@ -70,6 +106,10 @@ static uint32_t deviation(const struct instance *in, const struct constraint *c,
         for (uint32_t i = 0; i < g.count; i++)
             n += used[members[i] - 1];
         return c->kind == 6 && !n ? 0 : outside(n, c->lo, c->kind == 2 ? 0 : c->hi);
+    case 9:
+    case 10:
+        n = of_length(c, t->y + (c->one - 1) * times, t->s + (c->one - 1) * times, times);
+        return outside(n, c->lo, c->hi);
     default:
         for (uint32_t k = 0; k < c->many.count; k++) {
             struct list h = in->group[in->store[c->many.first + k] - 1];

@@ -1,6 +1,7 @@
 //! Times the engine against plain C, tuned C and the reference: schools of
-//! growing size, formulas of many ORs, proofs of many hints and with gaps in
-//! their ids, and the worst inputs that are accepted, with the memory of each.
+//! growing size, formulas of many ORs, lengths of subevents, proofs of many hints
+//! and with gaps in their ids, and the worst inputs that are accepted, with the
+//! memory of each.
 //!
 //! `cargo run --release --offline --bin bench` prints the tables of
 //! docs/BENCHMARKS.md; with `-- --short` the same on small inputs. Each time is
@@ -14,6 +15,7 @@
 mod clock;
 mod gaps;
 mod job;
+mod lengths;
 mod programs;
 mod proofs;
 mod schools;
@@ -41,6 +43,8 @@ pub struct Scale {
     copies: usize,
     /// Constraints of the formula of many ORs.
     ors: usize,
+    /// Lessons of the school of kinds 9 and 10.
+    lengths: usize,
     /// The worst inputs have one in so many of their constraints.
     part: usize,
 }
@@ -52,6 +56,7 @@ const WHOLE: Scale = Scale {
     hints: 2_000_000,
     copies: 250_000,
     ors: 200,
+    lengths: 400,
     part: 1,
 };
 
@@ -62,6 +67,7 @@ const SHORT: Scale = Scale {
     hints: 200_000,
     copies: 50_000,
     ors: 20,
+    lengths: 100,
     part: 64,
 };
 

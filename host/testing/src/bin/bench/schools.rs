@@ -1,6 +1,8 @@
-//! The operations on schools of growing size, on a formula of many ORs and on
-//! proofs of many hints; then growth and memory from the same runs.
+//! The operations on schools of growing size, on a formula of many ORs, on lengths
+//! of subevents and on proofs of many hints; then growth and memory from the same
+//! runs.
 
+use crate::lengths;
 use crate::programs::Side;
 use crate::proofs::{copies, Clauses};
 use crate::table::{grouped, head, Row, GROWTH, MEMORY, OPERATIONS};
@@ -22,7 +24,7 @@ const JOBS: [(&str, &str); 6] = [
     (EMPTY, "clause of formula"),
 ];
 /// A check of the empty proof, which takes what the formula takes.
-const EMPTY: &str = "check, empty proof";
+pub const EMPTY: &str = "check, empty proof";
 
 pub struct School {
     pub lessons: usize,
@@ -67,6 +69,7 @@ pub fn tables(bench: &Bench, learned: &[Learned]) {
     all.extend(checks(bench, &schools));
     all.extend(empty_proofs(bench, &schools));
     ors(bench);
+    lengths::rows(bench);
     many_hints(bench, learned);
     growth(&all);
     memory(&all);
