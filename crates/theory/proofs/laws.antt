@@ -12,6 +12,7 @@ pub mod Costs
 pub mod Ranges
 pub mod Bounds
 pub mod Nodes
+pub mod TimeByTime
 pub mod Values
 pub mod Entries
 pub mod Rules

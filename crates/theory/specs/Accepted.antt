@@ -1,10 +1,12 @@
 -- What an accepted instance satisfies: every limit, reference and list that the reader checks.
+use mathlib.Core.Path.{_≡_}
+use mathlib.Core.Bool.{true}
 use mathlib.Core.List.{List}
 use Prim.Native.Nat.{ℕ, _-_, _≤_}
 use lib.ListN.{length}
 use Rattle.laws.specs.Lists.{All}
 use Rattle.scope.specs.Kinds.{Event, Kind, Constraint, Counted, users, groupAt, countedOf, longest}
-use Rattle.scope.specs.Instance.{Instance, countsOf}
+use Rattle.scope.specs.Instance.{Instance, countsOf, ordered}
 use Rattle.parsing.specs.Numbers.{Ascending}
 pub use Rattle.parsing.specs.Valid.{Within, InRange}
 
@@ -19,6 +21,8 @@ counted T es gs k = countedOf T (λ r. users r es) (groupAt gs) k
 pub record ValidConstraint (T R : ℕ) (es : List Event) (gs : List (List ℕ)) (c : Constraint) : Type 0 where
   pub weight : Within 0 1000 (c .weight)
   pub fields : InRange (countsOf T R es gs) (c .kind)
+  -- of kind 10: its shortest length is at most its longest
+  pub ordered : ordered (c .kind) ≡ true
   -- its counted lists have up to 255 members, its lo is at most its hi as written and at most their length
   pub lists : longest (counted T es gs (c .kind) .lists) ≤ 255
   pub bounds : counted T es gs (c .kind) .lo ≤ counted T es gs (c .kind) .hi

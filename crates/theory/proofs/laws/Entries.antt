@@ -1,4 +1,4 @@
--- The entries of the eight kinds, valued in a timetable: their nodes and members count the same.
+-- The entries of kinds 1 to 8, valued in a timetable: their nodes and members count the same.
 use mathlib.Core.Path.{_≡_, refl, sym, ap, ap₂, _∙_}
 use mathlib.Core.Bool.{Bool, true, false, not, _&&_, and-true, and-assoc}
 use mathlib.Core.List.{List, [], _∷_, _++_, map}

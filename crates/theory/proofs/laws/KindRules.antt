@@ -7,7 +7,7 @@ use Prim.Native.Nat.{ℕ, suc, _+_, _≤_, max}
 use native.Mathlib.Omega.{arith}
 use lib.ListN.{length, length-map}
 use Rattle.laws.specs.Lists.{All, All-append, All-weaken, All-map, All-flatMap}
-use Rattle.scope.specs.Kinds.{Event, Kind, clash, unavailable, preferred, split, spread, busy, cluster, idle, Constraint, Atom, Y, S, X, Entry, atom, anyOf, Listed, entries, entriesMembers, Counted, Rule, rule, between, limit, upTo, member, usersFrom, users, outside, groupAt, usesAt, takesAt, startsAt, gapsAfter, gaps, countedOf, rulesOf, longest}
+use Rattle.scope.specs.Kinds.{Event, Kind, clash, unavailable, preferred, split, spread, busy, cluster, idle, distribute, lengths, Constraint, Atom, Y, S, X, Entry, atom, anyOf, Listed, entries, entriesMembers, Counted, Rule, rule, between, limit, upTo, member, usersFrom, users, outside, groupAt, usesAt, takesAt, startsAt, gapsAfter, gaps, countedOf, rulesOf, ofLength, ofLengthOutside, longest}
 use Rattle.scope.specs.Instance.{Instance, countsOf}
 use Rattle.scope.specs.Score.{eventCount, rules}
 use Rattle.scope.specs.Formula.{durationRules, constraintRules, allRules}
@@ -15,6 +15,7 @@ use Rattle.theory.specs.Accepted.{Within, ValidEvent, InRange as ValidFi
 use Rattle.theory.proofs.laws.Accepted.{ascending-within, group-within}
 use Rattle.theory.proofs.laws.Ranges.{length-from, from-all}
 use Rattle.theory.proofs.laws.Nodes.{ListKnown, Atoms, length-members, entries-known}
+use Rattle.theory.proofs.laws.TimeByTime.{of-length-known, outside-known}
 use Rattle.theory.proofs.laws.Rules.{ValidRule, ValidRule-weaken}
 
 -- an atom of an event, a resource and a time that there are
@@ -74,8 +75,12 @@ list-valid P c l a b h = record { order = omega arith; reach = omega arith; atom
 abbrev OneList : (Atom → Type 0) → Counted → Listed → Type 0
 OneList P c l = c .lo ≤ c .hi → c .lo ≤ max (length (l .members)) 0 → All (ValidRule P) (rule c l ∷ [])
 
+one-list : (P : Atom → Type 0) (c : Counted) (l : Listed) → ListKnown P l → OneList P c l
+one-list P c l h a b = (list-valid P c l a (omega arith) h, tt)
+
+-- one of entries
 one-valid : (P : Atom → Type 0) (c : Counted) (l : List Entry) → All (Atoms P) l → OneList P c (entries l)
-one-valid P c l h a b = (list-valid P c (entries l) a (omega arith) (entries-known P l h), tt)
+one-valid P c l h = one-list P c (entries l) (entries-known P l h)
 
 module _ (i : Instance) (v : ValidInstance i) where
   -- X at the members of a group, and of each of some groups
@@ -134,6 +139,12 @@ module _ (i : Instance) (v : ValidInstance i) where
       one-valid (InRange i) (between lo hi []) _
       (All-flatMap _ (Atoms (InRange i)) (λ g. gaps (xs g)) (λ g w. gaps-atoms (InRange i) (xs g) (group-range r g (f .0) w)) hs
       (ascending-within 0 (length (i .groups)) hs (f .1))) a b
+  kind-valid (distribute e n lo hi) f a b =
+      one-list (InRange i) (between lo hi []) (ofLength (i .times) e n)
+      (of-length-known (InRange i) (i .times) e (v .times .low) (λ t w. (f .0, w)) (λ t w. (f .0, w)) n) a b
+  kind-valid (lengths e m n) f a b =
+      one-list (InRange i) (between 0 0 []) (ofLengthOutside (i .times) e m n)
+      (outside-known (InRange i) (i .times) e (v .times .low) (λ t w. (f .0, w)) (λ t w. (f .0, w)) m n) a b
 
   durations-valid : (e : ℕ) (vs : List Event) → 1 ≤ e → e + length vs ≤ suc (length (i .events))
       → All (ValidEvent (i .times) (i .resources)) vs → All (λ r. ValidRule (InRange i) (r .1)) (durationRules i e vs)

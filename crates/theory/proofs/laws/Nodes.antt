@@ -83,7 +83,7 @@ module _ (P : Atom → Type 0) where
   member-known (anyOf xs) k n l h = omega arith
   member-known (gap earlier here later) k n l h = omega arith
 
-  known-append : (k : ℕ) (ns ms : List Node) → NodesKnown P k ns → NodesKnown P (k + length ns) ms → NodesKnown P k (ns ++ ms)
+  pub known-append : (k : ℕ) (ns ms : List Node) → NodesKnown P k ns → NodesKnown P (k + length ns) ms → NodesKnown P k (ns ++ ms)
   known-append k [] ms a b = let e : k + 0 ≡ k = omega arith in rw e at b
   known-append k (n ∷ ns) ms a b =
       let e : k + suc (length ns) ≡ suc k + length ns = omega arith in
