@@ -15,6 +15,12 @@ pub mod Nodes
 pub mod TimeByTime
 pub mod Values
 pub mod Entries
+pub mod Lowered
+pub mod Runs
+pub mod StartNodes
+pub mod Subevents
+pub mod Words
+pub mod LengthLists
 pub mod Rules
 pub mod RuleOrder
 pub mod KindRules

@@ -1,17 +1,16 @@
 -- Laws of counts of true entries, of deviations and of idle times.
-use Prim.Native.Nat.{ℕ, _+_, _-_, _<_, _≤_, min}
+use Prim.Native.Nat.{ℕ, _+_, _-_}
 use mathlib.Core.Path.{_≡_, refl, sym, ap, _∙_}
 use mathlib.Core.Bool.{Bool, true, false, cond, not, _&&_, _||_}
 use mathlib.Core.List.{List, [], _∷_, _++_, map, flatMap}
-use lib.ListN.{length, length-map}
-use lib.Dec.{ltb, eqb}
+use lib.Dec.{eqb}
 use native.Mathlib.Omega.{arith}
 use native.Mathlib.Nat.{add-zero, zero-add, add-assoc}
-use borrow.Author.Tests.{lt-ltb, le-ltb, ltb-true, ltb-false}
-use Rattle.scope.specs.Kinds.{Atom, Entry, entries, entriesMembers, rule, between, limit, gaps, gapsAfter}
+use borrow.Author.Tests.{lt-ltb, le-ltb}
+use Rattle.scope.specs.Kinds.{Atom, Entry, entries, rule, between, limit, gaps, gapsAfter}
 use Rattle.scope.specs.Score.{trues, any, deviation, charged, count, deviations}
-use Rattle.theory.proofs.laws.Nodes.{length-members}
 use Rattle.theory.proofs.laws.Entries.{entryTrue, entries-count}
+use Rattle.theory.proofs.laws.Lowered.{by-order, charged-lowered}
 use Rattle.deviation.specs.Idle.{idles, idlesAfter}
 use Rattle.deviation.specs.Sums.{total}
 
@@ -29,15 +28,6 @@ unfolding trues
 trues-append [] ys = sym (zero-add (trues ys))
 trues-append (x ∷ xs) ys = rw (trues-append xs ys) (sym (add-assoc (cond x 1 0) (trues xs) (trues ys)))
 
-one-most : (t : Bool) → cond t 1 0 ≤ 1
-one-most true = omega arith
-one-most false = omega arith
-
-pub trues-most : (xs : List Bool) → trues xs ≤ length xs
-unfolding trues
-trues-most [] = omega arith
-trues-most (x ∷ xs) = omega (arith, one-most x, trues-most xs)
-
 -- a count over a list of lists is a sum of counts; a count of tests is a sum of 1s
 pub trues-total : (f : ℕ → Bool) (xs : List ℕ) → trues (map f xs) ≡ total (λ x. cond (f x) 1 0) xs
 unfolding trues total
@@ -50,22 +40,7 @@ trues-flat f g [] = refl
 trues-flat f g (x ∷ xs) =
     ap trues (map-append f (g x) (flatMap g xs)) ∙ trues-append (map f (g x)) (map f (flatMap g xs)) ∙ rw (trues-flat f g xs)
 
--- hi may be lowered to the length of a list that has the count
-by-order : (P : Type 0) (a b : ℕ) → (a < b → P) → (b ≤ a → P) → P
-by-order P a b f g = go (ltb a b) refl
-  where
-    go : (t : Bool) → ltb a b ≡ t → P
-    go true e = f (ltb-true a b e)
-    go false e = g (ltb-false a b e)
-
-pub deviation-lowered : (lo hi n c : ℕ) → c ≤ n → deviation lo (min hi n) c ≡ deviation lo hi c
-unfolding deviation
-deviation-lowered lo hi n c h =
-    ap (cond (ltb c lo) (lo - c))
-    (by-order _ hi c
-    (λ l. let e : min hi n ≡ hi = omega arith in rw e)
-    (λ l. rw (le-ltb (min hi n) c (omega arith), le-ltb hi c l)))
-
+-- a count where nothing, or one, is free of charge
 pub deviation-zero : (c : ℕ) → deviation 0 0 c ≡ c
 unfolding deviation
 deviation-zero c =
@@ -80,14 +55,9 @@ deviation-one c =
 
 -- what one list charges
 module _ (τ : Atom → Bool) where
-  count-most : (l : List Entry) → trues (map (entryTrue τ) l) ≤ length (entriesMembers l 0)
-  count-most l = omega (arith, trues-most (map (entryTrue τ) l), length-map l (entryTrue τ), length-members l 0)
-
   between-charged : (lo hi : ℕ) (l : List Entry)
       → charged (rule (between lo hi []) (entries l)) (count τ (entries l)) ≡ deviation lo hi (trues (map (entryTrue τ) l))
-  unfolding charged
-  between-charged lo hi l =
-      rw (entries-count τ l) (deviation-lowered lo hi (length (entriesMembers l 0)) (trues (map (entryTrue τ) l)) (count-most l))
+  between-charged lo hi l = charged-lowered τ (between lo hi []) (entries l) ∙ ap (deviation lo hi) (entries-count τ l)
 
   pub one-list : (lo hi : ℕ) (l : List Entry)
       → deviations τ (rule (between lo hi []) (entries l) ∷ []) ≡ deviation lo hi (trues (map (entryTrue τ) l))
@@ -97,11 +67,8 @@ module _ (τ : Atom → Bool) where
   pub one-limit : (lo hi : ℕ) (l : List Entry)
       → deviations τ (rule (limit lo hi []) (entries l) ∷ [])
       ≡ cond (eqb (trues (map (entryTrue τ) l)) 0) 0 (deviation lo hi (trues (map (entryTrue τ) l)))
-  unfolding deviations charged
-  one-limit lo hi l =
-      rw (add-zero, entries-count τ l)
-      (ap (cond (eqb (trues (map (entryTrue τ) l)) 0) 0)
-      (deviation-lowered lo hi (length (entriesMembers l 0)) (trues (map (entryTrue τ) l)) (count-most l)))
+  unfolding deviations
+  one-limit lo hi l = rw add-zero (charged-lowered τ (limit lo hi []) (entries l) ∙ rw (entries-count τ l))
 
   -- lists with the same bounds, one for each number
   pub many-lists : (lo hi : ℕ) (f : ℕ → List Entry) (xs : List ℕ)

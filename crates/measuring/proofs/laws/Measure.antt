@@ -11,6 +11,7 @@ use borrow.Author.Tests.{ne-eqb}
 use Rattle.scope.specs.Cnf.{pos, neg, opp, hasTrue, withoutFalse, tidy, Gate, or, and, cell, pairs, gateClauses, Item, gate, hard, soft, hardClauses, gates, softUnits}
 use Rattle.scope.specs.Formula.{words}
 use Rattle.scope.specs.Text.{sumWeights}
+use Rattle.theory.proofs.laws.Words.{words-append, pairs-words}
 use Rattle.sizing.specs.declared.Size.{Size}
 use Rattle.sizing.specs.Sums.{none, sum}
 use Rattle.sizing.proofs.laws.Sums.{equal, none-sum, sum-assoc}
@@ -41,11 +42,6 @@ gateSize g =
     record { variables = 1; clauses = length (gateClauses g 1); words = words (gateClauses g 1); units = 0; weight = 0 }
 
 -- clauses one after the other
-pub words-append : (cs ds : List (List ℕ)) → words (cs ++ ds) ≡ words cs + words ds
-unfolding words
-words-append [] ds = omega arith
-words-append (c ∷ cs) ds = rw (words-append cs ds) (omega arith)
-
 pub clauses-append : (cs ds : List (List ℕ)) → clausesSize (cs ++ ds) ≡ sum (clausesSize cs) (clausesSize ds)
 unfolding clausesSize sum
 clauses-append cs ds = rw (length-append, words-append)
@@ -90,11 +86,6 @@ pairs-length : (ls : List ℕ) (p : ℕ) → length (pairs ls p) ≡ length ls
 unfolding pairs
 pairs-length [] p = refl
 pairs-length (l ∷ ls) p = ap suc (pairs-length ls p)
-
-pairs-words : (ls : List ℕ) (p : ℕ) → words (pairs ls p) ≡ 2 * length ls
-unfolding pairs words
-pairs-words [] p = refl
-pairs-words (l ∷ ls) p = rw (pairs-words ls p) (omega arith)
 
 -- the clauses of an OR or an AND of n literals
 abbrev joinedSize : ℕ → Size

@@ -1,8 +1,10 @@
--- Demands 2 and 3 of the definitions, and what the two operations beside them owe.
-use Rattle.scope.specs.Demands.{Demand2, Demand3, DemandHard, DemandBest}
+-- Demands 2 and 3 of the definitions, what the two operations beside them owe, and what kinds 9 and 10 count.
+use Rattle.scope.specs.Demands.{Demand2, Demand3, DemandHard, DemandBest, DemandLengths}
 use Rattle.theory.proofs.laws.Match as match
 use Rattle.theory.proofs.laws.Bounded.{bounded-model}
 use Rattle.theory.proofs.laws.Never as bound
+use Rattle.theory.proofs.laws.Subevents.{distribute-counts, lengths-counts}
+use Rattle.theory.proofs.laws.LengthLists.{of-length-listed, outside-listed}
 
 pub demand2 : Demand2
 demand2 = match.demand2
@@ -15,3 +17,7 @@ demandHard = bound.demand-hard (λ file i B t cost a. bounded-model file i a B t
 
 pub demandBest : DemandBest
 demandBest = bound.demand-best (λ file i B t cost a. bounded-model file i a B t cost) demand2
+
+pub demandLengths : DemandLengths
+demandLengths =
+    record { of-length = distribute-counts; outside = lengths-counts; list = of-length-listed; list-outside = outside-listed }

@@ -2,14 +2,13 @@
 use mathlib.Core.Path.{_≡_, refl, sym, ap, ap₂, _∙_}
 use mathlib.Core.Bool.{Bool, true, false, not, _&&_, and-true, and-assoc}
 use mathlib.Core.List.{List, [], _∷_, _++_, map}
-use Prim.Native.Nat.{ℕ, _+_, _<_}
+use Prim.Native.Nat.{ℕ, _+_}
 use native.Mathlib.Omega.{arith}
 use lib.ListN.{length, getD, List·getD-append}
-use lib.Seq.{getD-append-seam}
 use Rattle.scope.specs.Kinds.{Atom, Entry, atom, anyOf, gap, Node, atoms, entryNodes, entryMember, added, entriesNodes, entriesMembers, entries}
-use Rattle.scope.specs.Score.{any, all, trues, refTrue, nodeTrue, valuesAfter, count}
+use Rattle.scope.specs.Score.{any, all, trues, refTrue, valuesAfter, count}
 use Rattle.theory.proofs.laws.Nodes.{length-entry}
-use Rattle.theory.proofs.laws.Values.{length-more, length-values}
+use Rattle.theory.proofs.laws.Values.{length-more, length-values, values-append, values-keep, value-last}
 
 -- an idle time is false itself, with a true one earlier and a true one later
 unfoldable pub entryTrue : (Atom → Bool) → Entry → Bool
@@ -18,23 +17,6 @@ entryTrue τ (anyOf xs) = any (map τ xs)
 entryTrue τ (gap earlier here later) = not (τ here) && any (map τ earlier) && any (map τ later)
 
 module _ (τ : Atom → Bool) where
-  -- nodes one after the other; the values before them stay
-  values-append : (vs : List Bool) (ns ms : List Node) → valuesAfter τ vs (ns ++ ms) ≡ valuesAfter τ (valuesAfter τ vs ns) ms
-  unfolding valuesAfter
-  values-append vs [] ms = refl
-  values-append vs (n ∷ ns) ms = values-append (vs ++ nodeTrue τ vs n ∷ []) ns ms
-
-  values-keep : (vs : List Bool) (ns : List Node) (j : ℕ) → j < length vs → getD (valuesAfter τ vs ns) j false ≡ getD vs j false
-  unfolding valuesAfter
-  values-keep vs [] j h = refl
-  values-keep vs (n ∷ ns) j h =
-      let b = nodeTrue τ vs n in
-      values-keep (vs ++ b ∷ []) ns j (omega (arith, length-more vs b)) ∙ List·getD-append vs (b ∷ []) false j h
-
-  -- the value put last
-  value-last : (vs : List Bool) (b : Bool) (k : ℕ) → length vs ≡ k → getD (vs ++ b ∷ []) k false ≡ b
-  value-last vs b k e = rw (← e) (getD-append-seam vs b [] false)
-
   atoms-true : (vs : List Bool) (xs : List Atom) → map (refTrue τ vs) (atoms xs) ≡ map τ xs
   atoms-true vs [] = refl
   atoms-true vs (x ∷ xs) = ap (_∷_ (τ x)) (atoms-true vs xs)
@@ -46,7 +28,7 @@ module _ (τ : Atom → Bool) where
   entry-true (atom a) vs k ms e = refl
   entry-true (anyOf xs) vs k ms e =
       let b = any (map (refTrue τ vs) (atoms xs)) in
-      values-keep (vs ++ b ∷ []) ms k (omega (arith, length-more vs b)) ∙ value-last vs b k e ∙ ap any (atoms-true vs xs)
+      values-keep τ (vs ++ b ∷ []) ms k (omega (arith, length-more vs b)) ∙ value-last vs b k e ∙ ap any (atoms-true vs xs)
   entry-true (gap earlier here later) vs k ms e =
       let g = any (map (refTrue τ vs) (atoms earlier)) in
       let ws = vs ++ g ∷ [] in
@@ -58,7 +40,7 @@ module _ (τ : Atom → Bool) where
       let atG : getD us k false ≡ any (map τ earlier) =
       List·getD-append ws (h ∷ []) false k (omega (arith, lw)) ∙ value-last vs g k e ∙ ap any (atoms-true vs earlier) in
       let atH : getD us (k + 1) false ≡ any (map τ later) = value-last ws h (k + 1) (omega (arith, lw)) ∙ ap any (atoms-true ws later) in
-      values-keep (us ++ i ∷ []) ms (k + 2) (omega (arith, lw, lu, length-more us i)) ∙ value-last us i (k + 2) (omega (arith, lw, lu))
+      values-keep τ (us ++ i ∷ []) ms (k + 2) (omega (arith, lw, lu, length-more us i)) ∙ value-last us i (k + 2) (omega (arith, lw, lu))
       ∙ rw (atG, atH, and-true) (sym (and-assoc (not (τ here)) (any (map τ earlier)) (any (map τ later))))
 
   entries-true : (xs : List Entry) (vs : List Bool) (k : ℕ) → length vs ≡ k
@@ -69,7 +51,7 @@ module _ (τ : Atom → Bool) where
       let ms = entriesNodes xs (k + added x) in
       let ws = valuesAfter τ vs (entryNodes x k) in
       let l : length ws ≡ k + added x = omega (arith, length-values τ vs (entryNodes x k), length-entry x k) in
-      rw (values-append vs (entryNodes x k) ms)
+      rw (values-append τ vs (entryNodes x k) ms)
       (ap₂ (λ b bs. b ∷ bs) (entry-true x vs k ms e) (entries-true xs ws (k + added x) l))
 
   -- as many members are true as entries

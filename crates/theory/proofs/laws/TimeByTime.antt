@@ -30,6 +30,14 @@ unfolding timeByTime
 length-timed-nodes T e s f rows =
     length-append (goingOn T e) (flatMap f (upTo T)) ∙ rw (length-going, length-rows f s rows (upTo T), length-from)
 
+-- the nodes of a time stand after those of the time before it
+pub after-step : (T s t : ℕ) → 1 ≤ t → T + s * (suc t - 1) ≡ T + s * (t - 1) + s
+after-step T s zero l = let f : ⊥ = omega arith in absurd f
+after-step T s (suc u) l =
+    let a : suc (suc u) - 1 ≡ suc u = omega arith in
+    let b : suc u - 1 ≡ u = omega arith in
+    rw (a, b) (omega (arith, mul-suc s u))
+
 -- kind 10's list is one of two, whatever is asked of it
 pub outside-either : (Q : Listed → Type 0) (T e a b : ℕ) → Q (timeByTime T e 1 (startAbove T e b))
     → Q (timeByTime T e 3 (λ t. startOutside T e a b (T + 3 * (t - 1)) t)) → Q (ofLengthOutside T e a b)
@@ -94,14 +102,6 @@ module _ (P : Atom → Type 0) where
         (from-all (Within 2 T) 2 (T - 1) (λ t l h. record { low = l; high = omega arith })))
         ((λ j. tt), tt))
 
-    -- the nodes of a time stand after those of the time before it
-    after-step : (s t : ℕ) → 1 ≤ t → T + s * (suc t - 1) ≡ T + s * (t - 1) + s
-    after-step s zero l = let f : ⊥ = omega arith in absurd f
-    after-step s (suc u) l =
-        let a : suc (suc u) - 1 ≡ suc u = omega arith in
-        let b : suc u - 1 ≡ u = omega arith in
-        rw (a, b) (omega (arith, mul-suc s u))
-
     -- the last node of a time is one of the list's
     member-known : (s t k : ℕ) → t ≤ T → T + T * s ≤ k → T + s * t - 1 < k
     member-known s t k h l = omega (arith, mul-le-mul-left s h, mul-comm s T)
@@ -117,7 +117,7 @@ module _ (P : Atom → Type 0) where
         record {
           nodes = known-append P 0 (goingOn T e) (flatMap f (upTo T)) going-known
               (rw place
-              (each-known (λ t. T + s * (t - 1)) s f rows 1 T (after-step s)
+              (each-known (λ t. T + s * (t - 1)) s f rows 1 T (after-step T s)
               (λ t l g. h t (record { low = l; high = omega arith }))));
           members = All-map (λ t. t ≤ T) (Known P k) (λ t. is (aNode (T + s * t - 1)))
               (λ t l. member-known s t k l (omega (arith, n))) (upTo T) (from-all (λ t. t ≤ T) 1 T (λ t l g. omega arith));

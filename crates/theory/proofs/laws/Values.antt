@@ -34,6 +34,24 @@ length-values τ vs (n ∷ ns) =
     let b = nodeTrue τ vs n in
     omega (arith, length-values τ (vs ++ b ∷ []) ns, length-more vs b)
 
+module _ (τ : Atom → Bool) where
+  -- nodes one after the other; the values before them stay
+  pub values-append : (vs : List Bool) (ns ms : List Node) → valuesAfter τ vs (ns ++ ms) ≡ valuesAfter τ (valuesAfter τ vs ns) ms
+  unfolding valuesAfter
+  values-append vs [] ms = refl
+  values-append vs (n ∷ ns) ms = values-append (vs ++ nodeTrue τ vs n ∷ []) ns ms
+
+  pub values-keep : (vs : List Bool) (ns : List Node) (j : ℕ) → j < length vs → getD (valuesAfter τ vs ns) j false ≡ getD vs j false
+  unfolding valuesAfter
+  values-keep vs [] j h = refl
+  values-keep vs (n ∷ ns) j h =
+      let b = nodeTrue τ vs n in
+      values-keep (vs ++ b ∷ []) ns j (omega (arith, length-more vs b)) ∙ List·getD-append vs (b ∷ []) false j h
+
+-- the value put last
+pub value-last : (vs : List Bool) (b : Bool) (k : ℕ) → length vs ≡ k → getD (vs ++ b ∷ []) k false ≡ b
+value-last vs b k e = rw (← e) (getD-append-seam vs b [] false)
+
 -- an AND over literals that say what some things are
 cube-all : (ν : Assignment) {A : Type 0} (f : A → ℕ) (g : A → Bool) (xs : List A) → All (λ x. lit ν (f x) ≡ g x) xs
     → cube ν (map f xs) ≡ all (map g xs)
