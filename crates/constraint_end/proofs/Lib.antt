@@ -1,2 +1,2 @@
 pub mod laws
-mod FlatBounds
+mod FlatKinds

@@ -10,10 +10,8 @@ pub fn lo_of(kind: u32, w: Flat) -> u32
     ensures { λ r. ⌜ ((l : List ℕ) → r ≡ lowOf (kindFrom kind w l)) ⌝ }
 {
     match kind {
-        1 => 0,
-        2 => 0,
-        3 => 0,
-        _ => w.c,
+        4..=9 => w.c,
+        _ => 0,
     }
 }
 
@@ -22,8 +20,7 @@ pub fn hi_of(kind: u32, w: Flat) -> u32
 {
     match kind {
         1 => 1,
-        2 => 0,
-        3 => 0,
-        _ => w.d,
+        4..=9 => w.d,
+        _ => 0,
     }
 }

@@ -2,9 +2,9 @@
 use crate::busy::length_of_busy;
 use crate::clash::length_of_clash;
 use crate::cluster::length_of_cluster;
+use crate::every_time::one_for_each_time;
 use crate::idle::length_of_idle;
 use crate::preferred::length_of_preferred;
-use crate::split::length_of_split;
 use crate::spread::length_of_spread;
 use crate::unavailable::length_of_unavailable;
 use constraint::Head;
@@ -33,10 +33,12 @@ pub fn list_length(
         1 => length_of_clash(w.d, loads),
         2 => length_of_unavailable(w.d, groups),
         3 => length_of_preferred(head.times, w.d, groups),
-        4 => length_of_split(head.times),
+        4 => one_for_each_time(head.times),
         5 => length_of_spread(w.list, w.b, groups),
         6 => length_of_busy(w.b, groups),
         7 => length_of_cluster(w.list),
-        _ => length_of_idle(groups, list, w.list),
+        8 => length_of_idle(groups, list, w.list),
+        9 => one_for_each_time(head.times),
+        _ => one_for_each_time(head.times),
     }
 }

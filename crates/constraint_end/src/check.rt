@@ -2,6 +2,7 @@
 use crate::bounds::hi_of;
 use crate::bounds::lo_of;
 use crate::by_kind::list_length;
+use crate::order::in_order;
 use constraint::FlatNext;
 use constraint::Head;
 use constraint::flat_at;
@@ -17,9 +18,10 @@ ghost use Rattle.number.specs.Answers.{said};
 ghost use Rattle.constraint_end.specs.Ends.{ends};
 ghost use Rattle.constraint_end.specs.Ready.{Ready, checkedBy, byCounts};
 
-// A constraint whose kind stands at an offset and whose counted list has n members: where it ends.
-fn ended(at: usize, n: u32, lo: u32, hi: u32, end: usize) -> Number
-    ensures { λ r. ⌜ ((weight : ℕ) (k : Kind) → said r ≡ ends (endedAt at lo hi n weight k end)) ⌝ }
+// A constraint whose kind stands at an offset, whose lengths are in order or not, and whose counted list has n members: where it
+// ends.
+fn ended(at: usize, order: bool, n: u32, lo: u32, hi: u32, end: usize) -> Number
+    ensures { λ r. ⌜ ((weight : ℕ) (k : Kind) → said r ≡ ends (endedAt at order lo hi n weight k end)) ⌝ }
 {
     let long = Refusal {
         number: LIST_TOO_LONG,
@@ -31,6 +33,9 @@ fn ended(at: usize, n: u32, lo: u32, hi: u32, end: usize) -> Number
     };
     if 255 < n {
         return Number::Refused(long);
+    }
+    if !order {
+        return Number::Refused(bad);
     }
     if hi < lo {
         return Number::Refused(bad);
@@ -56,9 +61,10 @@ pub fn checked_at(
     match flat_at(s, at, head, list) {
         FlatNext::Read(c, end) => {
             let n = list_length(c.kind, c.fields, head, loads, groups, list);
+            let order = in_order(c.kind, c.fields);
             let lo = lo_of(c.kind, c.fields);
             let hi = hi_of(c.kind, c.fields);
-            ended(at, n, lo, hi, end)
+            ended(at, order, n, lo, hi, end)
         }
         FlatNext::Refused(f) => Number::Refused(f),
     }

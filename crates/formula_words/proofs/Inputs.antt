@@ -1,17 +1,41 @@
--- The lists of a kind: at most 125 of them, and at most 125 inputs for each of their nodes.
+-- The lists of a kind: at most 125 of them, and at most 128 inputs for each of their nodes.
 use mathlib.Core.Path.{_≡_}
+use mathlib.Core.Bool.{Bool, true, false, cond}
 use mathlib.Core.List.{List, [], _∷_, _++_, map, flatMap}
-use Prim.Native.Nat.{ℕ, _+_, _*_, _≤_}
+use Prim.Native.Nat.{ℕ, _+_, _-_, _*_, _≤_, min}
 use native.Mathlib.Omega.{arith}
+use lib.Dec.{eqb}
 use lib.ListN.{length, length-append, length-map}
 use Rattle.laws.specs.Lists.{All, All-append}
-use Rattle.scope.specs.Kinds.{Kind, clash, unavailable, preferred, split, spread, busy, cluster, idle, Atom, X, Y, S, Node, is, anAtom, atoms, Entry, atom, anyOf, gap, entryNodes, added, entriesNodes, Listed, entries, Counted, upTo, usesAt, startsAt, outside, gapsAfter, gaps, countedOf}
+use Rattle.scope.specs.Kinds.{Kind, clash, unavailable, preferred, split, spread, busy, cluster, idle, distribute, lengths, Atom, X, Y, S, Ref, is, anAtom, aNode, atoms, Node, someOf, Entry, atom, anyOf, gap, entryNodes, added, entriesNodes, Listed, entries, Counted, from, upTo, usesAt, startsAt, outside, gapsAfter, gaps, goesOn, goingOn, onAt, notOnAt, span, startOf, startAbove, startOutside, timeByTime, ofLength, ofLengthOutside, countedOf}
 use Rattle.theory.proofs.laws.Ranges.{length-from}
 use Rattle.measuring.specs.NodeSizes.{inputs, allInputs}
 
--- a list with few inputs
+-- what holds of each thing that a function gives
+module _ {A B : Type 0} (P : B → Type 0) where
+  all-map : (f : A → B) → ((x : A) → P (f x)) → (xs : List A) → All P (map f xs)
+  all-map f h [] = tt
+  all-map f h (x ∷ xs) = (h x, all-map f h xs)
+
+  all-flat : (f : A → List B) → ((x : A) → All P (f x)) → (xs : List A) → All P (flatMap f xs)
+  unfolding flatMap
+  all-flat f h [] = tt
+  all-flat f h (x ∷ xs) = All-append P (f x) (flatMap f xs) (h x) (all-flat f h xs)
+
+-- a node with few inputs, and a list with few
+abbrev Narrow : Node → Type 0
+Narrow n = inputs n ≤ 128
+
 pub record Modest (l : Listed) : Type 0 where
-  pub few : allInputs (l .nodes) ≤ 125 * length (l .nodes)
+  pub few : allInputs (l .nodes) ≤ 128 * length (l .nodes)
+
+narrow-inputs : (ns : List Node) → All Narrow ns → allInputs ns ≤ 128 * length ns
+unfolding allInputs
+narrow-inputs [] h = omega arith
+narrow-inputs (n ∷ ns) h = omega (arith, h .0, narrow-inputs ns (h .1))
+
+modest : (l : Listed) → All Narrow (l .nodes) → Modest l
+modest l h = record { few = narrow-inputs (l .nodes) h }
 
 -- an entry over at most 125 atoms on each side
 abbrev Brief : Entry → Type 0
@@ -19,39 +43,23 @@ Brief (atom a) = Unit {0}
 Brief (anyOf xs) = length xs ≤ 125
 Brief (gap earlier here later) = (length earlier ≤ 125) × (length later ≤ 125)
 
-inputs-append : (ms ns : List Node) → allInputs (ms ++ ns) ≡ allInputs ms + allInputs ns
-unfolding allInputs
-inputs-append [] ns = omega arith
-inputs-append (m ∷ ms) ns = omega (arith, inputs-append ms ns)
-
 length-atoms : (xs : List Atom) → length (atoms xs) ≡ length xs
 length-atoms xs = length-map xs (λ a. is (anAtom a))
 
-entry-inputs : (x : Entry) (k : ℕ) → Brief x → allInputs (entryNodes x k) ≤ 125 * length (entryNodes x k)
-unfolding allInputs
-entry-inputs (atom a) k b = omega arith
-entry-inputs (anyOf xs) k b = omega (arith, length-atoms xs)
-entry-inputs (gap earlier here later) k b = omega (arith, length-atoms earlier, length-atoms later, b .0, b .1)
+entry-narrow : (x : Entry) (k : ℕ) → Brief x → All Narrow (entryNodes x k)
+entry-narrow (atom a) k b = tt
+entry-narrow (anyOf xs) k b = (omega (arith, length-atoms xs), tt)
+entry-narrow (gap earlier here later) k b =
+    (omega (arith, length-atoms earlier, b .0), (omega (arith, length-atoms later, b .1), (omega arith, tt)))
 
-entries-inputs : (xs : List Entry) (k : ℕ) → All Brief xs → allInputs (entriesNodes xs k) ≤ 125 * length (entriesNodes xs k)
-unfolding entriesNodes allInputs
-entries-inputs [] k b = omega arith
-entries-inputs (x ∷ xs) k b =
-    omega (
-      arith,
-      inputs-append (entryNodes x k) (entriesNodes xs (k + added x)),
-      length-append (entryNodes x k) (entriesNodes xs (k + added x)),
-      entry-inputs x k (b .0),
-      entries-inputs xs (k + added x) (b .1),
-    )
+entries-narrow : (xs : List Entry) (k : ℕ) → All Brief xs → All Narrow (entriesNodes xs k)
+unfolding entriesNodes
+entries-narrow [] k b = tt
+entries-narrow (x ∷ xs) k b =
+    All-append Narrow (entryNodes x k) (entriesNodes xs (k + added x)) (entry-narrow x k (b .0)) (entries-narrow xs (k + added x) (b .1))
 
-modest : (xs : List Entry) → All Brief xs → Modest (entries xs)
-modest xs b = record { few = entries-inputs xs 0 b }
-
--- the entries of kinds
-all-atoms : {A : Type 0} (f : A → Atom) (xs : List A) → All Brief (map (λ x. atom (f x)) xs)
-all-atoms f [] = tt
-all-atoms f (x ∷ xs) = (tt, all-atoms f xs)
+brief : (xs : List Entry) → All Brief xs → Modest (entries xs)
+brief xs b = modest (entries xs) (entries-narrow xs 0 b)
 
 gaps-brief : (before xs : List Atom) → length before + length xs ≤ 125 → All Brief (gapsAfter before xs)
 unfolding gapsAfter
@@ -65,44 +73,82 @@ unfolding gaps
 all-gaps [] h = tt
 all-gaps (x ∷ xs) h = gaps-brief (x ∷ []) xs (omega arith)
 
-all-flat : {A : Type 0} (f : A → List Entry) → ((x : A) → All Brief (f x)) → (xs : List A) → All Brief (flatMap f xs)
-unfolding flatMap
-all-flat f h [] = tt
-all-flat f h (x ∷ xs) = All-append Brief (f x) (flatMap f xs) (h x) (all-flat f h xs)
-
 -- what a kind counts, where no group has more than 125 members
 pub record Few (c : Counted) : Type 0 where
   pub lists : length (c .lists) ≤ 125
   pub inputs : All Modest (c .lists)
 
-module _ (T : ℕ) (h : T ≤ 125) (us group : ℕ → List ℕ) (short : (g : ℕ) → length (group g) ≤ 125) where
-  uses-short : (r g : ℕ) → length (usesAt r (group g)) ≤ 125
-  uses-short r g = omega (arith, length-map (group g) (λ t. X r t), short g)
+module _ (T : ℕ) (h : T ≤ 125) where
+  -- no more references than there are times up to T + 1
+  span-few : (f : ℕ → Ref) (a b : ℕ) → length (map f (span T a b)) ≤ 127 - a
+  unfolding span
+  span-few f a b = omega (arith, length-map (from a (min b (T + 1) + 1 - a)) f, length-from a (min b (T + 1) + 1 - a))
 
-  all-groups : (r : ℕ) (hs : List ℕ) → All Brief (map (λ g. anyOf (usesAt r (group g))) hs)
-  all-groups r [] = tt
-  all-groups r (g ∷ gs) = (uses-short r g, all-groups r gs)
+  span-one : (f : ℕ → Ref) (a : ℕ) → length (map f (span T a a)) ≤ 1
+  unfolding span
+  span-one f a = omega (arith, length-map (from a (min a (T + 1) + 1 - a)) f, length-from a (min a (T + 1) + 1 - a))
 
-  by-times : (f : ℕ → List Entry) → ((t : ℕ) → All Brief (f t)) → (ts : List ℕ) → All Modest (map (λ t. entries (f t)) ts)
-  by-times f b [] = tt
-  by-times f b (t ∷ ts) = (modest (f t) (b t), by-times f b ts)
+  timed-modest : (e s : ℕ) (f : ℕ → List Node) → ((t : ℕ) → All Narrow (f t)) → Modest (timeByTime T e s f)
+  unfolding timeByTime goingOn
+  timed-modest e s f n =
+      modest (timeByTime T e s f)
+      (All-append Narrow (goingOn T e) (flatMap f (upTo T))
+      (All-append Narrow (map (goesOn e) (from 2 (T - 1))) (someOf [] ∷ []) (all-map Narrow (goesOn e) (λ t. omega arith) (from 2 (T - 1))) (omega arith, tt))
+      (all-flat Narrow f n (upTo T)))
 
-  pub kind-few : (k : Kind) → Few (countedOf T us group k)
-  unfolding countedOf
-  kind-few (clash r) =
-      record {
-        lists = omega (arith, length-map (upTo T) (λ t. entries (map (λ e. atom (Y e t)) (us r))), length-from 1 T);
-        inputs = by-times (λ t. map (λ e. atom (Y e t)) (us r)) (λ t. all-atoms (λ e. Y e t) (us r)) (upTo T);
-      }
-  kind-few (unavailable r g) = record { lists = omega arith; inputs = (modest _ (all-atoms (λ a. a) (usesAt r (group g))), tt) }
-  kind-few (preferred e g) = record { lists = omega arith; inputs = (modest _ (all-atoms (Y e) (outside (group g) (upTo T))), tt) }
-  kind-few (split e lo hi) = record { lists = omega arith; inputs = (modest _ (all-atoms (S e) (upTo T)), tt) }
-  kind-few (spread vs g lo hi) =
-      record { lists = omega arith; inputs = (modest _ (all-flat (λ e. startsAt e (group g)) (λ e. all-atoms (S e) (group g)) vs), tt) }
-  kind-few (busy r g lo hi) = record { lists = omega arith; inputs = (modest _ (all-atoms (λ a. a) (usesAt r (group g))), tt) }
-  kind-few (cluster r hs lo hi) = record { lists = omega arith; inputs = (modest _ (all-groups r hs), tt) }
-  kind-few (idle r hs lo hi) =
-      record {
-        lists = omega arith;
-        inputs = (modest _ (all-flat (λ g. gaps (usesAt r (group g))) (λ g. all-gaps (usesAt r (group g)) (uses-short r g)) hs), tt);
-      }
+  of-modest : (e n : ℕ) → Modest (ofLength T e n)
+  unfolding ofLength
+  of-modest e n =
+      timed-modest e 1 (startOf T e n)
+      (λ t.
+      let on = map onAt (span T (t + 1) (t + n - 1)) in
+      let off = map notOnAt (span T (t + n) (t + n)) in
+      (omega (arith, length-append on off, span-few onAt (t + 1) (t + n - 1), span-one notOnAt (t + n)), tt))
+
+  outside-modest : (e a b : ℕ) → Modest (ofLengthOutside T e a b)
+  unfolding ofLengthOutside
+  outside-modest e a b = go (eqb a 1)
+    where
+      go : (c : Bool)
+          → Modest (cond c (timeByTime T e 1 (startAbove T e b)) (timeByTime T e 3 (λ t. startOutside T e a b (T + 3 * (t - 1)) t)))
+      go true = timed-modest e 1 (startAbove T e b) (λ t. (omega (arith, span-few onAt (t + 1) (t + b)), tt))
+      go false =
+          timed-modest e 3 (λ t. startOutside T e a b (T + 3 * (t - 1)) t)
+          (λ t.
+          let off = map notOnAt (span T (t + 1) (t + a - 1)) in
+          let q : List Ref = is (aNode (T + 3 * (t - 1))) ∷ [] in
+          (omega (arith, span-few onAt (t + a) (t + b)), (omega (arith, length-append off q, span-few notOnAt (t + 1) (t + a - 1)), (omega arith, tt))))
+
+  module _ (us group : ℕ → List ℕ) (short : (g : ℕ) → length (group g) ≤ 125) where
+    uses-short : (r g : ℕ) → length (usesAt r (group g)) ≤ 125
+    uses-short r g = omega (arith, length-map (group g) (λ t. X r t), short g)
+
+    pub kind-few : (k : Kind) → Few (countedOf T us group k)
+    unfolding countedOf
+    kind-few (clash r) =
+        record {
+          lists = omega (arith, length-map (upTo T) (λ t. entries (map (λ e. atom (Y e t)) (us r))), length-from 1 T);
+          inputs =
+              all-map Modest (λ t. entries (map (λ e. atom (Y e t)) (us r)))
+              (λ t. brief _ (all-map Brief (λ e. atom (Y e t)) (λ e. tt) (us r))) (upTo T);
+        }
+    kind-few (unavailable r g) = record { lists = omega arith; inputs = (brief _ (all-map Brief atom (λ a. tt) (usesAt r (group g))), tt) }
+    kind-few (preferred e g) =
+        record { lists = omega arith; inputs = (brief _ (all-map Brief (λ t. atom (Y e t)) (λ t. tt) (outside (group g) (upTo T))), tt) }
+    kind-few (split e lo hi) = record { lists = omega arith; inputs = (brief _ (all-map Brief (λ t. atom (S e t)) (λ t. tt) (upTo T)), tt) }
+    kind-few (spread vs g lo hi) =
+        record {
+          lists = omega arith;
+          inputs =
+              (brief _ (all-flat Brief (λ e. startsAt e (group g)) (λ e. all-map Brief (λ t. atom (S e t)) (λ t. tt) (group g)) vs), tt);
+        }
+    kind-few (busy r g lo hi) = record { lists = omega arith; inputs = (brief _ (all-map Brief atom (λ a. tt) (usesAt r (group g))), tt) }
+    kind-few (cluster r hs lo hi) =
+        record { lists = omega arith; inputs = (brief _ (all-map Brief (λ g. anyOf (usesAt r (group g))) (uses-short r) hs), tt) }
+    kind-few (idle r hs lo hi) =
+        record {
+          lists = omega arith;
+          inputs = (brief _ (all-flat Brief (λ g. gaps (usesAt r (group g))) (λ g. all-gaps (usesAt r (group g)) (uses-short r g)) hs), tt);
+        }
+    kind-few (distribute e n lo hi) = record { lists = omega arith; inputs = (of-modest e n, tt) }
+    kind-few (lengths e a b) = record { lists = omega arith; inputs = (outside-modest e a b, tt) }

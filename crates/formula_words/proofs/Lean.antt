@@ -1,4 +1,4 @@
--- Sizes with at most 376 words for each variable, and some more.
+-- Sizes with at most 385 words for each variable, and some more.
 use mathlib.Core.Path.{_≡_, refl}
 use mathlib.Core.Bool.{Bool, true, false, cond}
 use Prim.Native.Nat.{ℕ, zero, suc, _+_, _-_, _*_, _≤_}
@@ -16,7 +16,7 @@ use Rattle.sizing.specs.Counts.{unitsSize, shortsSize, lowSize, countSize}
 use Rattle.sizing.proofs.laws.Counts.{units-hard, units-soft, shorts-hard, shorts-soft}
 
 pub record Lean (extra : ℕ) (z : Size) : Type 0 where
-  pub few : z .words ≤ 376 * z .variables + extra
+  pub few : z .words ≤ 385 * z .variables + extra
 
 pub lean-more : {a b : ℕ} {z : Size} → a ≤ b → Lean a z → Lean b z
 lean-more h l = record { few = omega (arith, l .few) }
@@ -70,7 +70,7 @@ count-lean w lo hi free n =
     lean-sum (rows-lean (columns w hi n) n 1) (lean-sum (low-lean w lo free) (units-lean w (n - hi)))
 
 -- nodes
-pub nodes-lean : (n k : ℕ) → k ≤ 125 * n → Lean 0 (nodeSizes n k)
+pub nodes-lean : (n k : ℕ) → k ≤ 128 * n → Lean 0 (nodeSizes n k)
 unfolding nodeSizes
 nodes-lean n k h = record { few = omega arith }
 

@@ -8,19 +8,23 @@ use native.Mathlib.Nat.{eq-or-lt-of-le}
 use native.Mathlib.Omega.{arith}
 use borrow.Author.Tests.{eq-eqb, ne-eqb}
 use lib.ListN.{length, getD, length-map, length-append}
-use Rattle.scope.specs.Kinds.{Event, Kind, clash, unavailable, preferred, split, spread, busy, cluster, idle, Atom, Y, S, X, Entry, atom, Listed, entries, from, upTo, member, users, outside, groupAt, usesAt, startsAt, gapsAfter, gaps, countedOf, longest}
+use Rattle.scope.specs.Kinds.{Event, Kind, clash, unavailable, preferred, split, spread, busy, cluster, idle, distribute, lengths, Atom, Y, S, X, Entry, atom, Listed, entries, from, upTo, member, users, outside, groupAt, usesAt, startsAt, gapsAfter, gaps, countedOf, longest}
 use Rattle.theory.proofs.laws.Ranges.{length-from}
 use Rattle.theory.proofs.laws.Nodes.{length-members}
+use Rattle.theory.proofs.laws.TimeByTime.{length-of, length-outside}
 use Rattle.constraint.specs.Decoded.{longestOf}
 use Rattle.parsing.specs.Each.{Each, each-none, each-more}
 use Rattle.parsing.specs.Numbers.{Ascending, none, more}
 use Rattle.tables.proofs.laws.Occurrences.{below-once}
 use Rattle.constraint_end.specs.Length.{innerLength, listLength}
 
--- one counted list
-longest-one : (l : List Entry) → longest (entries l ∷ []) ≡ length l
+-- one counted list, of nodes or of entries
+longest-alone : (l : Listed) → longest (l ∷ []) ≡ length (l .members)
 unfolding longest
-longest-one l = omega (arith, length-members l 0)
+longest-alone l = omega arith
+
+longest-one : (l : List Entry) → longest (entries l ∷ []) ≡ length l
+longest-one l = longest-alone (entries l) ∙ length-members l 0
 
 -- the same length at each time
 longest-most : (f : ℕ → Listed) (m n k : ℕ) → ((t : ℕ) → length (f t .members) ≡ m) → longest (map f (from n k)) ≤ m
@@ -111,6 +115,8 @@ list-length T used es gs (spread vs g lo hi) p u a =
 list-length T used es gs (busy r g lo hi) p u a = longest-one _ ∙ length-map (usesAt r (groupAt gs g)) atom ∙ length-map (groupAt gs g) (X r)
 list-length T used es gs (cluster r hs lo hi) p u a = longest-one _ ∙ length-map hs _
 list-length T used es gs (idle r hs lo hi) p u a = longest-one _ ∙ length-inner r gs hs
+list-length T used es gs (distribute e n lo hi) p u a = longest-alone _ ∙ length-of T e n
+list-length T used es gs (lengths e x y) p u a = longest-alone _ ∙ length-outside T e x y
 
 -- only the counts of users matter
 pub length-same : (T : ℕ) (used used′ : ℕ → ℕ) (gs : List (List ℕ)) (k : Kind)
@@ -125,3 +131,5 @@ length-same T used used′ gs (spread vs g lo hi) h = refl
 length-same T used used′ gs (busy r g lo hi) h = refl
 length-same T used used′ gs (cluster r hs lo hi) h = refl
 length-same T used used′ gs (idle r hs lo hi) h = refl
+length-same T used used′ gs (distribute e n lo hi) h = refl
+length-same T used used′ gs (lengths e a b) h = refl

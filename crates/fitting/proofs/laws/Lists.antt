@@ -1,50 +1,22 @@
 -- The counted lists of a kind: one list, or a list for each time. From this alone: how many they are, how many nodes they have,
 -- that they are alike, and that each has lo members where the longest has.
 use mathlib.Core.Path.{_≡_, refl, _∙_}
+use mathlib.Core.Bool.{Bool, true, false, cond}
 use mathlib.Core.List.{List, [], _∷_, map}
-use Prim.Native.Nat.{ℕ, zero, suc, _+_, _*_, _≤_}
+use Prim.Native.Nat.{ℕ, _+_, _-_, _*_, _≤_}
+use native.Mathlib.Nat.{mul-le-mul-left}
 use native.Mathlib.Omega.{arith}
+use lib.Dec.{eqb}
 use lib.ListN.{length, length-append, length-map}
-use Rattle.scope.specs.Kinds.{Kind, clash, unavailable, preferred, split, spread, busy, cluster, idle, Y, Entry, atom, anyOf, gap, Node, entryNodes, added, entriesNodes, entriesMembers, Listed, entries, Counted, from, upTo, countedOf, longest}
+use Rattle.scope.specs.Kinds.{Kind, clash, unavailable, preferred, split, spread, busy, cluster, idle, distribute, lengths, Y, Entry, atom, anyOf, gap, Node, entryNodes, added, entriesNodes, entriesMembers, Listed, entries, Counted, upTo, startOf, startAbove, startOutside, timeByTime, ofLength, ofLengthOutside, countedOf, longest}
 use Rattle.parsing.specs.Each.{Each, each-none, each-more}
+use Rattle.theory.proofs.laws.Ranges.{length-from}
+use Rattle.theory.proofs.laws.TimeByTime.{length-timed, length-timed-nodes}
 use Rattle.list_nodes.specs.Stored.{Short}
 
--- the list of time t: Y of some events
-abbrev timeList : List ℕ → ℕ → Listed
-timeList us t = entries (map (λ e. atom (Y e t)) us)
-
--- one list, or a list for each of T times, and then lo is 0
-pub data Shape (T : ℕ) (c : Counted) : Type 0 where
-  one-list : (xs : List Entry) → c .lists ≡ entries xs ∷ [] → Shape T c
-  time-lists : (us : List ℕ) → c .lists ≡ map (timeList us) (upTo T) → c .lo ≡ 0 → Shape T c
-
--- that of each kind
-pub lists-shape : (T : ℕ) (us group : ℕ → List ℕ) (k : Kind) → Shape T (countedOf T us group k)
-unfolding countedOf
-lists-shape T us group (clash r) = time-lists (us r) refl refl
-lists-shape T us group (unavailable r g) = one-list _ refl
-lists-shape T us group (preferred e g) = one-list _ refl
-lists-shape T us group (split e lo hi) = one-list _ refl
-lists-shape T us group (spread vs g lo hi) = one-list _ refl
-lists-shape T us group (busy r g lo hi) = one-list _ refl
-lists-shape T us group (cluster r hs lo hi) = one-list _ refl
-lists-shape T us group (idle r hs lo hi) = one-list _ refl
-
-each-of : {A : Type 0} {P : A → Type 0} (f : ℕ → A) → ((t : ℕ) → P (f t)) → (ts : List ℕ) → Each P (map f ts)
-each-of f p [] = each-none
-each-of f p (t ∷ ts) = each-more {x = f t} (p t) (each-of f p ts)
-
--- a counted list has at least lo members
-pub record Reached (lo : ℕ) (l : Listed) : Type 0 where
-  pub low : lo ≤ length (l .members)
-
-one-reached : {lo : ℕ} (l : Listed) → lo ≤ longest (l ∷ []) → Each (Reached lo) (l ∷ [])
-unfolding longest
-one-reached l h = each-more {x = l} (record { low = omega arith }) each-none
-
--- a list that has at most three nodes for each member
+-- a list that has at most four nodes for each member, and one more
 pub record Small (l : Listed) : Type 0 where
-  pub few : length (l .nodes) ≤ 3 * length (l .members)
+  pub few : length (l .nodes) ≤ 4 * length (l .members) + 1
 
 entry-few : (x : Entry) (k : ℕ) → length (entryNodes x k) ≤ 3
 entry-few (atom a) k = omega arith
@@ -63,7 +35,60 @@ entries-few (x ∷ xs) k =
     )
 
 entries-small : (xs : List Entry) → Small (entries xs)
-entries-small xs = record { few = entries-few xs 0 }
+entries-small xs = record { few = omega (arith, entries-few xs 0) }
+
+-- up to three nodes for each time after a first one for each
+timed-small : (T e s : ℕ) (f : ℕ → List Node) → ((t : ℕ) → length (f t) ≡ s) → s ≤ 3 → Small (timeByTime T e s f)
+timed-small T e s f rows h =
+    record { few = omega (arith, length-timed-nodes T e s f rows, length-timed T e s f, mul-le-mul-left T h) }
+
+of-small : (T e n : ℕ) → Small (ofLength T e n)
+unfolding ofLength
+of-small T e n = timed-small T e 1 (startOf T e n) (λ t. refl) (omega arith)
+
+outside-small : (T e a b : ℕ) → Small (ofLengthOutside T e a b)
+unfolding ofLengthOutside
+outside-small T e a b = go (eqb a 1)
+  where
+    go : (c : Bool)
+        → Small (cond c (timeByTime T e 1 (startAbove T e b)) (timeByTime T e 3 (λ t. startOutside T e a b (T + 3 * (t - 1)) t)))
+    go true = timed-small T e 1 (startAbove T e b) (λ t. refl) (omega arith)
+    go false = timed-small T e 3 (λ t. startOutside T e a b (T + 3 * (t - 1)) t) (λ t. refl) (omega arith)
+
+-- the list of time t: Y of some events
+abbrev timeList : List ℕ → ℕ → Listed
+timeList us t = entries (map (λ e. atom (Y e t)) us)
+
+-- one list with few nodes, or a list for each of T times, and then lo is 0
+pub data Shape (T : ℕ) (c : Counted) : Type 0 where
+  one-list : (l : Listed) → Small l → c .lists ≡ l ∷ [] → Shape T c
+  time-lists : (us : List ℕ) → c .lists ≡ map (timeList us) (upTo T) → c .lo ≡ 0 → Shape T c
+
+-- that of each kind
+pub lists-shape : (T : ℕ) (us group : ℕ → List ℕ) (k : Kind) → Shape T (countedOf T us group k)
+unfolding countedOf
+lists-shape T us group (clash r) = time-lists (us r) refl refl
+lists-shape T us group (unavailable r g) = one-list _ (entries-small _) refl
+lists-shape T us group (preferred e g) = one-list _ (entries-small _) refl
+lists-shape T us group (split e lo hi) = one-list _ (entries-small _) refl
+lists-shape T us group (spread vs g lo hi) = one-list _ (entries-small _) refl
+lists-shape T us group (busy r g lo hi) = one-list _ (entries-small _) refl
+lists-shape T us group (cluster r hs lo hi) = one-list _ (entries-small _) refl
+lists-shape T us group (idle r hs lo hi) = one-list _ (entries-small _) refl
+lists-shape T us group (distribute e n lo hi) = one-list _ (of-small T e n) refl
+lists-shape T us group (lengths e a b) = one-list _ (outside-small T e a b) refl
+
+each-of : {A : Type 0} {P : A → Type 0} (f : ℕ → A) → ((t : ℕ) → P (f t)) → (ts : List ℕ) → Each P (map f ts)
+each-of f p [] = each-none
+each-of f p (t ∷ ts) = each-more {x = f t} (p t) (each-of f p ts)
+
+-- a counted list has at least lo members
+pub record Reached (lo : ℕ) (l : Listed) : Type 0 where
+  pub low : lo ≤ length (l .members)
+
+one-reached : {lo : ℕ} (l : Listed) → lo ≤ longest (l ∷ []) → Each (Reached lo) (l ∷ [])
+unfolding longest
+one-reached l h = each-more {x = l} (record { low = omega arith }) each-none
 
 -- a list with these nodes and so many members, and lists that all have the same
 pub record Like (ns : List Node) (n : ℕ) (l : Listed) : Type 0 where
@@ -88,38 +113,33 @@ atoms-members (u ∷ us) t k = omega (arith, atoms-members us t (k + added (atom
 time-like : (us : List ℕ) (t : ℕ) → Like [] (length us) (timeList us t)
 time-like us t = record { nodes = atoms-nodes us t 0; members = atoms-members us t 0 }
 
-length-upTo : (n k : ℕ) → length (from n k) ≡ k
-unfolding from
-length-upTo n zero = refl
-length-upTo n (suc k) = omega (arith, length-upTo (suc n) k)
-
 time-count : (T : ℕ) (us : List ℕ) → length (map (timeList us) (upTo T)) ≡ T
-time-count T us = length-map (upTo T) (timeList us) ∙ length-upTo 1 T
+time-count T us = length-map (upTo T) (timeList us) ∙ length-from 1 T
 
 module _ {T : ℕ} {c : Counted} where
   -- at most one for each time, and at least one
   pub lists-few : Shape T c → 1 ≤ T → length (c .lists) ≤ T
-  lists-few (one-list xs e) h = rw e (omega arith)
+  lists-few (one-list l m e) h = rw e (omega arith)
   lists-few (time-lists us e z) h = rw e (omega (arith, time-count T us))
 
   pub lists-some : Shape T c → 1 ≤ T → 1 ≤ length (c .lists)
-  lists-some (one-list xs e) h = rw e (omega arith)
+  lists-some (one-list l m e) h = rw e (omega arith)
   lists-some (time-lists us e z) h = rw e (omega (arith, time-count T us))
 
   pub lists-reached : Shape T c → c .lo ≤ longest (c .lists) → Each (Reached (c .lo)) (c .lists)
-  lists-reached (one-list xs e) h = rw e (one-reached (entries xs) (rw e at h))
+  lists-reached (one-list l m e) h = rw e (one-reached l (rw e at h))
   lists-reached (time-lists us e z) h = rw (e, z) (each-of (timeList us) (λ t. record { low = omega arith }) (upTo T))
 
   pub lists-small : Shape T c → Each Small (c .lists)
-  lists-small (one-list xs e) = rw e (each-more {x = entries xs} (entries-small xs) each-none)
+  lists-small (one-list l m e) = rw e (each-more {x = l} m each-none)
   lists-small (time-lists us e z) = rw e (each-of (timeList us) (λ t. entries-small (map (λ e. atom (Y e t)) us)) (upTo T))
 
   pub lists-alike : Shape T c → Alike (c .lists)
-  lists-alike (one-list xs e) =
+  lists-alike (one-list l m e) =
       record {
-        nodes = entriesNodes xs 0;
-        count = length (entriesMembers xs 0);
-        each = rw e (each-more {x = entries xs} (record { nodes = refl; members = refl }) each-none);
+        nodes = l .nodes;
+        count = length (l .members);
+        each = rw e (each-more {x = l} (record { nodes = refl; members = refl }) each-none);
       }
   lists-alike (time-lists us e z) =
       record { nodes = []; count = length us; each = rw e (each-of (timeList us) (time-like us) (upTo T)) }

@@ -34,8 +34,8 @@ length-of-preferred-requires c κs =
     let v = rw (c .match .keys3) at (p .1) in
     one-in _ _ _ (p .0 .rows) (v .1)
 
-length-of-split-requires : tie.Need-length-of-split-requires
-length-of-split-requires c κs = search needs
+one-for-each-time-requires : tie.Need-one-for-each-time-requires
+one-for-each-time-requires c κs = search needs
 
 length-of-spread-requires : tie.Need-length-of-spread-requires
 unfolding kindFrom
@@ -62,11 +62,16 @@ unfolding kindFrom
 length-of-idle-requires c κs =
     let a = c .before .before .before .before in
     let w = a .args .w in
-    let n = c .match .rest in
-    let v = rw (ne-eqb _ 1 (n .0 .0 .0 .0 .0 .0 .1), ne-eqb _ 2 (n .0 .0 .0 .0 .0 .1), ne-eqb _ 3 (n .0 .0 .0 .0 .1), ne-eqb _ 4 (n .0 .0 .0 .1), ne-eqb _ 5 (n .0 .0 .1), ne-eqb _ 6 (n .0 .1), ne-eqb _ 7 (n .1)) at (a .pre .1) in
+    let v = rw (c .match .keys8) at (a .pre .1) in
     let l = ascending-length _ 0 _ (v .1) (omega arith) in
     let m : w .list ≤ 2048 = omega (arith, l, length-leading (w .list) (a .args .list .now), a .pre .0 .numbers) in
     (omega (arith, a .pre .0 .room), (m, ascending-in _ _ 0 _ (a .pre .0 .rows) (v .1)))
+
+one-for-each-time-requires-2 : tie.Need-one-for-each-time-requires-2
+one-for-each-time-requires-2 c κs = search needs
+
+one-for-each-time-requires-3 : tie.Need-one-for-each-time-requires-3
+one-for-each-time-requires-3 c κs = search needs
 
 returns : tie.Need-returns
 unfolding kindFrom listLength
@@ -90,7 +95,7 @@ returns-3 c =
 
 returns-4 : tie.Need-returns-4
 unfolding kindFrom listLength
-returns-4 c = rw (c .before .match .keys4) (c .length-of-split .ensures)
+returns-4 c = rw (c .before .match .keys4) (c .one-for-each-time .ensures)
 
 returns-5 : tie.Need-returns-5
 unfolding kindFrom listLength
@@ -115,9 +120,18 @@ returns-7 c = rw (c .before .match .keys7, length-leading) (c .length-of-cluster
 returns-8 : tie.Need-returns-8
 unfolding kindFrom listLength
 returns-8 c =
+    let v = rw (c .before .match .keys8) at (c .before .before .before .before .before .pre .1) in
+    rw (c .before .match .keys8) (c .length-of-idle .ensures ∙ inner-rows _ _ 0 _ (v .1))
+
+returns-9 : tie.Need-returns-9
+unfolding kindFrom listLength
+returns-9 c = rw (c .before .match .keys9) (c .one-for-each-time2 .ensures)
+
+returns-10 : tie.Need-returns-10
+unfolding kindFrom listLength
+returns-10 c =
     let n = c .before .match .rest in
-    let v = rw (ne-eqb _ 1 (n .0 .0 .0 .0 .0 .0 .1), ne-eqb _ 2 (n .0 .0 .0 .0 .0 .1), ne-eqb _ 3 (n .0 .0 .0 .0 .1), ne-eqb _ 4 (n .0 .0 .0 .1), ne-eqb _ 5 (n .0 .0 .1), ne-eqb _ 6 (n .0 .1), ne-eqb _ 7 (n .1)) at (c .before .before .before .before .before .pre .1) in
-    rw (ne-eqb _ 1 (n .0 .0 .0 .0 .0 .0 .1), ne-eqb _ 2 (n .0 .0 .0 .0 .0 .1), ne-eqb _ 3 (n .0 .0 .0 .0 .1), ne-eqb _ 4 (n .0 .0 .0 .1), ne-eqb _ 5 (n .0 .0 .1), ne-eqb _ 6 (n .0 .1), ne-eqb _ 7 (n .1)) (c .length-of-idle .ensures ∙ inner-rows _ _ 0 _ (v .1))
+    rw (ne-eqb _ 1 (n .0 .0 .0 .0 .0 .0 .0 .0 .1), ne-eqb _ 2 (n .0 .0 .0 .0 .0 .0 .0 .1), ne-eqb _ 3 (n .0 .0 .0 .0 .0 .0 .1), ne-eqb _ 4 (n .0 .0 .0 .0 .0 .1), ne-eqb _ 5 (n .0 .0 .0 .0 .1), ne-eqb _ 6 (n .0 .0 .0 .1), ne-eqb _ 7 (n .0 .0 .1), ne-eqb _ 8 (n .0 .1), ne-eqb _ 9 (n .1)) (c .one-for-each-time3 .ensures)
 
 pub list-length-spec : {M : Type 1} → statement M
 list-length-spec =
@@ -126,11 +140,13 @@ list-length-spec =
     length-of-clash-requires
     length-of-unavailable-requires
     length-of-preferred-requires
-    length-of-split-requires
+    one-for-each-time-requires
     length-of-spread-requires
     length-of-busy-requires
     length-of-cluster-requires
     length-of-idle-requires
+    one-for-each-time-requires-2
+    one-for-each-time-requires-3
     returns
     returns-2
     returns-3
@@ -138,4 +154,6 @@ list-length-spec =
     returns-5
     returns-6
     returns-7
-    returns-8)
+    returns-8
+    returns-9
+    returns-10)

@@ -23,6 +23,9 @@ list-length-requires c κs =
     let e = sym (f .ensures) ∙ ap (saidFlatNext l) (c .before .before .c .given .1) in
     (ready-kept (c .before .before .before .before .before .before .before .before .before .before .before .before .pre) (f .kept .1 .1 .1 .0), decoded-got _ _ _ e .fields)
 
+in-order-requires : tie.Need-in-order-requires
+in-order-requires c κs = search needs
+
 lo-of-requires : tie.Need-lo-of-requires
 lo-of-requires c κs = search needs
 
@@ -41,10 +44,10 @@ same-length c = search needs
 returns : tie.Need-returns
 unfolding checkedAt
 returns c =
-    let f = c .before .before .before .before .before .before .before .before .before .before .flat-at in
-    let w = c .before .before .before .before .before .before .c .given .0 .0 in
+    let f = c .before .before .before .before .before .before .before .before .before .before .before .flat-at in
+    let w = c .before .before .before .before .before .before .before .c .given .0 .0 in
     let l = leading (w .fields .list) (f .last .1 .1 .1 .0) in
-    rw (← (f .ensures), c .before .before .before .before .before .before .c .given .1, ← (c .before .before .before .list-length .ensures), ← (c .before .before .lo-of .ensures l), ← (c .before .hi-of .ensures l))
+    rw (← (f .ensures), c .before .before .before .before .before .before .before .c .given .1, ← (c .before .before .before .before .list-length .ensures), ← (c .before .before .before .in-order .ensures l), ← (c .before .before .lo-of .ensures l), ← (c .before .hi-of .ensures l))
     (c .ended .ensures (w .weight) (kindFrom (w .kind) (w .fields) l))
 
 same-length-2 : tie.Need-same-length-2
@@ -61,6 +64,7 @@ checked-at-spec =
     flat-at-requires
     enum-known-c
     list-length-requires
+    in-order-requires
     lo-of-requires
     hi-of-requires
     ended-requires
