@@ -1,14 +1,13 @@
 -- The lists of a kind: at most 125 of them, and at most 128 inputs for each of their nodes.
 use mathlib.Core.Path.{_≡_}
-use mathlib.Core.Bool.{Bool, true, false, cond}
 use mathlib.Core.List.{List, [], _∷_, _++_, map, flatMap}
 use Prim.Native.Nat.{ℕ, _+_, _-_, _*_, _≤_, min}
 use native.Mathlib.Omega.{arith}
-use lib.Dec.{eqb}
 use lib.ListN.{length, length-append, length-map}
 use Rattle.laws.specs.Lists.{All, All-append}
 use Rattle.scope.specs.Kinds.{Kind, clash, unavailable, preferred, split, spread, busy, cluster, idle, distribute, lengths, Atom, X, Y, S, Ref, is, anAtom, aNode, atoms, Node, someOf, Entry, atom, anyOf, gap, entryNodes, added, entriesNodes, Listed, entries, Counted, from, upTo, usesAt, startsAt, outside, gapsAfter, gaps, goesOn, goingOn, onAt, notOnAt, span, startOf, startAbove, startOutside, timeByTime, ofLength, ofLengthOutside, countedOf}
 use Rattle.theory.proofs.laws.Ranges.{length-from}
+use Rattle.theory.proofs.laws.TimeByTime.{outside-either}
 use Rattle.measuring.specs.NodeSizes.{inputs, allInputs}
 
 -- what holds of each thing that a function gives
@@ -106,18 +105,14 @@ module _ (T : ℕ) (h : T ≤ 125) where
       (omega (arith, length-append on off, span-few onAt (t + 1) (t + n - 1), span-one notOnAt (t + n)), tt))
 
   outside-modest : (e a b : ℕ) → Modest (ofLengthOutside T e a b)
-  unfolding ofLengthOutside
-  outside-modest e a b = go (eqb a 1)
-    where
-      go : (c : Bool)
-          → Modest (cond c (timeByTime T e 1 (startAbove T e b)) (timeByTime T e 3 (λ t. startOutside T e a b (T + 3 * (t - 1)) t)))
-      go true = timed-modest e 1 (startAbove T e b) (λ t. (omega (arith, span-few onAt (t + 1) (t + b)), tt))
-      go false =
-          timed-modest e 3 (λ t. startOutside T e a b (T + 3 * (t - 1)) t)
-          (λ t.
-          let off = map notOnAt (span T (t + 1) (t + a - 1)) in
-          let q : List Ref = is (aNode (T + 3 * (t - 1))) ∷ [] in
-          (omega (arith, span-few onAt (t + a) (t + b)), (omega (arith, length-append off q, span-few notOnAt (t + 1) (t + a - 1)), (omega arith, tt))))
+  outside-modest e a b =
+      outside-either Modest T e a b
+      (timed-modest e 1 (startAbove T e b) (λ t. (omega (arith, span-few onAt (t + 1) (t + b)), tt)))
+      (timed-modest e 3 (λ t. startOutside T e a b (T + 3 * (t - 1)) t)
+      (λ t.
+      let off = map notOnAt (span T (t + 1) (t + a - 1)) in
+      let q : List Ref = is (aNode (T + 3 * (t - 1))) ∷ [] in
+      (omega (arith, span-few onAt (t + a) (t + b)), (omega (arith, length-append off q, span-few notOnAt (t + 1) (t + a - 1)), (omega arith, tt)))))
 
   module _ (us group : ℕ → List ℕ) (short : (g : ℕ) → length (group g) ≤ 125) where
     uses-short : (r g : ℕ) → length (usesAt r (group g)) ≤ 125

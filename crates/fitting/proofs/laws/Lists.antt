@@ -1,17 +1,15 @@
 -- The counted lists of a kind: one list, or a list for each time. From this alone: how many they are, how many nodes they have,
 -- that they are alike, and that each has lo members where the longest has.
 use mathlib.Core.Path.{_≡_, refl, _∙_}
-use mathlib.Core.Bool.{Bool, true, false, cond}
 use mathlib.Core.List.{List, [], _∷_, map}
 use Prim.Native.Nat.{ℕ, _+_, _-_, _*_, _≤_}
 use native.Mathlib.Nat.{mul-le-mul-left}
 use native.Mathlib.Omega.{arith}
-use lib.Dec.{eqb}
 use lib.ListN.{length, length-append, length-map}
 use Rattle.scope.specs.Kinds.{Kind, clash, unavailable, preferred, split, spread, busy, cluster, idle, distribute, lengths, Y, Entry, atom, anyOf, gap, Node, entryNodes, added, entriesNodes, entriesMembers, Listed, entries, Counted, upTo, startOf, startAbove, startOutside, timeByTime, ofLength, ofLengthOutside, countedOf, longest}
 use Rattle.parsing.specs.Each.{Each, each-none, each-more}
 use Rattle.theory.proofs.laws.Ranges.{length-from}
-use Rattle.theory.proofs.laws.TimeByTime.{length-timed, length-timed-nodes}
+use Rattle.theory.proofs.laws.TimeByTime.{length-timed, length-timed-nodes, outside-either}
 use Rattle.list_nodes.specs.Stored.{Short}
 
 -- a list that has at most four nodes for each member, and one more
@@ -47,13 +45,9 @@ unfolding ofLength
 of-small T e n = timed-small T e 1 (startOf T e n) (λ t. refl) (omega arith)
 
 outside-small : (T e a b : ℕ) → Small (ofLengthOutside T e a b)
-unfolding ofLengthOutside
-outside-small T e a b = go (eqb a 1)
-  where
-    go : (c : Bool)
-        → Small (cond c (timeByTime T e 1 (startAbove T e b)) (timeByTime T e 3 (λ t. startOutside T e a b (T + 3 * (t - 1)) t)))
-    go true = timed-small T e 1 (startAbove T e b) (λ t. refl) (omega arith)
-    go false = timed-small T e 3 (λ t. startOutside T e a b (T + 3 * (t - 1)) t) (λ t. refl) (omega arith)
+outside-small T e a b =
+    outside-either Small T e a b (timed-small T e 1 (startAbove T e b) (λ t. refl) (omega arith))
+    (timed-small T e 3 (λ t. startOutside T e a b (T + 3 * (t - 1)) t) (λ t. refl) (omega arith))
 
 -- the list of time t: Y of some events
 abbrev timeList : List ℕ → ℕ → Listed
