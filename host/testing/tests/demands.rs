@@ -202,7 +202,7 @@ impl Models {
 
 /// For each kind, hard then soft, how often it was drawn.
 #[derive(Default)]
-struct Drawn([[usize; 2]; 8]);
+struct Drawn([[usize; 2]; 10]);
 
 impl Drawn {
     fn count(&mut self, instance: &Instance) {
@@ -216,6 +216,8 @@ impl Drawn {
                 Kind::BusyLimit { .. } => 5,
                 Kind::Cluster { .. } => 6,
                 Kind::Idle { .. } => 7,
+                Kind::Distribute { .. } => 8,
+                Kind::Lengths { .. } => 9,
             };
             self.0[kind][usize::from(constraint.weight > 0)] += 1;
         }
