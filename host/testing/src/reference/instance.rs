@@ -195,7 +195,7 @@ impl Kind {
         }
     }
 
-    /// Whether a bound below stands above the one beside it.
+    /// Whether lo is above hi as written, or shortest above longest.
     fn crossed(&self) -> bool {
         let Range { lo, hi } = self.range();
         match self {
