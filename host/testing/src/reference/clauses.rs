@@ -231,22 +231,17 @@ impl<'a, S: Sink> Writer<'a, S> {
                 idle
             }
             Kind::Distribute { event, length, .. } => {
-                let starts = variables.starts(*event);
-                let going = self.going_gates(variables, *event);
-                let gate = |(time, &start)| self.length_gate(start, &going[time..], *length);
-                starts.iter().enumerate().map(gate).collect()
+                self.starts_by_length(variables, *event, |writer, start, going| {
+                    writer.length_gate(start, going, *length)
+                })
             }
             Kind::Lengths {
                 event,
                 shortest,
                 longest,
-            } => {
-                let starts = variables.starts(*event);
-                let going = self.going_gates(variables, *event);
-                let gate =
-                    |(time, &start)| self.outside_gate(start, &going[time..], *shortest, *longest);
-                starts.iter().enumerate().map(gate).collect()
-            }
+            } => self.starts_by_length(variables, *event, |writer, start, going| {
+                writer.outside_gate(start, going, *shortest, *longest)
+            }),
         };
         self.counted(&list, kind.range(), weight, Low::of(kind));
     }
@@ -293,6 +288,22 @@ impl<'a, S: Sink> Writer<'a, S> {
         }
         going.push(self.or_gate(&[]));
         going
+    }
+
+    /// A gate for each start, made of its S and of the M of the times after it.
+    fn starts_by_length(
+        &mut self,
+        variables: &Variables,
+        event: usize,
+        gate: impl Fn(&mut Self, Literal, &[Literal]) -> Literal,
+    ) -> Vec<Literal> {
+        let going = self.going_gates(variables, event);
+        let starts = variables.starts(event);
+        let later = (0..variables.times).map(|time| &going[time..]);
+        let starts = starts.into_iter().zip(later);
+        starts
+            .map(|(start, going)| gate(self, start, going))
+            .collect()
     }
 
     /// Whether a subevent of `length` begins at `start`; `going` are the M of the
