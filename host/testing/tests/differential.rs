@@ -18,7 +18,7 @@ use support::{long_list, oversized};
 use testing::forgeries::forgeries;
 use testing::generate::{
     damaged_bytes, damaged_instance, damaged_numbers, damaged_table, encode, instance, lent, model,
-    proof, school, timetable, Random, Shape,
+    proof, school_with_lengths, timetable, Random, Shape,
 };
 use testing::prover::{clause_list, solve, Verdict};
 use testing::reference::{self, Instance, Refusal, Sizes};
@@ -233,7 +233,7 @@ fn best_models_are_found_alike() {
 fn large_timetables_are_scored_alike() {
     for events in [400, 1_024] {
         let mut random = Random::new(first_seed());
-        let instance = school(&mut random, events);
+        let instance = school_with_lengths(&mut random, events);
         let file = encode(&instance);
         for _ in 0..20 {
             let table = timetable(&mut random, &instance);

@@ -3,7 +3,7 @@
 mod support;
 
 use support::both::{check, decode, read, score, sizes, text_program};
-use support::{first_times, hex, numbers, refused, FILE_A, PROOF_A};
+use support::{clauses, first_times, hex, numbers, refused, FILE_A, PROOF_A};
 use testing::generate::model;
 use testing::reference::{
     deviation, read_number, Infeasibility, Instance, Objective, Range, Score,
@@ -63,6 +63,60 @@ fn idle_times() {
         score(&file, &hex("00 01 00 00 01 00 00 01 00 00 01 00")),
         scored(0, 2)
     );
+}
+
+/// "Two doubles and a single" in six times: two subevents of length 2, one of
+/// length 1, none of another length.
+#[test]
+fn two_doubles_and_a_single() {
+    let file = hex("06 01 00 05 00 00 03 09 00 01 02 02 02 09 00 01 01 01 01 0A 00 01 01 02");
+    let kept = hex("01 01 01 01 00 01 01 00 01 00 00 01");
+    assert_eq!(score(&file, &kept), scored(0, 0));
+    let model = model(&Instance::read(&file).unwrap(), &kept);
+    assert_eq!(decode(&file, &model), Ok((&kept[..], Objective(0))));
+    // A triple and a double: a double and the single are missing, the triple is too long.
+    let broken = hex("01 01 01 00 01 01 01 00 00 00 01 00");
+    assert_eq!(score(&file, &broken), scored(3, 0));
+}
+
+/// One double, at weight 1.
+#[test]
+fn doubles() {
+    let with = |times, duration| numbers(&[times, 1, 0, duration, 0, 0, 1, 9, 1, 1, 2, 1, 1]);
+    let last = hex("00 00 00 00 01 01 00 00 00 00 01 00");
+    assert_eq!(score(&with(6, 2), &last), scored(0, 0));
+    assert_eq!(score(&with(2, 2), &hex("01 01 01 00")), scored(0, 0));
+    assert_eq!(score(&with(2, 2), &hex("01 01 01 01")), scored(0, 1));
+    assert_eq!(score(&with(2, 1), &hex("01 00 01 00")), scored(0, 1));
+}
+
+/// The clauses of a hard kind 9 for length 2, 1 to 1, beside its counter.
+#[test]
+fn clauses_of_doubles() {
+    let all = clauses(&numbers(&[3, 1, 0, 2, 0, 0, 1, 9, 0, 1, 2, 1, 1]), None);
+    let first = all.iter().position(|clause| *clause == [2, -16]).unwrap();
+    let expected: [&[i64]; 18] = [
+        &[2, -16],
+        &[-5, -16],
+        &[-2, 5, 16],
+        &[3, -17],
+        &[-6, -17],
+        &[-3, 6, 17],
+        &[-18],
+        &[4, -19],
+        &[16, -19],
+        &[-17, -19],
+        &[-4, -16, 17, 19],
+        &[5, -20],
+        &[17, -20],
+        &[-18, -20],
+        &[-5, -17, 18, 20],
+        &[6, -21],
+        &[18, -21],
+        &[-6, -18, 21],
+    ];
+    assert_eq!(all[first..first + 18], expected);
+    assert_eq!(all[all.len() - 2..], [vec![26], vec![-27]]);
 }
 
 /// A soft split counts the starts 1, 0, 1.

@@ -9,7 +9,7 @@ use testing::generate::{
     damaged_instance, damaged_numbers, damaged_table, encode, instance, lent, model, number_starts,
     proof, timetable, Random, Shape,
 };
-use testing::reference::{Infeasibility, Instance, Refusal};
+use testing::reference::{Constraint, Infeasibility, Instance, Kind, Refusal};
 
 /// How often each refusal was given; 0 stands for acceptance.
 #[derive(Default, Debug)]
@@ -70,6 +70,95 @@ fn instances_are_accepted_and_read_back() {
     }
 }
 
+/// What instances have of kinds 9 and 10: a name for each case.
+fn cases_of_lengths(instance: &Instance) -> Vec<&'static str> {
+    let mut cases = Vec::new();
+    for constraint in &instance.constraints {
+        match constraint.kind {
+            Kind::Distribute { event, length, .. } => {
+                let duration = instance.events[event].duration;
+                cases.extend((length == 1).then_some("length 1"));
+                cases.extend((length == instance.times).then_some("length T"));
+                cases.extend((length > duration).then_some("length above the duration"));
+                cases.extend((1 < length && length < duration).then_some("length inside"));
+            }
+            Kind::Lengths {
+                shortest, longest, ..
+            } => {
+                cases.extend((shortest == longest).then_some("one length"));
+                cases.push(match (shortest, longest < instance.times) {
+                    (1, true) => "shortest 1, longest below T",
+                    (1, false) => "1 to T",
+                    (_, true) => "shortest above 1, longest below T",
+                    (_, false) => "shortest above 1, longest T",
+                });
+            }
+            _ => continue,
+        }
+        cases.extend((instance.times == 1).then_some("T = 1"));
+    }
+    cases
+}
+
+/// Whether two subevents of several times each stand side by side.
+fn side_by_side(instance: &Instance, table: &[u8]) -> bool {
+    let half = table.len() / 2;
+    (0..instance.events.len()).any(|event| {
+        let row = event * instance.times..(event + 1) * instance.times;
+        // From the second time of one on: taken, a start, taken again.
+        let marks: Vec<u8> = row.map(|at| table[at] + table[half + at]).collect();
+        marks.windows(3).any(|three| *three == [1, 2, 1])
+    })
+}
+
+#[test]
+fn lengths_of_every_sort_are_drawn() {
+    let mut seen: BTreeMap<&str, usize> = BTreeMap::new();
+    for seed in 0..2_000 {
+        let mut random = Random::new(seed);
+        let instance = instance(&mut random, &shape(seed));
+        let mut cases = cases_of_lengths(&instance);
+        let table = timetable(&mut random, &instance);
+        cases.extend(side_by_side(&instance, &table).then_some("side by side"));
+        for case in cases {
+            *seen.entry(case).or_default() += 1;
+        }
+    }
+    println!("seeds 0..2_000: {seen:?}");
+    assert_eq!(seen.len(), 11);
+    assert!(seen.values().all(|&count| count >= 20));
+}
+
+/// The refusals of one damaged field of kinds 9 and 10.
+#[test]
+fn damaged_lengths_are_refused() {
+    let mut seen = BTreeMap::new();
+    for seed in 0..5_000 {
+        let mut random = Random::new(seed);
+        let mut whole = instance(&mut random, &shape(seed));
+        let of_lengths = |constraint: &Constraint| {
+            matches!(
+                constraint.kind,
+                Kind::Distribute { .. } | Kind::Lengths { .. }
+            )
+        };
+        whole.constraints.retain(of_lengths);
+        let damaged = damaged_instance(&mut random, &whole);
+        let changed = whole.constraints.iter().zip(&damaged.constraints);
+        let Some((was, _)) = changed.clone().find(|(was, is)| was != is) else {
+            continue;
+        };
+        let distribute = matches!(was.kind, Kind::Distribute { .. });
+        if let Err(refusal) = read(&encode(&damaged)) {
+            *seen.entry((distribute, refusal.number)).or_insert(0) += 1;
+        }
+    }
+    println!("seeds 0..5_000: {seen:?}");
+    for case in [(true, 2), (true, 5), (false, 2), (false, 5)] {
+        assert!(seen.get(&case).is_some_and(|&count| count >= 20));
+    }
+}
+
 #[test]
 fn timetables_are_accepted_and_models_decode_to_their_score() {
     let mut kept = 0;
@@ -109,7 +198,7 @@ fn damaged_files_reach_refusals_1_to_6() {
         constraints: 5..=9,
         ..Shape::small()
     };
-    for seed in 0..1_000 {
+    for seed in 0..2_000 {
         let mut random = Random::new(seed);
         let shape = match seed % 10 {
             0 => long_lists.clone(),
@@ -139,7 +228,7 @@ fn damaged_files_reach_refusals_1_to_6() {
             }
         }
     }
-    println!("seeds 0..1_000: {seen:?}");
+    println!("seeds 0..2_000: {seen:?}");
     for number in 0..=6 {
         assert!(seen.times(number) >= 20, "refusal {number}");
     }
@@ -188,9 +277,14 @@ fn damaged_models_reach_refusals_10_11_and_13() {
 #[test]
 fn random_proofs_reach_refusals_14_to_18() {
     let mut seen = Seen::default();
-    for seed in 0..500 {
+    // In a small formula a random hint is often a unit.
+    let shape = Shape {
+        constraints: 0..=1,
+        ..Shape::tiny()
+    };
+    for seed in 0..1_000 {
         let mut random = Random::new(seed);
-        let instance = instance(&mut random, &Shape::tiny());
+        let instance = instance(&mut random, &shape);
         let file = encode(&instance);
         let bound = random.below(5) as u64;
         let sizes = sizes(&file, Some(bound)).unwrap();
@@ -208,7 +302,7 @@ fn random_proofs_reach_refusals_14_to_18() {
             seen.count(&answer);
         }
     }
-    println!("seeds 0..500: {seen:?}");
+    println!("seeds 0..1_000: {seen:?}");
     for number in [9, 14, 15, 16, 17, 18] {
         assert!(seen.times(number) >= 5, "refusal {number}");
     }

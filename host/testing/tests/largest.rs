@@ -5,7 +5,8 @@ mod support;
 
 use support::both::{check, decode, read, score, sizes};
 use testing::generate::{
-    encode, idle_limits, long_tail, many_ors, many_variables, model, planned_school, Plan, Random,
+    encode, idle_limits, long_lengths, long_tail, many_ors, many_variables, model, planned_school,
+    Plan, Random,
 };
 use testing::prover::{clause_list, lemmas};
 use testing::reference::{Infeasibility, Instance, Refusal};
@@ -43,6 +44,26 @@ fn the_longest_file_of_idle_limits_has_8_megabytes() {
     assert_eq!(read(&file).map(|summary| summary.constraints), Ok(4_096));
     let sizes = sizes(&file, Some(10)).expect("a formula that is small enough");
     assert!(sizes.clauses > 130_000_000);
+}
+
+/// A start of kind 9 at time t has 3 × (T + 2 − t) + 1 words; M has 7 × (T − 1) + 1.
+#[test]
+fn starts_as_long_as_the_week_have_25_000_words() {
+    let (instance, table) = long_lengths(&mut Random::new(1), 180);
+    keeps(&instance, &table);
+    let words = |constraints: usize| {
+        let mut fewer = instance.clone();
+        fewer.constraints.truncate(constraints);
+        sizes(&encode(&fewer), None)
+            .expect("a formula that fits")
+            .words
+    };
+    // A hard 0 to 0 counts in one column and has a unit.
+    let counter = 3 + 1 + 124 * (11 - 4) + 1;
+    let starts: u64 = (1..=125).map(|time| 3 * (127 - time) + 1).sum();
+    let gates = words(1) - words(0) - counter;
+    assert_eq!(gates, 7 * 124 + 1 + starts);
+    assert!((24_000..25_500).contains(&gates));
 }
 
 #[test]

@@ -9,7 +9,7 @@ use testing::generate::{encode, instance, Random, Shape};
 use testing::prover::clause_list;
 use testing::reference;
 use timetable::diagnosis::outline::{Outline, Owner, Purpose};
-use timetable::instance::read;
+use timetable::instance::{read, Kind};
 
 #[test]
 fn its_sums_are_the_sizes_of_the_formula() {
@@ -34,8 +34,16 @@ fn its_sums_are_the_sizes_of_the_formula() {
     }
 }
 
+/// The event of a constraint of kind 9 or 10.
+fn event_of(kind: &Kind) -> usize {
+    match *kind {
+        Kind::Distribute { event, .. } | Kind::Lengths { event, .. } => event,
+        _ => panic!("no other kind asks for lengths"),
+    }
+}
+
 /// The variables of the clauses that are easy to name: those of starts, uses,
-/// and the last column of a counter.
+/// times that go on, lengths, and the last column of a counter.
 #[test]
 fn its_clauses_are_those_of_the_formula() {
     let mut named = 0;
@@ -62,6 +70,25 @@ fn its_clauses_are_those_of_the_formula() {
                         panic!("a use is of a time");
                     };
                     y(2 * events + resource, time)
+                }
+                (Owner::Constraint { index }, Purpose::GoesOn { time, inputs: 2 }) => {
+                    y(event_of(&typed.constraints[index].kind), time)
+                        + [0, events * times, 0][found.place as usize] as u32
+                }
+                (Owner::Constraint { index }, Purpose::Counted { time, inputs })
+                    if found.place == 0 || found.place == inputs as u64 =>
+                {
+                    y(events + event_of(&typed.constraints[index].kind), time)
+                }
+                (
+                    Owner::Constraint { index },
+                    Purpose::Outside {
+                        time,
+                        longer,
+                        shorter,
+                    },
+                ) if found.place == (longer + shorter) as u64 + 3 => {
+                    y(events + event_of(&typed.constraints[index].kind), time)
                 }
                 (_, Purpose::AtLeast { .. } | Purpose::AtMost { .. }) => {
                     assert_eq!(variables.len(), 1, "a bound is a unit");
@@ -99,4 +126,42 @@ fn the_clauses_of_file_a_are_told() {
              a wrong value",
         ]
     );
+}
+
+/// What the clauses of kinds 9 and 10 say where they are false: three times, an
+/// event of duration 2, hard; one double, then no part of another length.
+#[test]
+fn the_clauses_of_lengths_are_told() {
+    let file = hex("03 01 00 02 00 00 02 09 00 01 02 01 01 0A 00 01 02 02");
+    let typed = read(&file).expect("an accepted file");
+    let outline = Outline::of(&typed);
+    let mut said: Vec<String> = (1..)
+        .map_while(|id| outline.clause(id))
+        .filter(|clause| matches!(clause.piece.owner, Owner::Constraint { .. }))
+        .map(|clause| clause.says(&typed))
+        .filter(|words| !words.contains("counter"))
+        .collect();
+    said.dedup();
+    let mut wanted = Vec::new();
+    for kind in ["1, kind distribute", "2, kind lengths"] {
+        let mut says = |words: &str| wanted.push(format!("block 4, constraint {kind}: {words}"));
+        for time in 2..=4 {
+            says(&format!(
+                "the variable for a subevent that goes on at time {time} has a wrong value"
+            ));
+        }
+        for time in 1..=3 {
+            says(&format!(
+                "a variable for the length of a subevent that starts at time {time} has a wrong \
+                 value"
+            ));
+        }
+        if kind.ends_with("distribute") {
+            says("the number of the event's subevents of this length is below 1");
+            says("the number of the event's subevents of this length is above 1");
+        } else {
+            says("the number of the event's subevents of a length outside is above 0");
+        }
+    }
+    assert_eq!(said, wanted);
 }

@@ -175,8 +175,8 @@ mod reader {
         assert_eq!(read_of("01 80"), refused(1, 1));
         assert_eq!(read_of("80 80 80 80 10"), refused(1, 0));
         assert_eq!(read_of("FF FF FF FF 0F"), refused(2, 0));
-        // kind 9 before the weight is asked for
-        assert_eq!(read_of("01 01 00 01 00 00 01 09"), refused(2, 7));
+        // kind 11 before the weight is asked for
+        assert_eq!(read_of("01 01 00 01 00 00 01 0B"), refused(2, 7));
     }
 
     /// Decision 11: Empty groups and lists, equal groups and equal constraints are accepted.
@@ -238,6 +238,82 @@ mod timetables {
         let file = hex("02 01 01 01 01 01 01 01 01 01 06 01 01 01 00 00");
         assert_eq!(score(&file, &hex("00 01 00 01")), scored(0, 0));
         assert_eq!(score(&file, &hex("01 00 01 00")), scored(0, 1));
+    }
+}
+
+mod lengths {
+    use super::*;
+
+    /// Two times and one event of duration 1, before a constraint.
+    const START: &str = "02 01 00 01 00 00 01";
+
+    fn read_with(constraint: &str) -> Result<Summary, Refusal> {
+        read_of(&format!("{START} {constraint}"))
+    }
+
+    /// Decision 62: A length outside 1 to T is 2 at the number itself.
+    #[test]
+    fn a_length_is_from_1_to_the_last_time() {
+        assert_eq!(read_with("09 00 01 00 00 00"), refused(2, 10));
+        assert_eq!(read_with("09 00 01 03"), refused(2, 10));
+        assert_eq!(read_with("0A 00 01 00"), refused(2, 10));
+        assert_eq!(read_with("0A 00 01 02 00"), refused(2, 11));
+        assert_eq!(read_with("0A 00 01 02 03"), refused(2, 11));
+        assert!(read_with("0A 00 01 01 02").is_ok());
+    }
+
+    /// Decision 63: Kind 9's list has T members, whatever the length.
+    #[test]
+    fn the_list_has_a_member_for_each_time() {
+        assert!(read_with("09 00 01 02 02 02").is_ok());
+        assert_eq!(read_with("09 00 01 02 03 03"), refused(5, 7));
+        assert_eq!(read_with("09 00 01 02 01 00"), refused(5, 7));
+        // hi is lowered to T: 2 × T gates, a counter of T × T cells and no soft unit.
+        let file = hex(&format!("{START} 09 01 01 02 00 FF 01"));
+        let sizes = sizes(&file, None).unwrap();
+        assert_eq!((sizes.variables, sizes.soft), (8 + 4 + 4, 0));
+    }
+
+    /// Decision 64: Shortest above longest is 5 at the end, after both limits.
+    #[test]
+    fn crossed_lengths_are_5_with_the_kind() {
+        assert_eq!(read_with("0A 00 01 02 01"), refused(5, 7));
+        assert_eq!(read_with("0A 00 01 02 01 00"), refused(5, 7));
+        assert_eq!(read_with("0A 00 01 02"), refused(1, 11));
+        assert!(read_with("0A 00 01 02 02").is_ok());
+    }
+
+    /// Decision 65: A subevent ends before the next start too, and at the last time.
+    #[test]
+    fn two_singles_side_by_side_are_no_double() {
+        let file = hex("02 01 00 02 00 00 01 09 01 01 02 01 01");
+        assert_eq!(score(&file, &[1, 1, 1, 1]), scored(0, 1));
+        assert_eq!(score(&file, &[1, 1, 1, 0]), scored(0, 0));
+        let singles = hex("02 01 00 02 00 00 01 0A 01 01 01 01");
+        assert_eq!(score(&singles, &[1, 1, 1, 1]), scored(0, 0));
+        assert_eq!(score(&singles, &[1, 1, 1, 0]), scored(0, 1));
+    }
+
+    /// Decision 66: A length above the duration is allowed, and counts 0.
+    #[test]
+    fn a_length_may_be_above_the_duration() {
+        let file = hex("02 01 00 01 00 00 01 09 01 01 02 01 01");
+        assert_eq!(score(&file, &[1, 0, 1, 0]), scored(0, 1));
+    }
+
+    /// Decision 67: Only starts of the lengths spoken of have variables: T for M and
+    /// T, or 3 × T, beside the counter's.
+    #[test]
+    fn few_starts_are_marked() {
+        let gates = |constraint: &str| {
+            // A hard 0 to 0 has a counter of T cells.
+            let file = hex(&format!("{START} {constraint}"));
+            sizes(&file, None).unwrap().variables - 8 - 2
+        };
+        assert_eq!(gates("09 00 01 01 00 00"), 4);
+        assert_eq!(gates("09 00 01 02 00 00"), 4);
+        assert_eq!(gates("0A 00 01 01 01"), 4);
+        assert_eq!(gates("0A 00 01 02 02"), 8);
     }
 }
 

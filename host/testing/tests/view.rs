@@ -3,7 +3,7 @@
 
 use testing::generate::{encode, instance, timetable, Random, Shape};
 use testing::reference;
-use timetable::instance::read;
+use timetable::instance::{read, KINDS};
 use timetable::school::School;
 use timetable::view::{grids, Subject, View};
 
@@ -24,7 +24,7 @@ fn school(instance: &reference::Instance) -> School {
 
 #[test]
 fn charges_are_the_score() {
-    let mut charged = [0; 8];
+    let mut charged = [0; KINDS.len()];
     for seed in 0..CASES {
         let (instance, table) = case(seed);
         let school = school(&instance);

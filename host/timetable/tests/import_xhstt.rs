@@ -10,7 +10,8 @@ use timetable::instance;
 const WEEK: &str = include_str!("import/week.xml");
 const TIMES: usize = 6;
 const DAYS: [std::ops::Range<usize>; 2] = [0..3, 3..6];
-const DURATIONS: [usize; 3] = [1, 2, 1];
+/// How long the second event of the week lasts; the others last one time.
+const LONG: usize = 2;
 /// The events of each, from 0.
 const ADA: &[usize] = &[0, 2];
 const CLASS_A: &[usize] = &[0, 1];
@@ -21,6 +22,13 @@ type Deviation = fn(&Table) -> usize;
 
 fn archive(constraints: &str) -> String {
     WEEK.replace("<!-- constraints -->", constraints)
+}
+
+/// The archive with a second event that lasts so long.
+fn lasting(long: usize, text: &str) -> String {
+    let [was, is] = [LONG, long].map(|long| format!("<Duration>{long}</Duration>\n"));
+    assert_eq!(text.matches(&was).count(), 1);
+    text.replace(&was, &is)
 }
 
 fn import(text: &str) -> Result<Imported, Fault> {
@@ -46,20 +54,25 @@ fn range(least: usize, most: usize) -> String {
     format!("<Minimum>{least}</Minimum><Maximum>{most}</Maximum>")
 }
 
-/// Every way to place an event.
-fn ways(duration: usize) -> Vec<Vec<(usize, usize)>> {
-    if duration == 1 {
-        return (0..TIMES).map(|time| vec![(time, 1)]).collect();
+/// Every way to place an event from a time on: its first part, then the rest.
+fn ways(duration: usize, from: usize) -> Vec<Vec<(usize, usize)>> {
+    if duration == 0 {
+        return vec![Vec::new()];
     }
-    let mut ways: Vec<_> = (0..TIMES - 1).map(|time| vec![(time, 2)]).collect();
-    for first in 0..TIMES {
-        ways.extend((first + 1..TIMES).map(|second| vec![(first, 1), (second, 1)]));
+    let mut all = Vec::new();
+    for start in from..TIMES {
+        for length in 1..=duration.min(TIMES - start) {
+            for rest in ways(duration - length, start + length) {
+                all.push([vec![(start, length)], rest].concat());
+            }
+        }
     }
-    ways
+    all
 }
 
-fn tables() -> Vec<Table> {
-    let [one, two, three] = DURATIONS.map(ways);
+/// Every timetable of the week with a second event that lasts so long.
+fn tables(long: usize) -> Vec<Table> {
+    let [one, two, three] = [1, long, 1].map(|duration| ways(duration, 0));
     let mut all = Vec::new();
     for a in &one {
         for b in &two {
@@ -105,15 +118,21 @@ fn starts(table: &Table, events: &[usize], times: std::ops::Range<usize>) -> usi
     parts.filter(|(start, _)| times.contains(start)).count()
 }
 
-/// Judges a constraint as required and as a linear wish: its deviation, priced.
+/// Judges a constraint on the week as required and as a linear wish.
 fn judge(name: &str, applies: &str, fields: &str, deviation: Deviation) {
+    judge_with(LONG, name, applies, fields, deviation);
+}
+
+/// The same, where the second event lasts so long: its deviation, priced.
+fn judge_with(long: usize, name: &str, applies: &str, fields: &str, deviation: Deviation) {
     for required in [true, false] {
         let text = archive(&constraint(name, required, "Linear", applies, fields));
+        let text = lasting(long, &text);
         let imported = import(&text).unwrap_or_else(|fault| panic!("{fault}\n{text}"));
         assert!(imported.remarks.is_empty(), "{:?}", imported.remarks);
         let bytes = instance::write(&imported.school.instance);
         let mut seen = [false; 2];
-        for table in tables() {
+        for table in tables(long) {
             let score = engine::score(&bytes, &timetable(&table)).expect("a timetable");
             let expected = deviation(&table);
             let said = match required {
@@ -176,6 +195,66 @@ fn constraints_on_events() {
     });
 }
 
+/// The second event's parts whose length is wanted.
+fn parts(table: &Table, wanted: fn(usize) -> bool) -> usize {
+    let lengths = table[1].iter().map(|&(_, length)| length);
+    lengths.filter(|&length| wanted(length)).count()
+}
+
+const LONG_EVENT: &str = "<Events><Event Reference=\"E2\"/></Events>";
+
+#[test]
+fn numbers_of_parts_of_one_length() {
+    let name = "DistributeSplitEventsConstraint";
+    let of =
+        |length: usize, least, most| format!("<Duration>{length}</Duration>{}", range(least, most));
+    judge(name, EVENTS, &of(2, 0, 0), |table| {
+        parts(table, |length| length == 2)
+    });
+    judge_with(4, name, LONG_EVENT, &of(2, 1, 1), |table| {
+        outside(parts(table, |length| length == 2), 1, 1)
+    });
+    judge_with(4, name, LONG_EVENT, &of(1, 2, 3), |table| {
+        outside(parts(table, |length| length == 1), 2, 3)
+    });
+    judge_with(3, name, LONG_EVENT, &of(3, 1, 9), |table| {
+        outside(parts(table, |length| length == 3), 1, 9)
+    });
+}
+
+/// Two doubles and a single: by the numbers of parts, then by their lengths.
+#[test]
+fn lengths_of_parts() {
+    let name = "SplitEventsConstraint";
+    let fields = |shortest: usize, longest: usize, least: usize, most: usize| {
+        format!(
+            "<MinimumDuration>{shortest}</MinimumDuration>\
+             <MaximumDuration>{longest}</MaximumDuration>\
+             <MinimumAmount>{least}</MinimumAmount><MaximumAmount>{most}</MaximumAmount>"
+        )
+    };
+    judge_with(3, name, EVENTS, &fields(1, 2, 1, 3), |table| {
+        parts(table, |length| length > 2)
+    });
+    judge_with(3, name, LONG_EVENT, &fields(2, 3, 0, 9), |table| {
+        parts(table, |length| length < 2)
+    });
+    judge_with(4, name, LONG_EVENT, &fields(2, 3, 2, 2), |table| {
+        parts(table, |length| length != 2 && length != 3) + outside(table[1].len(), 2, 2)
+    });
+    // How far a part lies outside is not charged.
+    let fate = |required, fields: &str| {
+        let text = archive(&constraint(name, required, "Linear", LONG_EVENT, fields));
+        let imported = import(&lasting(5, &text)).unwrap();
+        imported.count(Fate::Weakened)
+    };
+    assert_eq!(fate(true, &fields(1, 2, 1, 5)), 0);
+    assert_eq!(fate(false, &fields(1, 2, 1, 5)), 1);
+    assert_eq!(fate(false, &fields(1, 4, 1, 5)), 0);
+    assert_eq!(fate(false, &fields(2, 5, 1, 5)), 0);
+    assert_eq!(fate(false, &fields(3, 5, 1, 5)), 1);
+}
+
 #[test]
 fn constraints_on_resources() {
     judge("AvoidClashesConstraint", CLASSES, "", |table| {
@@ -225,7 +304,7 @@ fn linked_events() {
     let imported = import(&archive(&link(true))).unwrap();
     assert!(imported.remarks.is_empty());
     let bytes = instance::write(&imported.school.instance);
-    for table in tables() {
+    for table in tables(LONG) {
         let score = engine::score(&bytes, &timetable(&table)).expect("a timetable");
         assert_eq!(score.infeasibility.0 == 0, table[0] == table[2]);
     }
@@ -245,7 +324,7 @@ fn a_preassigned_time_is_kept() {
     );
     let imported = import(&fixed).unwrap();
     let bytes = instance::write(&imported.school.instance);
-    for table in tables() {
+    for table in tables(LONG) {
         let score = engine::score(&bytes, &timetable(&table)).expect("a timetable");
         assert_eq!(score.infeasibility.0 == 0, table[1] == [(1, 2)]);
     }

@@ -20,8 +20,8 @@ fn a_refusal_is_told_with_its_place_its_reason_and_the_bytes() {
         run(&["read", &name]),
         Run {
             printed: "refused 5 7\n".to_string(),
-            said: "timetable read: lo-above-hi: refusal 5 7: lo is above hi, or above the \
-                   length of the counted list; the constraint's kind is at offset 7\n  \
+            said: "timetable read: lo-above-hi: refusal 5 7: lo is above hi or above the \
+                   length of the counted list, or shortest above longest; the constraint's kind is at offset 7\n  \
                    constraint 1, kind split: lo is 1, above hi, which is 0 (lo 1, hi 0, \
                    length 1)\n  \
                    bytes from offset 0: 01 01 00 01 00 00 02 [04] 00 01 01 00\n"
@@ -76,9 +76,19 @@ fn refused_instances_are_told_by_field_value_and_limit() {
             "event 1, duration: 3 is not from 1 to 2",
         ),
         (
-            "01 01 00 01 00 00 01 09",
+            "01 01 00 01 00 00 01 0B",
             "refused 2 7\n",
-            "constraint 1, kind: 9 is not from 1 to 8",
+            "constraint 1, kind: 11 is not from 1 to 10",
+        ),
+        (
+            "02 01 00 01 00 00 01 09 00 01 03",
+            "refused 2 10\n",
+            "constraint 1, kind distribute, length: 3 is not from 1 to 2",
+        ),
+        (
+            "02 01 00 01 00 00 01 0A 00 01 00",
+            "refused 2 10\n",
+            "constraint 1, kind lengths, shortest: 0 is not from 1 to 2",
         ),
         (
             "01 01 00 01 00 00 01 04 E9 07",
@@ -111,6 +121,11 @@ fn refused_instances_are_told_by_field_value_and_limit() {
             "refused 5 7\n",
             "constraint 1, kind split: lo is 3, above the 2 entries of its counted list (lo 3, hi \
              5, length 2)",
+        ),
+        (
+            "02 01 00 01 00 00 01 0A 00 01 02 01",
+            "refused 5 7\n",
+            "constraint 1, kind lengths: shortest is 2, above longest, which is 1",
         ),
     ]
     .into_iter()

@@ -331,10 +331,38 @@ fn the_format_is_as_it_is_described() {
         report.starts_with("accepted\ntimes 20\nevents 3\n"),
         "{report}"
     );
+    doubles_are_as_described(&folder, &format);
     for facts in KINDS {
         let row = format!("| {} | `{} hard ", facts.number, facts.name);
         assert!(format.contains(&row), "{row}");
     }
+}
+
+/// Two doubles and a single keep all that the text of that name asks; a triple
+/// and a double miss one double and the single, and the triple is too long.
+fn doubles_are_as_described(folder: &Path, format: &str) {
+    let section = format
+        .split_once("## Two doubles and a single")
+        .expect("a section");
+    let text = section.1.split("```").nth(1).expect("a school");
+    fs::write(folder.join("c.school"), text).expect("a file");
+    let report = accepted(folder, &["compile", "c.school", "-o", "c.instance"]);
+    assert!(
+        report.starts_with("accepted\ntimes 9\nevents 1\n"),
+        "{report}"
+    );
+    let scored = |taken: [u8; 9], starts: [u8; 9]| {
+        fs::write(folder.join("c.timetable"), [taken, starts].concat()).expect("a file");
+        accepted(folder, &["score", "c.instance", "c.timetable"])
+    };
+    assert_eq!(
+        scored([1, 1, 0, 1, 1, 0, 1, 0, 0], [1, 0, 0, 1, 0, 0, 1, 0, 0]),
+        "infeasibility 0\nobjective 0\n"
+    );
+    assert_eq!(
+        scored([1, 1, 1, 1, 1, 0, 0, 0, 0], [1, 0, 0, 1, 0, 0, 0, 0, 0]),
+        "infeasibility 2\nobjective 1\n"
+    );
 }
 
 /// The tags of a page, without their angle brackets; they must be balanced.

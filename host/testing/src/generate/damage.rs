@@ -9,7 +9,7 @@ pub fn damaged_instance(random: &mut Random, instance: &Instance) -> Instance {
     let mut changed = instance.clone();
     let event = random.below(instance.events.len());
     let group = random.below(instance.groups.len().max(1));
-    let choice = random.below(9);
+    let choice = random.below(10);
     match choice {
         0 => changed.events[event].duration = random.pick(&[0, instance.times + 1]),
         1 => changed.events[event].resources.push(instance.resources),
@@ -53,6 +53,33 @@ fn damage_constraint(instance: &Instance, constraint: &mut Constraint, choice: u
                 range: Range { lo: 0, hi: lo },
             };
         }
+        (
+            7,
+            _,
+            Kind::Lengths {
+                shortest, longest, ..
+            },
+        ) => match *longest < instance.times {
+            true => *shortest = *longest + 1,
+            false => *longest = *shortest - 1,
+        },
+        (
+            8,
+            _,
+            Kind::Lengths {
+                shortest: length, ..
+            },
+        )
+        | (
+            _,
+            _,
+            Kind::Lengths {
+                longest: length, ..
+            },
+        )
+        | (9, _, Kind::Distribute { length, .. }) => {
+            *length = [0, instance.times + 1][lo as usize % 2];
+        }
         (_, _, Kind::Clash { resource }) => *resource = instance.resources,
         (_, _, Kind::Unavailable { group, .. } | Kind::PreferredTimes { group, .. }) => {
             *group = instance.groups.len();
@@ -64,7 +91,8 @@ fn damage_constraint(instance: &Instance, constraint: &mut Constraint, choice: u
             | Kind::Spread { range, .. }
             | Kind::BusyLimit { range, .. }
             | Kind::Cluster { range, .. }
-            | Kind::Idle { range, .. },
+            | Kind::Idle { range, .. }
+            | Kind::Distribute { range, .. },
         ) => *range = bad_range,
     }
 }
@@ -112,7 +140,9 @@ pub fn damaged_numbers(random: &mut Random, bytes: &[u8]) -> Vec<u8> {
         3 => changed.extend_from_slice(&[0x80, 0x80, 0x80, 0x80, 0x10]), // 2^32
         4 => write_number(u32::MAX, &mut changed),
         _ => {
-            let limits = [0, 1, 8, 9, 99, 100, 125, 126, 255, 256, 1_000, 1_001, 4_097];
+            let limits = [
+                0, 1, 10, 11, 99, 100, 125, 126, 255, 256, 1_000, 1_001, 4_097,
+            ];
             write_number(random.pick(&limits), &mut changed);
         }
     }

@@ -54,8 +54,21 @@ fn write_constraint(file: &mut Vec<u8>, constraint: &Constraint) {
             reference(file, *resource);
             list(file, groups);
         }
+        Kind::Distribute { event, length, .. } => {
+            reference(file, *event);
+            number(file, *length);
+        }
+        Kind::Lengths {
+            event,
+            shortest,
+            longest,
+        } => {
+            reference(file, *event);
+            number(file, *shortest);
+            number(file, *longest);
+        }
     }
-    if code >= 4 {
+    if (4..=9).contains(&code) {
         let range = constraint.kind.range();
         number(file, range.lo as usize);
         number(file, range.hi as usize);
@@ -73,6 +86,8 @@ fn code(kind: &Kind) -> usize {
         Kind::BusyLimit { .. } => 6,
         Kind::Cluster { .. } => 7,
         Kind::Idle { .. } => 8,
+        Kind::Distribute { .. } => 9,
+        Kind::Lengths { .. } => 10,
     }
 }
 

@@ -130,8 +130,8 @@ fn constraint(
 /// A random kind with its fields; none if what it refers to does not exist or
 /// its list is too long.
 fn kind(random: &mut Random, instance: &Instance) -> Option<Kind> {
-    let code = 1 + random.below(8);
-    let no_resource = instance.resources == 0 && ![3, 4, 5].contains(&code);
+    let code = 1 + random.below(10);
+    let no_resource = instance.resources == 0 && ![3, 4, 5, 9, 10].contains(&code);
     let no_group = instance.groups.is_empty() && [2, 3, 5, 6].contains(&code);
     if no_resource || no_group {
         return None;
@@ -142,6 +142,7 @@ fn kind(random: &mut Random, instance: &Instance) -> Option<Kind> {
         group: random.below(instance.groups.len().max(1)),
         groups: random.subset(instance.groups.len()),
         events: random.subset(instance.events.len()),
+        lengths: lengths(random, instance.times),
     };
     let length = instance.list_length(&fields.clone().kind(code, Range { lo: 0, hi: 0 }));
     if length > LONGEST_LIST {
@@ -161,6 +162,25 @@ fn kind(random: &mut Random, instance: &Instance) -> Option<Kind> {
     Some(fields.kind(code, range))
 }
 
+/// Two lengths of subevents, ascending: short ones, equal ones and the longest
+/// more often than others.
+fn lengths(random: &mut Random, times: usize) -> [usize; 2] {
+    let first = length(random, times);
+    let second = match random.chance(30) {
+        true => first,
+        false => length(random, times),
+    };
+    [first.min(second), first.max(second)]
+}
+
+fn length(random: &mut Random, times: usize) -> usize {
+    match random.below(8) {
+        0 => times,
+        1 => 1 + random.below(times),
+        _ => 1 + random.below(times.min(3)),
+    }
+}
+
 /// What a kind may refer to.
 #[derive(Clone)]
 struct Fields {
@@ -169,6 +189,7 @@ struct Fields {
     group: usize,
     groups: Vec<usize>,
     events: Vec<usize>,
+    lengths: [usize; 2],
 }
 
 impl Fields {
@@ -180,6 +201,7 @@ impl Fields {
             group,
             groups,
             events,
+            lengths: [shortest, longest],
         } = self;
         match code {
             1 => Kind::Clash { resource },
@@ -201,10 +223,20 @@ impl Fields {
                 groups,
                 range,
             },
-            _ => Kind::Idle {
+            8 => Kind::Idle {
                 resource,
                 groups,
                 range,
+            },
+            9 => Kind::Distribute {
+                event,
+                length: shortest,
+                range,
+            },
+            _ => Kind::Lengths {
+                event,
+                shortest,
+                longest,
             },
         }
     }

@@ -54,6 +54,30 @@ pub fn idle_limits(random: &mut Random, constraints: usize) -> (Instance, Vec<u8
     (instance, table)
 }
 
+/// Kinds 9 and 10 over 125 times that look for subevents as long as the week, in
+/// turn: the most words that their starts can have.
+pub fn long_lengths(random: &mut Random, constraints: usize) -> (Instance, Vec<u8>) {
+    let (mut instance, table) = apart(random, MOST_TIMES as usize);
+    let longest = instance.times;
+    for constraint in 0..constraints {
+        let event = constraint % EVENTS;
+        let kind = match constraint % 2 {
+            0 => Kind::Distribute {
+                event,
+                length: longest,
+                range: Range { lo: 0, hi: 0 },
+            },
+            _ => Kind::Lengths {
+                event,
+                shortest: instance.events[event].duration,
+                longest,
+            },
+        };
+        instance.constraints.push(Constraint { weight: 0, kind });
+    }
+    (instance, table)
+}
+
 /// A formula of so many variables, nearly all in counters. All constraints are
 /// hard, so that a check has as many.
 pub fn many_variables(random: &mut Random, variables: u64) -> (Instance, Vec<u8>) {

@@ -1,6 +1,7 @@
 //! Models that extend a timetable, with the tail or without.
 
 use crate::reference::{Constraint, Instance, Kind, Range};
+use std::ops::RangeInclusive;
 
 /// The model that extends `table`, a timetable of `instance`, by the meaning
 /// of each variable. It breaks hard clauses if the timetable breaks hard
@@ -34,6 +35,26 @@ impl Sheet<'_> {
 
     fn s(&self, event: usize, time: usize) -> bool {
         self.y(self.instance.events.len() + event, time)
+    }
+
+    /// Whether the event takes `time` and does not start there: M(t). Not so
+    /// after the last time.
+    fn goes_on(&self, event: usize, time: usize) -> bool {
+        time < self.instance.times && self.y(event, time) && !self.s(event, time)
+    }
+
+    /// Whether the subevent before goes on at all of `times`, those after the
+    /// last left out but for the first of them.
+    fn goes_on_at(&self, event: usize, mut times: RangeInclusive<usize>) -> bool {
+        times.all(|time| time > self.instance.times || self.goes_on(event, time))
+    }
+
+    /// The length of the subevent that starts at `time`; 0 if none does.
+    fn length(&self, event: usize, time: usize) -> usize {
+        match self.s(event, time) {
+            true => 1 + (time + 1..).take_while(|&t| self.goes_on(event, t)).count(),
+            false => 0,
+        }
     }
 
     fn x(&self, resource: usize, time: usize) -> bool {
@@ -112,6 +133,19 @@ impl Extension {
             Kind::Idle {
                 resource, groups, ..
             } => self.idle(sheet, *resource, groups),
+            Kind::Distribute { event, length, .. } => {
+                self.goes_on(sheet, *event);
+                let list: Vec<bool> = times
+                    .map(|time| sheet.length(*event, time) == *length)
+                    .collect();
+                self.values.extend_from_slice(&list);
+                list
+            }
+            Kind::Lengths {
+                event,
+                shortest,
+                longest,
+            } => self.lengths(sheet, *event, *shortest, *longest),
         };
         self.counted(&list, constraint);
     }
@@ -138,6 +172,38 @@ impl Extension {
                 self.values.extend_from_slice(&[earlier, later, idle]);
                 list.push(idle);
             }
+        }
+        list
+    }
+
+    /// For each time but the first, and for the one after the last, whether the
+    /// subevent before goes on there.
+    fn goes_on(&mut self, sheet: &Sheet, event: usize) {
+        let times = 1..=sheet.instance.times;
+        self.values
+            .extend(times.map(|time| sheet.goes_on(event, time)));
+    }
+
+    /// For each time whether a subevent of a length outside starts there.
+    fn lengths(
+        &mut self,
+        sheet: &Sheet,
+        event: usize,
+        shortest: usize,
+        longest: usize,
+    ) -> Vec<bool> {
+        self.goes_on(sheet, event);
+        let mut list = Vec::new();
+        for time in 0..sheet.instance.times {
+            if shortest > 1 {
+                let q = sheet.goes_on_at(event, time + shortest..=time + longest);
+                let long_enough = sheet.goes_on_at(event, time + 1..=time + shortest - 1);
+                self.values.extend_from_slice(&[q, q || !long_enough]);
+            }
+            let length = sheet.length(event, time);
+            let outside = length > 0 && !(shortest..=longest).contains(&length);
+            self.values.push(outside);
+            list.push(outside);
         }
         list
     }

@@ -38,6 +38,34 @@ pub fn school(random: &mut Random, events: usize) -> Instance {
     instance
 }
 
+/// A school as above in which lessons have wishes for doubles, and half of them
+/// for lengths that their parts may have.
+pub fn school_with_lengths(random: &mut Random, events: usize) -> Instance {
+    let mut instance = school(random, events);
+    for event in 0..events {
+        let doubles = (instance.events[event].duration / 2) as u32;
+        let distribute = Kind::Distribute {
+            event,
+            length: 2,
+            range: Range {
+                lo: doubles,
+                hi: doubles,
+            },
+        };
+        add(&mut instance.constraints, 3, distribute);
+        if random.chance(50) {
+            let shortest = 1 + random.below(2);
+            let lengths = Kind::Lengths {
+                event,
+                shortest,
+                longest: shortest + random.below(2),
+            };
+            add(&mut instance.constraints, 2, lengths);
+        }
+    }
+    instance
+}
+
 /// How many resources of each sort there are; classes come first, then
 /// teachers, then rooms.
 struct Staff {

@@ -9,7 +9,7 @@ pub fn timetable(random: &mut Random, instance: &Instance) -> Vec<u8> {
     let half = instance.events.len() * times;
     let mut table = vec![0; 2 * half];
     for (event, fields) in instance.events.iter().enumerate() {
-        for time in random.choose(fields.duration, times) {
+        for time in taken(random, fields.duration, times) {
             table[event * times + time] = 1;
         }
         for at in event * times..(event + 1) * times {
@@ -20,4 +20,16 @@ pub fn timetable(random: &mut Random, instance: &Instance) -> Vec<u8> {
         }
     }
     table
+}
+
+/// The times of an event: anywhere, or one after the other, so that long
+/// subevents and subevents side by side come up in large instances too.
+fn taken(random: &mut Random, duration: usize, times: usize) -> Vec<usize> {
+    match random.chance(70) {
+        true => random.choose(duration, times),
+        false => {
+            let first = random.below(times - duration + 1);
+            (first..first + duration).collect()
+        }
+    }
 }

@@ -6,6 +6,7 @@
 
 use super::instance::{Instance, Kind, Range};
 use super::refusal::refuse;
+use std::iter;
 use std::ops::Not;
 use timetable::engine::{FormulaSize, Refusal};
 
@@ -206,9 +207,7 @@ impl<'a, S: Sink> Writer<'a, S> {
                 .filter(|time| members(group).binary_search(time).is_err())
                 .map(|time| variables.y(*event, time))
                 .collect(),
-            Kind::Split { event, .. } => (0..instance.times)
-                .map(|time| variables.s(*event, time))
-                .collect(),
+            Kind::Split { event, .. } => variables.starts(*event),
             Kind::Spread { events, group, .. } => {
                 let starts = |&event| members(group).iter().map(move |&t| variables.s(event, t));
                 events.iter().flat_map(starts).collect()
@@ -231,6 +230,18 @@ impl<'a, S: Sink> Writer<'a, S> {
                 }
                 idle
             }
+            Kind::Distribute { event, length, .. } => {
+                self.starts_by_length(variables, *event, |writer, start, going| {
+                    writer.length_gate(start, going, *length)
+                })
+            }
+            Kind::Lengths {
+                event,
+                shortest,
+                longest,
+            } => self.starts_by_length(variables, *event, |writer, start, going| {
+                writer.outside_gate(start, going, *shortest, *longest)
+            }),
         };
         self.counted(&list, kind.range(), weight, Low::of(kind));
     }
@@ -248,17 +259,82 @@ impl<'a, S: Sink> Writer<'a, S> {
         o
     }
 
+    /// A new variable that is the AND of `list`.
+    fn and_gate(&mut self, list: &[Literal]) -> Literal {
+        let o = Literal::positive(self.fresh(1));
+        for &l in list {
+            self.sink.hard(&[l, !o]);
+        }
+        let mut clause: Vec<Literal> = list.iter().map(|&l| !l).collect();
+        clause.push(o);
+        self.sink.hard(&clause);
+        o
+    }
+
     /// A new variable that is true if `member` is idle among the members `x`.
     fn idle_gate(&mut self, x: &[Literal], member: usize) -> Literal {
         let g = self.or_gate(&x[..member]);
         let h = self.or_gate(&x[member + 1..]);
-        let i = Literal::positive(self.fresh(1));
-        let x = x[member];
-        self.sink.hard(&[!x, !i]);
-        self.sink.hard(&[g, !i]);
-        self.sink.hard(&[h, !i]);
-        self.sink.hard(&[x, !g, !h, i]);
-        i
+        self.and_gate(&[!x[member], g, h])
+    }
+
+    /// For each time but the first, and for the one after the last, whether the
+    /// subevent before it goes on there: M(2), .., M(T + 1).
+    fn going_gates(&mut self, variables: &Variables, event: usize) -> Vec<Literal> {
+        let mut going = Vec::with_capacity(variables.times);
+        for time in 1..variables.times {
+            let (y, s) = (variables.y(event, time), variables.s(event, time));
+            going.push(self.and_gate(&[y, !s]));
+        }
+        going.push(self.or_gate(&[]));
+        going
+    }
+
+    /// A gate for each start, made of its S and of the M of the times after it.
+    fn starts_by_length(
+        &mut self,
+        variables: &Variables,
+        event: usize,
+        gate: impl Fn(&mut Self, Literal, &[Literal]) -> Literal,
+    ) -> Vec<Literal> {
+        let going = self.going_gates(variables, event);
+        let starts = variables.starts(event);
+        let later = (0..variables.times).map(|time| &going[time..]);
+        let starts = starts.into_iter().zip(later);
+        starts
+            .map(|(start, going)| gate(self, start, going))
+            .collect()
+    }
+
+    /// Whether a subevent of `length` begins at `start`; `going` are the M of the
+    /// times after it.
+    fn length_gate(&mut self, start: Literal, going: &[Literal], length: usize) -> Literal {
+        let mut list = vec![start];
+        list.extend(going.iter().take(length - 1));
+        list.extend(going.get(length - 1).map(|&after| !after));
+        self.and_gate(&list)
+    }
+
+    /// Whether a subevent shorter than `shortest` or longer than `longest` begins
+    /// at `start`; `going` are the M of the times after it.
+    fn outside_gate(
+        &mut self,
+        start: Literal,
+        going: &[Literal],
+        shortest: usize,
+        longest: usize,
+    ) -> Literal {
+        let longer = going.iter().take(longest).copied();
+        if shortest == 1 {
+            let list: Vec<Literal> = iter::once(start).chain(longer).collect();
+            return self.and_gate(&list);
+        }
+        let within: Vec<Literal> = longer.skip(shortest - 1).collect();
+        let q = self.and_gate(&within);
+        let ends = going.iter().take(shortest - 1).map(|&m| !m);
+        let list: Vec<Literal> = ends.chain([q]).collect();
+        let w = self.or_gate(&list);
+        self.and_gate(&[start, w])
     }
 
     /// A counter over `inputs`, literals with weights. Gives the variable
@@ -323,10 +399,7 @@ impl<'a, S: Sink> Writer<'a, S> {
             }
             Low::UnlessZero => {
                 for j in 2..=lo {
-                    let v = Literal::positive(self.fresh(1));
-                    self.sink.hard(&[c(1), !v]);
-                    self.sink.hard(&[!c(j), !v]);
-                    self.sink.hard(&[!c(1), c(j), v]);
+                    let v = self.and_gate(&[c(1), !c(j)]);
                     if hard {
                         self.sink.hard(&[!v]);
                     } else {
@@ -371,6 +444,11 @@ impl Variables {
 
     fn s(&self, event: usize, time: usize) -> Literal {
         Literal::positive(((self.events + event) * self.times + time + 1) as u32)
+    }
+
+    /// S at every time.
+    fn starts(&self, event: usize) -> Vec<Literal> {
+        (0..self.times).map(|time| self.s(event, time)).collect()
     }
 
     fn x(&self, resource: usize, time: usize) -> Literal {
@@ -446,7 +524,8 @@ impl Measure {
         self.words += count * literals;
     }
 
-    fn or_gate(&mut self, inputs: u64) {
+    /// An OR or an AND.
+    fn gate(&mut self, inputs: u64) {
         self.variables += 1;
         self.clauses(inputs, 2);
         self.clauses(1, inputs + 1);
@@ -483,9 +562,9 @@ impl Measure {
             Low::Counted => lo,
             Low::UnlessZero => {
                 let gates = lo.saturating_sub(1);
-                self.variables += gates;
-                self.clauses(2 * gates, 2);
-                self.clauses(gates, 3);
+                for _ in 0..gates {
+                    self.gate(2);
+                }
                 gates
             }
         };
@@ -506,7 +585,7 @@ impl Measure {
         for resource in 0..instance.resources {
             let users = instance.events_of(resource).len() as u64;
             for _ in 0..times {
-                self.or_gate(users);
+                self.gate(users);
             }
         }
         for event in &instance.events {
@@ -522,7 +601,7 @@ impl Measure {
             match kind {
                 Kind::Cluster { groups, .. } => {
                     for &group in groups {
-                        self.or_gate(instance.groups[group].len() as u64);
+                        self.gate(instance.groups[group].len() as u64);
                     }
                 }
                 Kind::Idle { groups, .. } => {
@@ -530,6 +609,10 @@ impl Measure {
                         self.idle_gates(instance.groups[group].len() as u64);
                     }
                 }
+                Kind::Distribute { length, .. } => self.length_gates(instance.times, *length),
+                Kind::Lengths {
+                    shortest, longest, ..
+                } => self.outside_gates(instance.times, *shortest, *longest),
                 _ => {}
             }
             let lists = match kind {
@@ -546,11 +629,39 @@ impl Measure {
     /// The gates G, H and I of a group's members but first and last.
     fn idle_gates(&mut self, members: u64) {
         for earlier in 1..members.saturating_sub(1) {
-            self.or_gate(earlier);
-            self.or_gate(members - 1 - earlier);
-            self.variables += 1;
-            self.clauses(3, 2);
-            self.clauses(1, 4);
+            self.gate(earlier);
+            self.gate(members - 1 - earlier);
+            self.gate(3);
+        }
+    }
+
+    /// The gates M of an event.
+    fn going_gates(&mut self, times: usize) {
+        for _ in 1..times {
+            self.gate(2);
+        }
+        self.gate(0);
+    }
+
+    /// The gates K of starts of `length`.
+    fn length_gates(&mut self, times: usize, length: usize) {
+        self.going_gates(times);
+        for after in (1..=times).rev() {
+            self.gate(1 + after.min(length) as u64);
+        }
+    }
+
+    /// The gates K of starts of a length outside, or Q, W and K of each.
+    fn outside_gates(&mut self, times: usize, shortest: usize, longest: usize) {
+        if shortest == 1 {
+            return self.length_gates(times, longest);
+        }
+        self.going_gates(times);
+        for after in (1..=times).rev() {
+            let ends = after.min(shortest - 1);
+            self.gate((after.min(longest) - ends) as u64);
+            self.gate(1 + ends as u64);
+            self.gate(2);
         }
     }
 

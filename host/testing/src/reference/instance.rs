@@ -13,6 +13,7 @@ const MOST_EVENTS: u32 = 1_024;
 const MOST_RESOURCES: u32 = 99;
 const MOST_GROUPS: u32 = 1_024;
 const MOST_CONSTRAINTS: u32 = 4_096;
+const MOST_KINDS: u32 = 10;
 const LARGEST_WEIGHT: u32 = 1_000;
 pub const LARGEST_HI: u32 = 255;
 pub const LONGEST_LIST: usize = 255;
@@ -76,6 +77,18 @@ pub enum Kind {
         resource: usize,
         groups: Vec<usize>,
         range: Range,
+    },
+    /// How many subevents of `length` times the event has.
+    Distribute {
+        event: usize,
+        length: usize,
+        range: Range,
+    },
+    /// Subevents shorter than `shortest` or longer than `longest`.
+    Lengths {
+        event: usize,
+        shortest: usize,
+        longest: usize,
     },
 }
 
@@ -154,7 +167,7 @@ impl Instance {
                 self.groups[*group].len()
             }
             Kind::PreferredTimes { group, .. } => self.times - self.groups[*group].len(),
-            Kind::Split { .. } => self.times,
+            Kind::Split { .. } | Kind::Distribute { .. } | Kind::Lengths { .. } => self.times,
             Kind::Spread { events, group, .. } => events.len() * self.groups[*group].len(),
             Kind::Cluster { groups, .. } => groups.len(),
             Kind::Idle { groups, .. } => groups
@@ -170,12 +183,26 @@ impl Kind {
     pub fn range(&self) -> Range {
         match self {
             Kind::Clash { .. } => Range { lo: 0, hi: 1 },
-            Kind::Unavailable { .. } | Kind::PreferredTimes { .. } => Range { lo: 0, hi: 0 },
+            Kind::Unavailable { .. } | Kind::PreferredTimes { .. } | Kind::Lengths { .. } => {
+                Range { lo: 0, hi: 0 }
+            }
             Kind::Split { range, .. }
             | Kind::Spread { range, .. }
             | Kind::BusyLimit { range, .. }
             | Kind::Cluster { range, .. }
-            | Kind::Idle { range, .. } => *range,
+            | Kind::Idle { range, .. }
+            | Kind::Distribute { range, .. } => *range,
+        }
+    }
+
+    /// Whether lo is above hi as written, or shortest above longest.
+    fn crossed(&self) -> bool {
+        let Range { lo, hi } = self.range();
+        match self {
+            Kind::Lengths {
+                shortest, longest, ..
+            } => shortest > longest,
+            _ => lo > hi,
         }
     }
 }
@@ -235,14 +262,27 @@ impl Reader<'_> {
     }
 
     fn constraint(&mut self, instance: &Instance) -> Result<Constraint, Refusal> {
+        let start = self.offset;
+        let code = self.within(1..=MOST_KINDS)?;
+        let weight = self.within(0..=LARGEST_WEIGHT)?;
+        let kind = self.kind(instance, code)?;
+
+        let length = instance.list_length(&kind);
+        if length > LONGEST_LIST {
+            return refuse(4, start as u64);
+        }
+        if kind.crossed() || kind.range().lo as usize > length {
+            return refuse(5, start as u64);
+        }
+        Ok(Constraint { weight, kind })
+    }
+
+    /// The fields of the kind with the number `code`.
+    fn kind(&mut self, instance: &Instance, code: u32) -> Result<Kind, Refusal> {
         let resources = instance.resources;
         let events = instance.events.len();
         let groups = instance.groups.len();
-
-        let start = self.offset;
-        let code = self.within(1..=8)?;
-        let weight = self.within(0..=LARGEST_WEIGHT)?;
-        let kind = match code {
+        Ok(match code {
             1 => Kind::Clash {
                 resource: self.reference(0, resources)?,
             },
@@ -273,21 +313,26 @@ impl Reader<'_> {
                 groups: self.list(groups)?,
                 range: self.range()?,
             },
-            _ => Kind::Idle {
+            8 => Kind::Idle {
                 resource: self.reference(0, resources)?,
                 groups: self.list(groups)?,
                 range: self.range()?,
             },
-        };
+            9 => Kind::Distribute {
+                event: self.reference(0, events)?,
+                length: self.length(instance)?,
+                range: self.range()?,
+            },
+            _ => Kind::Lengths {
+                event: self.reference(0, events)?,
+                shortest: self.length(instance)?,
+                longest: self.length(instance)?,
+            },
+        })
+    }
 
-        let length = instance.list_length(&kind);
-        let Range { lo, hi } = kind.range();
-        if length > LONGEST_LIST {
-            return refuse(4, start as u64);
-        }
-        if lo > hi || lo as usize > length {
-            return refuse(5, start as u64);
-        }
-        Ok(Constraint { weight, kind })
+    /// The length of a subevent.
+    fn length(&mut self, instance: &Instance) -> Result<usize, Refusal> {
+        Ok(self.within(1..=instance.times as u32)? as usize)
     }
 }

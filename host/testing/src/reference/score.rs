@@ -136,6 +136,18 @@ impl<'a> Usage<'a> {
                 let idle = groups.iter().map(|&group| self.idle_in(*resource, group));
                 deviation(idle.sum(), range)
             }
+            Kind::Distribute { event, length, .. } => {
+                let lengths = self.sheet.lengths(*event);
+                deviation(lengths.filter(|found| found == length).count(), range)
+            }
+            Kind::Lengths {
+                event,
+                shortest,
+                longest,
+            } => {
+                let outside = |length: &usize| length < shortest || length > longest;
+                deviation(self.sheet.lengths(*event).filter(outside).count(), range)
+            }
         }
     }
 }

@@ -40,6 +40,19 @@ impl<'a> Sheet<'a> {
         self.starts[event * self.times + time] == 1
     }
 
+    /// The length of the subevent of `event` that starts at `time`: to before the
+    /// next time that is not taken or is a start, or to the last time.
+    pub fn length_from(&self, event: usize, time: usize) -> usize {
+        let ends = |&next: &usize| !self.takes(event, next) || self.starts(event, next);
+        (time + 1..self.times).find(ends).unwrap_or(self.times) - time
+    }
+
+    /// The lengths of the subevents of `event`, by ascending start.
+    pub fn lengths(&self, event: usize) -> impl Iterator<Item = usize> + '_ {
+        let starts = (0..self.times).filter(move |&time| self.starts(event, time));
+        starts.map(move |time| self.length_from(event, time))
+    }
+
     /// Whether the row of `event` follows the rules of a timetable.
     fn keeps(&self, event: usize, duration: usize) -> bool {
         let taken = (0..self.times).filter(|&t| self.takes(event, t)).count();

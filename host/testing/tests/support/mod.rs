@@ -3,6 +3,7 @@
 
 pub mod both;
 pub mod cases;
+pub mod models;
 
 use testing::prover::clause_list;
 use testing::reference::{write_number, Instance, Refusal};

@@ -33,6 +33,14 @@ impl Clause {
             Purpose::Idle { time, .. } => {
                 wrong(format!("a variable for the idle time {}", time + 1))
             }
+            Purpose::GoesOn { time, .. } => wrong(format!(
+                "the variable for a subevent that goes on at time {}",
+                time + 1
+            )),
+            Purpose::Counted { time, .. } | Purpose::Outside { time, .. } => wrong(format!(
+                "a variable for the length of a subevent that starts at time {}",
+                time + 1
+            )),
             Purpose::Counter { time, columns, .. } => {
                 let (row, column) = cell(self.place, columns as u64);
                 let time = at_time(time);
@@ -83,6 +91,8 @@ impl Clause {
             Kind::Spread { .. } => "the number of the events' starts in the group",
             Kind::Cluster { .. } => "the number of groups with the resource",
             Kind::Idle { .. } => "the number of the resource's idle times",
+            Kind::Distribute { .. } => "the number of the event's subevents of this length",
+            Kind::Lengths { .. } => "the number of the event's subevents of a length outside",
         }
     }
 }

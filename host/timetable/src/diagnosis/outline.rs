@@ -46,6 +46,19 @@ pub enum Purpose {
     AnyOf { place: Place, inputs: usize },
     /// The three variables of one member of a group, for kind 8.
     Idle { time: usize, members: usize },
+    /// The variable that says whether the subevent before goes on at this time,
+    /// for kinds 9 and 10; after the last time it has no inputs.
+    GoesOn { time: usize, inputs: usize },
+    /// The variable of a start at this time with a counted length, for kinds 9
+    /// and 10: the AND of so many literals.
+    Counted { time: usize, inputs: usize },
+    /// The three variables of a start at this time, for kind 10 with a shortest
+    /// above 1: `longer` and `shorter` are how many later times the first two look at.
+    Outside {
+        time: usize,
+        longer: usize,
+        shorter: usize,
+    },
     /// A counter, of one time for kind 1.
     Counter {
         time: Option<usize>,
@@ -72,6 +85,10 @@ impl Purpose {
             Purpose::Start { .. } => (2, 2),
             Purpose::AnyOf { inputs, .. } => (1, inputs + 1),
             Purpose::Idle { members, .. } => (3, members + 5),
+            Purpose::GoesOn { inputs, .. } | Purpose::Counted { inputs, .. } => (1, inputs + 1),
+            Purpose::Outside {
+                longer, shorter, ..
+            } => (3, longer + shorter + 6),
             Purpose::Counter { rows: 0, .. } => (0, 0),
             Purpose::Counter { rows, columns, .. } => {
                 (rows * columns, 2 * columns + (rows - 1) * (4 * columns - 1))
@@ -202,9 +219,38 @@ impl Outline {
                     }
                 }
             }
+            Kind::Distribute { length, .. } => self.lengths(owner, instance.times, 1, *length),
+            Kind::Lengths {
+                shortest, longest, ..
+            } => self.lengths(owner, instance.times, *shortest, *longest),
             _ => {}
         }
         self.counted(owner, None, length, kind.range(), *weight);
+    }
+
+    /// What kinds 9 and 10 bring in before their counter. A start of one length
+    /// looks at as many times as one longer than `longest`.
+    fn lengths(&mut self, owner: Owner, times: usize, shortest: usize, longest: usize) {
+        for time in 1..=times {
+            let inputs = if time < times { 2 } else { 0 };
+            self.push(owner, Purpose::GoesOn { time, inputs });
+        }
+        for time in 0..times {
+            let after = |length: usize| length.min(times - time);
+            let shorter = after(shortest - 1);
+            let purpose = match shortest {
+                1 => Purpose::Counted {
+                    time,
+                    inputs: 1 + after(longest),
+                },
+                _ => Purpose::Outside {
+                    time,
+                    longer: after(longest) - shorter,
+                    shorter,
+                },
+            };
+            self.push(owner, purpose);
+        }
     }
 
     /// A counter with its bounds; `weight` is 0 if they are hard.

@@ -39,7 +39,7 @@ refusals! {
     3 BAD_REFERENCE "a reference to nothing, or a list that does not ascend"
         "the number starts at offset {}";
     4 LIST_TOO_LONG "a counted list is longer than 255" "the constraint's kind is at offset {}";
-    5 BAD_BOUNDS "lo is above hi, or above the length of the counted list"
+    5 BAD_BOUNDS "lo is above hi or above the length of the counted list, or shortest above longest"
         "the constraint's kind is at offset {}";
     6 BYTES_LEFT "bytes are left over after the last constraint" "the first is at offset {}";
     7 BOUND_TOO_HIGH "the bound is above 4,095" "it is {}";

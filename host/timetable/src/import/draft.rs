@@ -18,7 +18,7 @@ pub enum Who {
 }
 
 /// What is asked, before groups and resources have numbers. The cases are the
-/// kinds of constraint; the numbers are lo and hi.
+/// kinds of constraint; the last two numbers are lo and hi.
 #[derive(Clone, Debug)]
 pub enum Wish {
     Clash(Who),
@@ -29,6 +29,10 @@ pub enum Wish {
     Busy(Who, TimeSet, usize, usize),
     Cluster(Who, Vec<TimeSet>, usize, usize),
     Idle(Who, Vec<TimeSet>, usize, usize),
+    /// An event, a length, lo and hi.
+    Distribute(usize, usize, usize, usize),
+    /// An event, the shortest and the longest length.
+    Lengths(usize, usize, usize),
 }
 
 /// How hard a constraint is.
@@ -202,6 +206,17 @@ impl Draft {
                     hi,
                 }
             }
+            Wish::Distribute(event, length, lo, hi) => Kind::Distribute {
+                event: *event,
+                length: *length,
+                lo: *lo,
+                hi: bound(hi),
+            },
+            Wish::Lengths(event, shortest, longest) => Kind::Lengths {
+                event: *event,
+                shortest: *shortest,
+                longest: *longest,
+            },
         };
         Ok(kind)
     }

@@ -27,12 +27,27 @@ impl Kind {
     pub fn range(&self) -> Range {
         match *self {
             Kind::Clash { .. } => Range { lo: 0, hi: 1 },
-            Kind::Unavailable { .. } | Kind::PreferredTimes { .. } => Range { lo: 0, hi: 0 },
+            Kind::Unavailable { .. } | Kind::PreferredTimes { .. } | Kind::Lengths { .. } => {
+                Range { lo: 0, hi: 0 }
+            }
             Kind::Split { lo, hi, .. }
             | Kind::Spread { lo, hi, .. }
             | Kind::BusyLimit { lo, hi, .. }
             | Kind::Cluster { lo, hi, .. }
-            | Kind::Idle { lo, hi, .. } => Range { lo, hi },
+            | Kind::Idle { lo, hi, .. }
+            | Kind::Distribute { lo, hi, .. } => Range { lo, hi },
+        }
+    }
+}
+
+impl Kind {
+    /// What is wrong where the shortest length is above the longest.
+    fn crossed_lengths(&self) -> Option<Reason> {
+        match *self {
+            Kind::Lengths {
+                shortest, longest, ..
+            } if shortest > longest => Some(Reason::CrossedLengths { shortest, longest }),
+            _ => None,
         }
     }
 }
@@ -49,7 +64,7 @@ impl Instance {
             }
             Kind::Unavailable { group, .. } | Kind::BusyLimit { group, .. } => size(group),
             Kind::PreferredTimes { group, .. } => self.times - size(group),
-            Kind::Split { .. } => self.times,
+            Kind::Split { .. } | Kind::Distribute { .. } | Kind::Lengths { .. } => self.times,
             Kind::Spread { events, group, .. } => events.len() * size(group),
             Kind::Cluster { groups, .. } => groups.len(),
             Kind::Idle { groups, .. } => {
@@ -69,6 +84,9 @@ impl Instance {
         }
         if lo > hi {
             return Some(Reason::Crossed(end));
+        }
+        if let Some(crossed) = kind.crossed_lengths() {
+            return Some(crossed);
         }
         (lo > length).then_some(Reason::Unreachable(end))
     }

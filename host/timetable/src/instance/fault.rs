@@ -25,6 +25,11 @@ pub enum Reason {
     LongList(ConstraintEnd),
     /// lo is above hi.
     Crossed(ConstraintEnd),
+    /// The shortest length is above the longest.
+    CrossedLengths {
+        shortest: usize,
+        longest: usize,
+    },
     /// lo is above the length of the counted list.
     Unreachable(ConstraintEnd),
     /// This many bytes are left over.
@@ -48,7 +53,7 @@ impl Fault {
             Reason::Outside => 2,
             Reason::Nothing | Reason::NotAscending => 3,
             Reason::LongList(_) => 4,
-            Reason::Crossed(_) | Reason::Unreachable(_) => 5,
+            Reason::Crossed(_) | Reason::CrossedLengths { .. } | Reason::Unreachable(_) => 5,
             Reason::LeftOver(_) => 6,
         }
     }
@@ -60,7 +65,10 @@ impl Display for Fault {
         match (self.reason, path.part) {
             // What a constraint's end finds is said of the whole constraint.
             (
-                Reason::LongList(_) | Reason::Crossed(_) | Reason::Unreachable(_),
+                Reason::LongList(_)
+                | Reason::Crossed(_)
+                | Reason::CrossedLengths { .. }
+                | Reason::Unreachable(_),
                 Part::Constraint(number, Some(kind)),
             ) => write!(
                 out,
@@ -108,6 +116,12 @@ impl Display for Reason {
             ),
             Reason::Crossed(ConstraintEnd { lo, hi, .. }) => {
                 write!(out, "lo is {lo}, above hi, which is {hi}")
+            }
+            Reason::CrossedLengths { shortest, longest } => {
+                write!(
+                    out,
+                    "shortest is {shortest}, above longest, which is {longest}"
+                )
             }
             Reason::Unreachable(ConstraintEnd { lo, length, .. }) => write!(
                 out,

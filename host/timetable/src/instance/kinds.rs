@@ -144,6 +144,12 @@ kinds! {
     8 "idle" Idle {
         "" resource: Resource, "in" groups: Groups, "between" lo: Bound, "and" hi: Bound
     }
+    9 "distribute" Distribute {
+        "" event: Event, "length" length: Length, "between" lo: Bound, "and" hi: Bound
+    }
+    10 "lengths" Lengths {
+        "" event: Event, "between" shortest: Length, "and" longest: Length
+    }
 }
 
 #[cfg(test)]

@@ -54,6 +54,8 @@ pub enum Sort {
     Groups,
     /// A lo or hi.
     Bound,
+    /// How many times a subevent has.
+    Length,
 }
 
 impl Sort {
@@ -63,7 +65,7 @@ impl Sort {
             Sort::Resource => Some(Thing::Resource),
             Sort::Event | Sort::Events => Some(Thing::Event),
             Sort::Group | Sort::Groups => Some(Thing::Group),
-            Sort::Bound => None,
+            Sort::Bound | Sort::Length => None,
         }
     }
 
@@ -71,7 +73,12 @@ impl Sort {
     pub fn limits(self, counts: &Counts) -> RangeInclusive<u32> {
         match self.thing() {
             Some(thing) => 1..=counts.of(thing) as u32,
+            None if self == Sort::Length => 1..=counts.times as u32,
             None => 0..=LARGEST_BOUND_OF_COUNT,
         }
+    }
+
+    pub fn is_list(self) -> bool {
+        matches!(self, Sort::Events | Sort::Groups)
     }
 }

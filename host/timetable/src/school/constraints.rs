@@ -8,7 +8,7 @@ use super::parse::Builder;
 use super::print::constraint_line;
 use super::scope::{Number, Scope};
 use crate::instance::{
-    Constraint, FieldFacts, Kind, KindFacts, Sort, Source, LARGEST_WEIGHT, MOST_CONSTRAINTS,
+    Constraint, FieldFacts, Kind, KindFacts, Source, LARGEST_WEIGHT, MOST_CONSTRAINTS,
 };
 use std::convert::Infallible;
 
@@ -114,7 +114,7 @@ impl Scope<'_> {
         let Some(thing) = field.sort.thing() else {
             return Ok(vec![Given::One(self.number(field, cursor)?)]);
         };
-        let is_list = matches!(field.sort, Sort::Events | Sort::Groups);
+        let is_list = field.sort.is_list();
         if cursor.passes("each") {
             let things = self.several(thing, Number::Singular, cursor)?.into_iter();
             return Ok(match is_list {

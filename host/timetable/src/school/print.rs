@@ -5,6 +5,7 @@ use super::times::set_words;
 use super::words::written;
 use super::School;
 use crate::instance::{Constraint, FieldFacts, Sort, Thing, Value};
+use std::ops::RangeInclusive;
 
 /// The text form of `school`: read again, it gives the same instance and names.
 pub fn print(school: &School) -> String {
@@ -64,7 +65,10 @@ fn constraint_words(names: &Names, constraint: &Constraint) -> Vec<String> {
     while let Some((field, value)) = fields.next() {
         let hi = fields.next_if(|_| field.lead == "between");
         match (value, hi) {
-            (Value::One(lo), Some((field, Value::One(hi)))) => words.extend(bounds(lo, hi, field)),
+            (Value::One(lo), Some((field, Value::One(hi)))) => {
+                let limits = field.sort.limits(&names.counts());
+                words.extend(bounds(lo, hi, field, limits));
+            }
             _ => {
                 words.extend((!field.lead.is_empty()).then(|| field.lead.to_string()));
                 words.extend(value_words(names, field.sort, value));
@@ -75,10 +79,10 @@ fn constraint_words(names: &Names, constraint: &Constraint) -> Vec<String> {
 }
 
 /// The shortest way to say `between lo and hi`.
-fn bounds(lo: usize, hi: usize, field: &FieldFacts) -> Vec<String> {
-    let most = *field.sort.limits(&Default::default()).end() as usize;
+fn bounds(lo: usize, hi: usize, field: &FieldFacts, limits: RangeInclusive<u32>) -> Vec<String> {
+    let [least, most] = [*limits.start(), *limits.end()].map(|limit| limit as usize);
     let said = match (lo, hi) {
-        (0, _) => format!("at most {hi}"),
+        _ if lo == least => format!("at most {hi}"),
         _ if lo == hi => format!("exactly {lo}"),
         _ if hi == most => format!("at least {lo}"),
         _ => format!("between {lo} {} {hi}", field.lead),

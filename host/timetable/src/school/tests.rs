@@ -1,6 +1,6 @@
 //! The text form: what its statements mean, and how a fault is told.
 
-use super::parse;
+use super::{parse, print};
 use crate::instance::Kind;
 
 /// A school to which a statement can be added.
@@ -67,6 +67,26 @@ fn a_fault_says_what_was_expected_and_where() {
             "split hard Maths at least 5",
             1,
             "lo is 5, above the 4 entries of its counted list: split hard Maths at least 5",
+        ),
+        (
+            "distribute hard Maths 2 exactly 1",
+            23,
+            "expected 'length', found '2'",
+        ),
+        (
+            "distribute hard Maths length 5 exactly 1",
+            30,
+            "expected a number from 1 to 4, found '5'",
+        ),
+        (
+            "lengths hard Maths exactly 0",
+            28,
+            "expected a number from 1 to 4, found '0'",
+        ),
+        (
+            "lengths hard Maths between 3 and 2",
+            1,
+            "shortest is 3, above longest, which is 2: lengths hard Maths between 3 and 2",
         ),
         (
             "spread hard Art Art in Mon at most 1",
@@ -214,6 +234,45 @@ fn bounds_can_be_said_shortly() {
     assert_eq!(kinds("split hard Maths at least 2"), split(2, 255));
     assert_eq!(kinds("split hard Maths exactly 2"), split(2, 2));
     assert_eq!(kinds("split hard Maths between 1 and 2"), split(1, 2));
+}
+
+#[test]
+fn lengths_of_parts_are_said() {
+    let distribute = |event, length, lo, hi| Kind::Distribute {
+        event,
+        length,
+        lo,
+        hi,
+    };
+    assert_eq!(
+        kinds("distribute hard Maths length 2 exactly 1"),
+        [distribute(0, 2, 1, 1)]
+    );
+    assert_eq!(
+        kinds("distribute weight 2 each lesson length 1 at most 3"),
+        [distribute(0, 1, 0, 3), distribute(1, 1, 0, 3)]
+    );
+    let lengths = |shortest, longest| {
+        vec![Kind::Lengths {
+            event: 0,
+            shortest,
+            longest,
+        }]
+    };
+    assert_eq!(kinds("lengths hard Maths between 2 and 3"), lengths(2, 3));
+    assert_eq!(kinds("lengths hard Maths at most 2"), lengths(1, 2));
+    assert_eq!(kinds("lengths hard Maths at least 2"), lengths(2, 4));
+    assert_eq!(kinds("lengths hard Maths exactly 2"), lengths(2, 2));
+}
+
+/// The word before a length ends no list, so a name may be that word.
+#[test]
+fn a_lesson_may_be_named_length() {
+    let text = "times a b\nlesson length takes 1\n\
+                distribute hard length length 2 at most 0\n";
+    let school = parse(text).expect("a school");
+    assert_eq!(school.names.lessons, ["length"]);
+    assert_eq!(parse(&print(&school)), Ok(school));
 }
 
 #[test]

@@ -4,7 +4,7 @@
 //! or a tab continues the statement before it. `#` before a word begins a comment.
 
 use super::fault::{Place, TextFault};
-use crate::instance::KINDS;
+use crate::instance::{FieldFacts, KINDS};
 
 /// A word, or a name in quotes, which is never a word of the language.
 #[derive(Clone, Debug, PartialEq, Eq)]
@@ -34,15 +34,17 @@ pub struct Statement {
     pub end: Place,
 }
 
-/// The words that no unquoted name may be, beside those before the fields of kinds.
+/// The words that no unquoted name may be, beside those that end a list of names
+/// in a constraint.
 const RESERVED: &[&str] = &[
     "all", "and", "at", "between", "each", "exactly", "except", "hard", "in", "is", "least",
     "most", "none", "periods", "takes", "to", "weight", "with",
 ];
 
 fn is_reserved(word: &str) -> bool {
-    let mut fields = KINDS.iter().flat_map(|facts| facts.fields);
-    RESERVED.contains(&word) || fields.any(|field| field.lead == word)
+    let mut pairs = KINDS.iter().flat_map(|facts| facts.fields.windows(2));
+    let ends_list = |pair: &[FieldFacts]| pair[0].sort.is_list() && pair[1].lead == word;
+    RESERVED.contains(&word) || pairs.any(ends_list)
 }
 
 /// `name` as it stands in a text: in quotes where it must.

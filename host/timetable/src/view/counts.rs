@@ -56,6 +56,12 @@ impl<'a> Usage<'a> {
                 let idle = groups.iter().flat_map(|&group| self.idle(*resource, group));
                 counted(at(Subject::Resource(*resource), idle))
             }
+            Kind::Distribute { event, length, .. } => self.distribute(*event, *length, range),
+            Kind::Lengths {
+                event,
+                shortest,
+                longest,
+            } => counted(self.blocks(*event, |length| !(shortest..=longest).contains(&&length))),
         }
     }
 
@@ -87,6 +93,23 @@ impl<'a> Usage<'a> {
             true => (deviation, starts(&self.all_times())),
             false => (deviation, inside),
         }
+    }
+
+    fn distribute(&self, event: usize, length: usize, range: Range) -> Deviation {
+        let counted = self.blocks(event, |found| found == length);
+        let deviation = range.deviation(counted.len());
+        match counted.len() < range.lo {
+            // Too few: any of the blocks might have been one of them.
+            true => (deviation, self.blocks(event, |_| true)),
+            false => (deviation, counted),
+        }
+    }
+
+    /// The starts of the blocks of `event` whose length is `wanted`.
+    fn blocks(&self, event: usize, wanted: impl Fn(usize) -> bool) -> Vec<Place> {
+        let blocks = self.sheet.blocks(event).into_iter();
+        let wanted = blocks.filter(|block| wanted(block.len()));
+        at(Subject::Event(event), wanted.map(|block| block.start))
     }
 
     fn cluster(&self, resource: usize, groups: &[usize], range: Range) -> Deviation {

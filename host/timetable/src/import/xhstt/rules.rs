@@ -141,9 +141,8 @@ fn assign_time(_: &Item) -> Outcome {
     Ok(Reading::default())
 }
 
-/// The number of parts is counted. A limit on their lengths is carried by the numbers
-/// of parts that it allows, which says all of it where each part has length 1 or
-/// there is one part.
+/// The number of parts is counted, and the parts of a length outside, unless the
+/// number says it all: each part has length 1, or there is one part.
 fn split_events(item: &Item) -> Outcome {
     let shortest = number(item.element, "MinimumDuration")?.max(1);
     let longest = number(item.element, "MaximumDuration")?.max(1);
@@ -152,7 +151,6 @@ fn split_events(item: &Item) -> Outcome {
     let mut reading = Reading::default();
     for event in item.archive.events(item.element)? {
         let duration = item.duration(event);
-        let free = shortest == 1 && longest >= duration;
         let (lo, hi) = match item.required {
             true => (
                 least.max(duration.div_ceil(longest)),
@@ -160,36 +158,60 @@ fn split_events(item: &Item) -> Outcome {
             ),
             false => (least, most),
         };
-        if lo > hi {
+        if lo > hi || shortest > longest {
             return Refused::because(format!("event {} cannot be split so", event + 1));
-        }
-        let settled =
-            item.required && (shortest == 1 || hi == 1) && (longest >= duration || lo == duration);
-        if !free && !settled {
-            let lost = "the lengths of the parts are not carried, their number is";
-            reading.weaker = Some(lost.to_string());
         }
         if lo > 1 || hi < duration {
             reading.wishes.push(Wish::Split(event, lo, hi));
+        }
+        let free = shortest == 1 && longest >= duration;
+        let settled =
+            item.required && (shortest == 1 || hi == 1) && (longest >= duration || lo == duration);
+        if !free && !settled {
+            reading.lengths(item, event, shortest, longest);
         }
     }
     Ok(reading)
 }
 
-/// Events of length 1 have one part of length 1; of longer ones the lengths of the
-/// parts are not counted.
+impl Reading {
+    /// A wish for the lengths of an event's parts. A part is charged once; how far
+    /// it lies outside matters for a soft wish alone.
+    fn lengths(&mut self, item: &Item, event: usize, shortest: usize, longest: usize) {
+        let times = item.archive.times.len();
+        let within = |length: usize| length.min(times);
+        self.wishes
+            .push(Wish::Lengths(event, within(shortest), within(longest)));
+        let far = shortest > 2.min(times) || longest + 1 < item.duration(event);
+        if far && !item.required {
+            let lost = "a part is charged once, however far its length lies outside";
+            self.weaker = Some(lost.to_string());
+        }
+    }
+}
+
+/// The parts of one length are counted, unless every split keeps the limits.
 fn distribute_split_events(item: &Item) -> Outcome {
     let length = number(item.element, "Duration")?;
     let (least, most) = item.range()?;
-    let events = item.archive.events(item.element)?;
-    let said = |&event: &usize| {
-        let parts = usize::from(length == 1);
-        item.duration(event) == 1 && (least..=most).contains(&parts)
-    };
-    match events.iter().all(said) {
-        true => Ok(Reading::default()),
-        false => Refused::because("the lengths of the parts of an event are not counted"),
+    let mut wishes = Vec::new();
+    for event in item.archive.events(item.element)? {
+        let fitting = item.duration(event).checked_div(length).unwrap_or(0);
+        // An event of length 1 has one part; any other may have none of a length.
+        let fewest = if item.duration(event) == 1 {
+            fitting
+        } else {
+            0
+        };
+        if least <= fewest && fitting <= most {
+            continue;
+        }
+        if length < 1 || length > item.archive.times.len() {
+            return Refused::because(format!("no part can have length {length}"));
+        }
+        wishes.push(Wish::Distribute(event, length, least, most));
     }
+    Ok(carried(wishes))
 }
 
 /// A part is to start within the times. A soft wish costs a part's length, which is
