@@ -58,9 +58,9 @@ pub fn store_with(x: u32, first: u32, n: usize, o: u32, at: usize, out: &mut [u3
 {
     out[at] = n as u32 + 1;
     out[at + 1] = 2 * x + 1;
-    let last = negated(first, n, at + 2, out);
-    out[last] = 2 * o + 2147483648;
-    last + 1
+    let end = negated(first, n, at + 2, out);
+    out[end] = 2 * o + 2147483648;
+    end + 1
 }
 
 // The AND with the output o of the variable x, of the run, and of the variable after the run, negated.

@@ -1,5 +1,5 @@
 -- The nodes of kinds 9 and 10 in the words: M time by time, the nodes of one time, and those of all times.
-use Prim.Native.Nat.{ℕ, zero, suc, _+_, _-_, _*_, _≤_, _<_, min}
+use Prim.Native.Nat.{ℕ, zero, suc, _+_, _-_, _*_, _≤_, _<_}
 use mathlib.Core.Path.{_≡_, refl, sym, ap, _∙_}
 use mathlib.Core.List.{List, [], _∷_, _++_, map, flatMap, map-append, append-nil, append-assoc}
 use mathlib.Core.Bool.{Bool, true, false, cond}

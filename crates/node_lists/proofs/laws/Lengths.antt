@@ -1,11 +1,10 @@
 -- The lists of kinds 9 and 10 by numbers: laws.
 use Prim.Native.Nat.{ℕ, zero, suc, _+_, _-_, _*_, _≤_, min}
-use mathlib.Core.Path.{_≡_, refl, ap, sym, _∙_}
+use mathlib.Core.Path.{_≡_, refl, ap, _∙_}
 use mathlib.Core.List.{List, [], _∷_, _++_, map, flatMap, map-append}
 use mathlib.Core.Bool.{Bool, true, false, cond}
 use native.Mathlib.Omega.{arith}
 use lib.Dec.{eqb}
-use lib.ListN.{length, length-append, length-map}
 use Rattle.scope.specs.declared.Layout.{Layout}
 use Rattle.scope.specs.Cnf.{pos, neg, opp, Gate, or, and}
 use Rattle.scope.specs.Kinds.{Atom, Y, S, Listed, Node, is, aNode, goesOn, goingOn, onAt, notOnAt, span, startOf, startAbove, startOutside, timeByTime, ofLength, ofLengthOutside, from, upTo}
@@ -13,7 +12,6 @@ use Rattle.scope.specs.Formula.{refLiteral, nodeGate}
 use Rattle.literals.specs.Outputs.{every}
 use Rattle.literals.specs.Variables.{baseOf}
 use Rattle.literals.specs.Numbered.{numAt}
-use Rattle.list_nodes.proofs.laws.Runs.{length-from}
 use Rattle.node_lists.specs.Lengths.{goesGate, goingGates, onCount, onLiterals, lengthGate, outsideGates, outsideCount}
 
 -- the gates and the literals of a list whose first node is the variable v

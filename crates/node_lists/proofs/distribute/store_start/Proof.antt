@@ -1,7 +1,13 @@
 -- `node_lists::distribute::store_start` meets its contract.
 use borrow.Author.Needs.{needs}
 use Rattle.node_lists.proofs.LengthNodes.{start-within, start-beyond}
+use Rattle.scope.specs.Cnf.{Gate}
+use Rattle.literals.specs.NodeWords.{nodeWords}
+use Rattle.literals.proofs.laws.Words.{holds-as}
+use lib.ListN.{take}
 use native.Mathlib.Omega.{arith}
+use mathlib.Core.List.{_++_}
+use mathlib.Core.Path.{ap}
 use borrow.Author.Needs.{needs}
 use Rattle.node_lists.proofs.distribute.store_start.Statement.{statement}
 use Rattle.node_lists.proofs.distribute.store_start.Tie as tie
@@ -40,7 +46,7 @@ returns c =
     let a = c .before .before .before .before .before .before .args in
     let p = c .before .before .before .before .before .before .pre in
     let q = c .before .before .store-until .ensures in
-    (rw (start-within (a .times) (a .n) (a .s) (a .v) (a .t) (p .1 .0 .low) (p .1 .1 .0 .low) (c .before .before .before .before .if1 .taken)) at (q .0), omega (arith, q .1, p .0 .high, p .1 .0 .high))
+    (holds-as (ap (λ (g : Gate). take (a .at) (a .out .now) ++ nodeWords g (a .o)) (start-within (a .times) (a .n) (a .s) (a .v) (a .t) (p .1 .0 .low) (p .1 .1 .0 .low) (omega (arith, c .before .before .before .before .if1 .taken)))) (q .0), omega (arith, q .1, p .0 .high, p .1 .0 .high))
 
 add-store-with : tie.Need-add-store-with
 add-store-with c = search needs
@@ -65,7 +71,7 @@ returns-2 c =
     let a = c .before .before .before .before .before .before .args in
     let p = c .before .before .before .before .before .before .pre in
     let q = c .before .before .store-with .ensures in
-    (rw (start-beyond (a .times) (a .n) (a .s) (a .v) (a .t) (p .1 .0 .low) (p .1 .1 .0 .low) (c .before .before .before .before .if1 .left)) at (q .0), omega (arith, q .1, p .0 .high))
+    (holds-as (ap (λ (g : Gate). take (a .at) (a .out .now) ++ nodeWords g (a .o)) (start-beyond (a .times) (a .n) (a .s) (a .v) (a .t) (p .1 .0 .low) (p .1 .1 .0 .low) (omega (arith, c .before .before .before .before .if1 .left)))) (q .0), omega (arith, q .1, p .0 .high))
 
 pub store-start-spec : {M : Type 1} → statement M
 store-start-spec =
