@@ -1,4 +1,5 @@
 -- Laws, for other crates to use.
 pub mod Fillable
+pub mod LengthLiterals
 pub mod ListsOf
 pub mod Literals

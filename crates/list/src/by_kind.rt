@@ -3,7 +3,9 @@ use constraint::Head;
 use constraint::Kind;
 use list_nodes::Filled;
 use node_lists::fill_cluster;
+use node_lists::fill_distribute;
 use node_lists::fill_idle;
+use node_lists::fill_lengths;
 use plain_lists::fill_busy;
 use plain_lists::fill_clash;
 use plain_lists::fill_preferred;
@@ -39,6 +41,8 @@ pub fn fill(
         Kind::Busy(f) => fill_busy(f, head, groups, out),
         Kind::Cluster(f) => fill_cluster(f, head, groups, list, v, out),
         Kind::Idle(f) => fill_idle(f, head, groups, list, v, out),
+        Kind::Distribute(f) => fill_distribute(f, head, v, out),
+        Kind::Lengths(f) => fill_lengths(f, head, v, out),
     }
 }
 
@@ -55,5 +59,7 @@ pub fn lists(kind: Kind, times: u32) -> u32
         Kind::Busy(_) => 1,
         Kind::Cluster(_) => 1,
         Kind::Idle(_) => 1,
+        Kind::Distribute(_) => 1,
+        Kind::Lengths(_) => 1,
     }
 }

@@ -21,7 +21,7 @@ pub holds-kept : (words : List ℕ) (n : ℕ) → n ≤ length words → Holds w
 holds-kept words n h = record { count = sym (length-take-le n words h); front = refl }
 
 -- a word more, at its place
-holds-put : {words xs : List ℕ} {n : ℕ} → Holds words n xs → (m x k : ℕ) → m ≡ n → m < length words → k ≡ n + 1
+pub holds-put : {words xs : List ℕ} {n : ℕ} → Holds words n xs → (m x k : ℕ) → m ≡ n → m < length words → k ≡ n + 1
     → Holds (set words m x) k (xs ++ (x ∷ []))
 holds-put h m x k e l q = rw (q, e) (holds-more h x (omega arith))
 

@@ -2,3 +2,4 @@ pub mod laws
 pub mod XsRows
 mod ClusterNodes
 mod IdleNodes
+mod LengthNodes

@@ -1,3 +1,4 @@
 -- Laws, for other crates to use.
 pub mod Cluster
 pub mod Idle
+pub mod Lengths

@@ -1,2 +1,3 @@
 pub mod Cluster
 pub mod Idle
+pub mod Lengths

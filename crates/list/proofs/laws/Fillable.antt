@@ -1,18 +1,17 @@
 -- What is given where a list is filled, and what it says of each kind: laws.
-use Prim.Native.Nat.{ℕ, zero, suc, _+_, _-_, _*_, _≤_}
+use Prim.Native.Nat.{ℕ, _+_, _-_, _*_, _≤_}
 use mathlib.Core.Path.{_≡_, refl, sym, ap, _∙_}
 use mathlib.Core.List.{List, [], _∷_, map, flatMap}
 use native.Mathlib.Omega.{arith}
 use lib.ListN.{length, length-append, length-map}
 use Rattle.scope.specs.Cnf.{Gate, or}
 use Rattle.scope.specs.Formula.{refLiteral, nodeGate}
-use Rattle.scope.specs.Kinds.{Kind, clash, spread, cluster, idle, Atom, Y, Entry, atom, entries, entriesNodes, entriesMembers, from, upTo, countedOf}
+use Rattle.scope.specs.Kinds.{Kind, clash, spread, cluster, idle, Atom, Y, Entry, atom, entries, entriesNodes, entriesMembers, upTo, countedOf}
 use Rattle.parsing.proofs.laws.Each.{each-head}
 use Rattle.number.specs.Lists.{leading}
 use Rattle.number.proofs.laws.Lists.{length-leading}
 use Rattle.tables.specs.Rows.{rowAt}
 use Rattle.constraint.specs.declared.kinds.Head.{Head}
-use Rattle.literals.specs.Outputs.{every}
 use Rattle.literals.specs.Variables.{Within}
 use Rattle.literals.proofs.laws.Variables.{sAt, xAt}
 use Rattle.user_table.specs.Filled.{usersAt}
@@ -21,6 +20,7 @@ use Rattle.literals.proofs.laws.Entries.{Adds}
 use Rattle.list_nodes.specs.Ground.{layoutOf}
 use Rattle.list_nodes.proofs.laws.Ground.{ground-groups}
 use Rattle.list_nodes.proofs.GroupRows.{known-row}
+use Rattle.list_nodes.proofs.laws.Runs.{length-from, length-every}
 use Rattle.list_nodes.specs.Stored.{countedIn, Fits}
 use Rattle.plain_lists.proofs.laws.Atoms.{spread-add}
 use Rattle.node_lists.specs.Cluster.{rowIn, xsOf}
@@ -30,17 +30,7 @@ use Rattle.node_lists.specs.Idle.{innerCount}
 use Rattle.node_lists.proofs.laws.Idle.{length-idle, idle-adds}
 use Rattle.list.specs.Fillable.{Fillable}
 
--- how long lists of literals and of gates are
-pub length-from : (n k : ℕ) → length (from n k) ≡ k
-unfolding from
-length-from n zero = refl
-length-from n (suc k) = ap suc (length-from (suc n) k)
-
-pub length-every : (step v n : ℕ) → length (every step v n) ≡ n
-unfolding every
-length-every step v zero = refl
-length-every step v (suc n) = ap suc (length-every step (v + step) n)
-
+-- how long a list of literals is
 length-each : (f : ℕ → ℕ → ℕ) (ts es : List ℕ) → length (flatMap (λ e. map (f e) ts) es) ≡ length es * length ts
 unfolding flatMap
 length-each f ts [] = omega arith

@@ -4,7 +4,7 @@ use mathlib.Core.Path.{_≡_, sym, _∙_}
 use mathlib.Core.List.{List, map}
 use lib.ListN.{length, length-map}
 use Rattle.scope.specs.Kinds.{clash, Y, atom, entries, upTo, countedOf}
-use Rattle.list.proofs.laws.Fillable.{length-from}
+use Rattle.list_nodes.proofs.laws.Runs.{length-from}
 
 -- those of a clash
 pub clash-lists : (T : ℕ) (us group : ℕ → List ℕ) (r : ℕ) → T ≡ length (countedOf T us group (clash r) .lists)

@@ -1,12 +1,12 @@
 -- The nodes and the members of a list are over literals of variables, and as many are counted as the bounds need.
-use Prim.Native.Nat.{ℕ, zero, suc, _+_, _-_, _*_, _≤_, _<_}
+use Prim.Native.Nat.{ℕ, zero, suc, _+_, _-_, _*_, _≤_}
 use mathlib.Core.Path.{refl}
 use mathlib.Core.List.{List, [], _∷_, map}
 use native.Mathlib.Omega.{arith}
 use lib.ListN.{length, getD, take, drop, length-map}
 use Rattle.scope.specs.Cnf.{pos, opp, Gate, or, and}
 use Rattle.scope.specs.Formula.{refLiteral, nodeGate}
-use Rattle.scope.specs.Kinds.{Kind, clash, unavailable, preferred, split, spread, busy, cluster, idle, Atom, Y, Entry, atom, entries, Listed, upTo, outside, countedOf}
+use Rattle.scope.specs.Kinds.{Kind, clash, unavailable, preferred, split, spread, busy, cluster, idle, distribute, lengths, Atom, Y, Entry, atom, entries, Listed, upTo, outside, countedOf}
 use Rattle.parsing.specs.Each.{Each, each-none, each-more}
 use Rattle.parsing.proofs.laws.Each.{each-at, each-drop}
 use Rattle.constraint.specs.declared.kinds.Head.{Head}
@@ -31,7 +31,10 @@ use Rattle.node_lists.specs.Cluster.{xsOf}
 use Rattle.node_lists.proofs.laws.Cluster.{cluster-adds}
 use Rattle.node_lists.specs.Idle.{gapGates, innerCount}
 use Rattle.node_lists.proofs.laws.Idle.{idleGates, length-idle, idle-adds}
+use Rattle.node_lists.specs.Lengths.{outsideCount}
+use Rattle.node_lists.proofs.laws.Lengths.{ByNumbers, of-length, of-length-outside}
 use Rattle.list.specs.Fillable.{Fillable}
+use Rattle.list.proofs.laws.LengthLiterals.{opposite-proper, output-proper, length-nodes, outside-nodes, last-proper, count-few}
 use Rattle.list.proofs.laws.Fillable.{clash-time, only-one, nodes-length}
 
 -- its first node is the variable v
@@ -45,6 +48,13 @@ adds-literals : {num : Atom → ℕ} {l : List Entry} {v : ℕ} {gs : List Gate}
     → Each Proper xs
     → OverLiterals num (entries l) v
 adds-literals a p q = record { nodes = rw (a .gates) p; members = rw (a .literals) q }
+
+numbers-literals : {num : Atom → ℕ} {l : Listed} {v : ℕ} {gs : List Gate} {xs : List ℕ}
+    → ByNumbers num v l gs xs
+    → Each IsNode gs
+    → Each Proper xs
+    → OverLiterals num l v
+numbers-literals b p q = record { nodes = rw (b .gates) p; members = rw (b .literals) q }
 
 -- X of resource r in a group, and in each of some groups
 module _ {groups : List ℕ} {h : Head} (g : Ground groups h) {r : ℕ} (x : OneOf (h .resources) r) where
@@ -68,12 +78,6 @@ each-take : {P : ℕ → Type 0} {xs : List ℕ} (n : ℕ) → Each P xs → Eac
 each-take zero e = each-none
 each-take (suc n) each-none = each-none
 each-take (suc n) (each-more p ps) = each-more p (each-take n ps)
-
-opposite-proper : (l : ℕ) → Proper l → Proper (opp l)
-opposite-proper l p = record { low = omega (arith, p .low); high = omega (arith, p .high) }
-
-output-proper : (v : ℕ) → 1 ≤ v → v < 1073741824 → Proper (pos v)
-output-proper v a b = record { low = omega arith; high = omega arith }
 
 gaps-nodes : (xs : List ℕ) → Each Proper xs → (k n v : ℕ) → n ≤ length xs - k → 1 ≤ v → v + 3 * n ≤ 8000001 → Each IsNode (gapGates xs k n v)
 unfolding gapGates
@@ -151,6 +155,20 @@ module _ (users groups list : List ℕ) (h : Head) (t v : ℕ) (words : List ℕ
       (adds-literals a
       (idle-nodes xss (groups-proper g (f .fits .range .0) (ground-groups g (f .fits .range .1))) v s (omega (arith, nodes-length a)))
       (every-proper 3 (v + 2) (innerCount xss) (omega arith) (omega (arith, nodes-length a))))
+  list-literals (distribute e n lo hi) f =
+      let g = f .fits .ground in
+      let b : v ≤ 8000001 = omega (arith, f .small) in
+      rw (only-one f refl)
+      (numbers-literals (of-length (h .times) (layoutOf h) e v n (f .fits .range .1 .low))
+      (length-nodes (h .times) (layoutOf h) e v (ground-sizes g) (ground-event g (f .fits .range .0)) s b n (omega (arith, f .fits .range .1 .high, g .times)))
+      (last-proper (h .times) v 1 (g .times) s b (omega arith) (omega arith)))
+  list-literals (lengths e a b) f =
+      let g = f .fits .ground in
+      let m : v ≤ 8000001 = omega (arith, f .small) in
+      rw (only-one f refl)
+      (numbers-literals (of-length-outside (h .times) (layoutOf h) e v a b (f .fits .range .1 .low))
+      (outside-nodes (h .times) (layoutOf h) e v (ground-sizes g) (ground-event g (f .fits .range .0)) s m a b (omega (arith, f .fits .range .1 .high, g .times)))
+      (last-proper (h .times) v (outsideCount a) (g .times) s m (count-few a .0) (count-few a .1)))
 
   -- it has at most 255 members, and the low bound is no more than these
   pub list-short : (k : Kind) → Fillable users groups list h k t v words

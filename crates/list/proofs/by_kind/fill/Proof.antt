@@ -72,6 +72,22 @@ fill-idle-requires c κs =
     let f = rw (c .before .before .kind8 .given .1) at (c .before .before .before .before .before .before .before .before .pre) in
     (f .fits .ground, (f .fits .range, (f .fits .store, (idle-short _ _ _ _ _ _ _ _ (f .fits), (idle-small _ _ _ _ _ _ _ _ _ _ _ f, f .room)))))
 
+enum-known-kind-9 : tie.Need-enum-known-kind-9
+enum-known-kind-9 c = search needs
+
+fill-distribute-requires : tie.Need-fill-distribute-requires
+fill-distribute-requires c κs =
+    let f = rw (c .before .before .kind9 .given .1) at (c .before .before .before .before .before .before .before .before .pre) in
+    (sized (f .fits .ground), (f .fits .range, (omega (arith, f .small), f .room)))
+
+enum-known-kind-10 : tie.Need-enum-known-kind-10
+enum-known-kind-10 c = search needs
+
+fill-lengths-requires : tie.Need-fill-lengths-requires
+fill-lengths-requires c κs =
+    let f = rw (c .before .before .kind10 .given .1) at (c .before .before .before .before .before .before .before .before .pre) in
+    (sized (f .fits .ground), (f .fits .range, (omega (arith, f .small), f .room)))
+
 same-length : tie.Need-same-length
 same-length c = search needs
 
@@ -149,6 +165,26 @@ returns-8 c =
     let e : c .before .before .before .before .before .before .before .before .before .before .before .args .t ≡ 1 = only-one f refl in
     rw (c .before .before .before .before .before .kind8 .given .1, e) (c .before .before .fill-idle .ensures)
 
+same-length-9 : tie.Need-same-length-9
+same-length-9 c = search needs
+
+returns-9 : tie.Need-returns-9
+unfolding countedOf
+returns-9 c =
+    let f = rw (c .before .before .before .before .before .kind9 .given .1) at (c .before .before .before .before .before .before .before .before .before .before .before .pre) in
+    let e : c .before .before .before .before .before .before .before .before .before .before .before .args .t ≡ 1 = only-one f refl in
+    rw (c .before .before .before .before .before .kind9 .given .1, e) (c .before .before .fill-distribute .ensures)
+
+same-length-10 : tie.Need-same-length-10
+same-length-10 c = search needs
+
+returns-10 : tie.Need-returns-10
+unfolding countedOf
+returns-10 c =
+    let f = rw (c .before .before .before .before .before .kind10 .given .1) at (c .before .before .before .before .before .before .before .before .before .before .before .pre) in
+    let e : c .before .before .before .before .before .before .before .before .before .before .before .args .t ≡ 1 = only-one f refl in
+    rw (c .before .before .before .before .before .kind10 .given .1, e) (c .before .before .fill-lengths .ensures)
+
 pub fill-spec : {M : Type 1} → statement M
 fill-spec =
     tie.close
@@ -169,6 +205,10 @@ fill-spec =
     fill-cluster-requires
     enum-known-kind-8
     fill-idle-requires
+    enum-known-kind-9
+    fill-distribute-requires
+    enum-known-kind-10
+    fill-lengths-requires
     same-length
     returns
     same-length-2
@@ -184,4 +224,8 @@ fill-spec =
     same-length-7
     returns-7
     same-length-8
-    returns-8)
+    returns-8
+    same-length-9
+    returns-9
+    same-length-10
+    returns-10)

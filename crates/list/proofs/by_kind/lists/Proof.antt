@@ -30,6 +30,12 @@ enum-told-7 c = search needs
 enum-told-8 : tie.Need-enum-told-8
 enum-told-8 c = search needs
 
+enum-told-9 : tie.Need-enum-told-9
+enum-told-9 c = search needs
+
+enum-told-10 : tie.Need-enum-told-10
+enum-told-10 c = search needs
+
 returns : tie.Need-returns
 unfolding countedOf
 returns c = rw (c .enum-told .given .1) (record { eq = λ us group l. clash-lists (c .before .before .args .times) us group _ })
@@ -62,6 +68,14 @@ returns-8 : tie.Need-returns-8
 unfolding countedOf
 returns-8 c = rw (c .enum-told8 .given .1) (record { eq = λ us group l. refl })
 
+returns-9 : tie.Need-returns-9
+unfolding countedOf
+returns-9 c = rw (c .enum-told9 .given .1) (record { eq = λ us group l. refl })
+
+returns-10 : tie.Need-returns-10
+unfolding countedOf
+returns-10 c = rw (c .enum-told10 .given .1) (record { eq = λ us group l. refl })
+
 pub lists-spec : {M : Type 1} → statement M
 lists-spec =
     tie.close
@@ -74,6 +88,8 @@ lists-spec =
     enum-told-6
     enum-told-7
     enum-told-8
+    enum-told-9
+    enum-told-10
     returns
     returns-2
     returns-3
@@ -81,4 +97,6 @@ lists-spec =
     returns-5
     returns-6
     returns-7
-    returns-8)
+    returns-8
+    returns-9
+    returns-10)
