@@ -3,3 +3,4 @@ pub mod Fillable
 pub mod LengthLiterals
 pub mod ListsOf
 pub mod Literals
+pub mod Proper

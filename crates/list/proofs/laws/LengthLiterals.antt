@@ -6,7 +6,7 @@ use native.Mathlib.Omega.{arith}
 use native.Mathlib.Nat.{mul-le-mul}
 use lib.Dec.{eqb}
 use Rattle.scope.specs.declared.Layout.{Layout}
-use Rattle.scope.specs.Cnf.{pos, neg, opp, Gate, or, and}
+use Rattle.scope.specs.Cnf.{pos, opp, Gate, or, and}
 use Rattle.scope.specs.Kinds.{from, upTo}
 use Rattle.parsing.specs.Each.{Each, each-none, each-more}
 use Rattle.literals.specs.Outputs.{every}
@@ -17,19 +17,7 @@ use Rattle.literals.proofs.laws.Proper.{each-both, every-proper}
 use Rattle.literals.specs.NodeWords.{IsNode}
 use Rattle.node_lists.specs.Lengths.{goesGate, goingGates, onCount, onLiterals, lengthGate, outsideGates, outsideCount}
 use Rattle.node_lists.proofs.laws.Lengths.{firstOf}
-
-pub opposite-proper : (l : ℕ) → Proper l → Proper (opp l)
-opposite-proper l p = record { low = omega (arith, p .low); high = omega (arith, p .high) }
-
-pub output-proper : (v : ℕ) → 1 ≤ v → v < 1073741824 → Proper (pos v)
-output-proper v a b = record { low = omega arith; high = omega arith }
-
-negated-proper : (v : ℕ) → 1 ≤ v → v < 1073741824 → Proper (neg v)
-negated-proper v a b = record { low = omega arith; high = omega arith }
-
-opposites-proper : {ls : List ℕ} → Each Proper ls → Each Proper (map opp ls)
-opposites-proper each-none = each-none
-opposites-proper (each-more {x = l} p ps) = each-more (opposite-proper l p) (opposites-proper ps)
+use Rattle.list.proofs.laws.Proper.{opposites-proper, output-proper, negated-proper}
 
 -- M
 goes-nodes : (y s n k : ℕ) → y < 524288 → s < 524288 → 1 ≤ n → n + k ≤ 127 → Each IsNode (map (goesGate y s) (from n k))

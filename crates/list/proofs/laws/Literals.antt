@@ -34,7 +34,8 @@ use Rattle.node_lists.proofs.laws.Idle.{idleGates, length-idle, idle-adds}
 use Rattle.node_lists.specs.Lengths.{outsideCount}
 use Rattle.node_lists.proofs.laws.Lengths.{ByNumbers, of-length, of-length-outside}
 use Rattle.list.specs.Fillable.{Fillable}
-use Rattle.list.proofs.laws.LengthLiterals.{opposite-proper, output-proper, length-nodes, outside-nodes, last-proper, count-few}
+use Rattle.list.proofs.laws.LengthLiterals.{length-nodes, outside-nodes, last-proper, count-few}
+use Rattle.list.proofs.laws.Proper.{opposite-proper, output-proper}
 use Rattle.list.proofs.laws.Fillable.{clash-time, only-one, nodes-length}
 
 -- its first node is the variable v

@@ -28,12 +28,12 @@ module _ (num : Atom → ℕ) (v : ℕ) where
       let e : v + (suc u - 2) ≡ v + (u - 2) + 1 = omega arith in
       rw (← e) (ap (λ (l : List ℕ). pos (v + (u - 2)) ∷ l) (on-literals (suc u) k (omega arith)))
 
+  not-on-refs : (ts : List ℕ) → map (refLiteral num v) (map notOnAt ts) ≡ map opp (map (refLiteral num v) (map onAt ts))
+  not-on-refs [] = refl
+  not-on-refs (t ∷ ts) = ap (λ (l : List ℕ). opp (pos (v + (t - 2))) ∷ l) (not-on-refs ts)
+
   not-on-literals : (u k : ℕ) → 2 ≤ u → map (refLiteral num v) (map notOnAt (from u k)) ≡ map opp (every 1 (v + (u - 2)) k)
-  unfolding from every
-  not-on-literals u zero h = refl
-  not-on-literals u (suc k) h =
-      let e : v + (suc u - 2) ≡ v + (u - 2) + 1 = omega arith in
-      rw (← e) (ap (λ (l : List ℕ). opp (pos (v + (u - 2))) ∷ l) (not-on-literals (suc u) k (omega arith)))
+  not-on-literals u k h = not-on-refs (from u k) ∙ ap (map opp) (on-literals u k h)
 
   -- the last of s nodes of each time
   last-literals : (T s n k : ℕ) → 1 ≤ s
