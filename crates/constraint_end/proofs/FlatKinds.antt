@@ -9,10 +9,9 @@ use native.Mathlib.Omega.{arith}
 use borrow.Author.Tests.{ne-eqb}
 use Rattle.laws.specs.Lists.{All}
 use Rattle.scope.specs.Kinds.{lengths, from}
-use Rattle.scope.specs.Instance.{ordered}
 use Rattle.fields.specs.declared.flat.Flat.{Flat}
 use Rattle.fields.specs.Made.{kindFrom}
-use Rattle.constraint.specs.Bounds.{lowOf, highOf}
+use Rattle.constraint_end.specs.End.{endOf}
 
 -- what holds of each of n numbers from a on
 one-of : (P : ℕ → Type 0) (a n k : ℕ) → a ≤ k → k < a + n → All P (from a n) → P k
@@ -28,29 +27,13 @@ module _ (w : Flat) (l : List ℕ) (k : ℕ) where
   kind-other n =
       rw (ne-eqb k 1 (λ e. n (omega arith) (omega arith)), ne-eqb k 2 (λ e. n (omega arith) (omega arith)), ne-eqb k 3 (λ e. n (omega arith) (omega arith)), ne-eqb k 4 (λ e. n (omega arith) (omega arith)), ne-eqb k 5 (λ e. n (omega arith) (omega arith)), ne-eqb k 6 (λ e. n (omega arith) (omega arith)), ne-eqb k 7 (λ e. n (omega arith) (omega arith)), ne-eqb k 8 (λ e. n (omega arith) (omega arith)), ne-eqb k 9 (λ e. n (omega arith) (omega arith)))
 
-  -- lo and hi are the last two numbers of the kinds 4 to 9
-  pub low-read : 4 ≤ k → k ≤ 9 → w .c ≡ lowOf (kindFrom k w l)
+  -- of the kinds 2 and 3 all is fixed, of the kinds 4 to 9 lo and hi are the last two numbers; they have no lengths
+  pub end-fixed : 2 ≤ k → k ≤ 3 → record { order = true; lo = 0; hi = 0 } ≡ endOf (kindFrom k w l)
   unfolding kindFrom from
-  low-read a b = one-of (λ k. w .c ≡ lowOf (kindFrom k w l)) 4 6 k a (omega arith) (refl, (refl, (refl, (refl, (refl, (refl, tt))))))
+  end-fixed a b = one-of (λ k. record { order = true; lo = 0; hi = 0 } ≡ endOf (kindFrom k w l)) 2 2 k a (omega arith) (refl, (refl, tt))
 
-  pub high-read : 4 ≤ k → k ≤ 9 → w .d ≡ highOf (kindFrom k w l)
+  pub end-read : 4 ≤ k → k ≤ 9 → record { order = true; lo = w .c; hi = w .d } ≡ endOf (kindFrom k w l)
   unfolding kindFrom from
-  high-read a b = one-of (λ k. w .d ≡ highOf (kindFrom k w l)) 4 6 k a (omega arith) (refl, (refl, (refl, (refl, (refl, (refl, tt))))))
-
-  -- and fixed of those below
-  pub low-fixed : k ≤ 3 → 0 ≡ lowOf (kindFrom k w l)
-  unfolding kindFrom from
-  low-fixed h = one-of (λ k. 0 ≡ lowOf (kindFrom k w l)) 0 4 k (omega arith) (omega arith) (refl, (refl, (refl, (refl, tt))))
-
-  pub high-fixed : (k ≡ 1 → ⊥) → k ≤ 3 → 0 ≡ highOf (kindFrom k w l)
-  unfolding kindFrom from
-  high-fixed n h =
-      one-of (λ k. (k ≡ 1 → ⊥) → 0 ≡ highOf (kindFrom k w l)) 0 4 k (omega arith) (omega arith)
-      (λ n. refl, (λ n. absurd (n refl), (λ n. refl, (λ n. refl, tt)))) n
-
-  -- the kinds below 10 have no lengths that could be out of order
-  pub ordered-below : 1 ≤ k → k ≤ 9 → true ≡ ordered (kindFrom k w l)
-  unfolding kindFrom from
-  ordered-below a b =
-      one-of (λ k. true ≡ ordered (kindFrom k w l)) 1 9 k a (omega arith)
-      (refl, (refl, (refl, (refl, (refl, (refl, (refl, (refl, (refl, tt)))))))))
+  end-read a b =
+      one-of (λ k. record { order = true; lo = w .c; hi = w .d } ≡ endOf (kindFrom k w l)) 4 6 k a (omega arith)
+      (refl, (refl, (refl, (refl, (refl, (refl, tt))))))

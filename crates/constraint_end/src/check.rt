@@ -1,8 +1,7 @@
 // The checks at a constraint's end.
-use crate::bounds::hi_of;
-use crate::bounds::lo_of;
 use crate::by_kind::list_length;
-use crate::order::in_order;
+use crate::end::End;
+use crate::end::end_of;
 use constraint::FlatNext;
 use constraint::Head;
 use constraint::flat_at;
@@ -18,10 +17,9 @@ ghost use Rattle.number.specs.Answers.{said};
 ghost use Rattle.constraint_end.specs.Ends.{ends};
 ghost use Rattle.constraint_end.specs.Ready.{Ready, checkedBy, byCounts};
 
-// A constraint whose kind stands at an offset, whose lengths are in order or not, and whose counted list has n members: where it
-// ends.
-fn ended(at: usize, order: bool, n: u32, lo: u32, hi: u32, end: usize) -> Number
-    ensures { λ r. ⌜ ((weight : ℕ) (k : Kind) → said r ≡ ends (endedAt at order lo hi n weight k end)) ⌝ }
+// A constraint whose kind stands at an offset and whose counted list has n members: where it ends.
+fn ended(at: usize, e: End, n: u32, end: usize) -> Number
+    ensures { λ r. ⌜ ((weight : ℕ) (k : Kind) → said r ≡ ends (endedAt at (e .order) (e .lo) (e .hi) n weight k end)) ⌝ }
 {
     let long = Refusal {
         number: LIST_TOO_LONG,
@@ -34,13 +32,13 @@ fn ended(at: usize, order: bool, n: u32, lo: u32, hi: u32, end: usize) -> Number
     if 255 < n {
         return Number::Refused(long);
     }
-    if !order {
+    if !e.order {
         return Number::Refused(bad);
     }
-    if hi < lo {
+    if e.hi < e.lo {
         return Number::Refused(bad);
     }
-    if lo <= n {
+    if e.lo <= n {
         return Number::Value(0, end);
     }
     Number::Refused(bad)
@@ -61,10 +59,8 @@ pub fn checked_at(
     match flat_at(s, at, head, list) {
         FlatNext::Read(c, end) => {
             let n = list_length(c.kind, c.fields, head, loads, groups, list);
-            let order = in_order(c.kind, c.fields);
-            let lo = lo_of(c.kind, c.fields);
-            let hi = hi_of(c.kind, c.fields);
-            ended(at, order, n, lo, hi, end)
+            let e = end_of(c.kind, c.fields);
+            ended(at, e, n, end)
         }
         FlatNext::Refused(f) => Number::Refused(f),
     }

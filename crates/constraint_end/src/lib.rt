@@ -1,15 +1,14 @@
 // A constraint as it stands in the file, checked at its end: the length of its counted list (4), its bounds and the order of
 // its lengths (5).
-mod bounds;
 mod busy;
 mod by_kind;
 mod check;
 mod clash;
 mod cluster;
+mod end;
 mod every_time;
 mod group;
 mod idle;
-mod order;
 mod preferred;
 mod spread;
 mod unavailable;

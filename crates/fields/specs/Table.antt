@@ -22,12 +22,13 @@ secondOf n k =
     (cond (eqb k 9) (Field.Number 1 (n .times))
     (cond (eqb k 10) (Field.Number 1 (n .times)) (Field.Reference (n .groups))))))
 
-unfoldable pub thirdOf : Totals → ℕ → Field
-thirdOf n k = cond (eqb k 10) (Field.Number 1 (n .times)) (Field.Number 0 255)
+-- every field after the second
+unfoldable pub laterOf : Totals → ℕ → Field
+laterOf n k = cond (eqb k 10) (Field.Number 1 (n .times)) (Field.Number 0 255)
 
 -- the field after i others
 unfoldable pub fieldAt : Totals → ℕ → ℕ → Field
-fieldAt n k i = cond (eqb i 0) (firstOf n k) (cond (eqb i 1) (secondOf n k) (cond (eqb i 2) (thirdOf n k) (Field.Number 0 255)))
+fieldAt n k i = cond (eqb i 0) (firstOf n k) (cond (eqb i 1) (secondOf n k) (laterOf n k))
 
 -- how many fields a kind has
 unfoldable pub countOf : ℕ → ℕ

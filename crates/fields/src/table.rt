@@ -1,7 +1,7 @@
 // Which fields each kind has, in their order: data, so one table in one place for all kinds. The law `row-right` says that
 // they are the rows of the table in the definitions.
 ghost use mathlib.Core.Path.{_≡_};
-ghost use Rattle.fields.specs.Table.{firstOf, secondOf, thirdOf, fieldAt, countOf};
+ghost use Rattle.fields.specs.Table.{firstOf, secondOf, laterOf, fieldAt, countOf};
 
 // How many things there are to refer to.
 pub struct Totals {
@@ -44,8 +44,9 @@ fn second(kind: u32, t: Totals) -> Field
     }
 }
 
-fn third(kind: u32, t: Totals) -> Field
-    ensures { λ r. ⌜ r ≡ thirdOf t kind ⌝ }
+// Every field after the second: kind 10's longest, else a bound.
+fn later(kind: u32, t: Totals) -> Field
+    ensures { λ r. ⌜ r ≡ laterOf t kind ⌝ }
 {
     match kind {
         10 => Field::Number(1, t.times),
@@ -53,15 +54,14 @@ fn third(kind: u32, t: Totals) -> Field
     }
 }
 
-// The field after i others; what stands after the third is a bound.
+// The field after i others.
 pub fn field_of(kind: u32, i: u32, t: Totals) -> Field
     ensures { λ r. ⌜ r ≡ fieldAt t kind i ⌝ }
 {
     match i {
         0 => first(kind, t),
         1 => second(kind, t),
-        2 => third(kind, t),
-        _ => Field::Number(0, 255),
+        _ => later(kind, t),
     }
 }
 

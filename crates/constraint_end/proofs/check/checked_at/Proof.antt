@@ -23,14 +23,8 @@ list-length-requires c κs =
     let e = sym (f .ensures) ∙ ap (saidFlatNext l) (c .before .before .c .given .1) in
     (ready-kept (c .before .before .before .before .before .before .before .before .before .before .before .before .pre) (f .kept .1 .1 .1 .0), decoded-got _ _ _ e .fields)
 
-in-order-requires : tie.Need-in-order-requires
-in-order-requires c κs = search needs
-
-lo-of-requires : tie.Need-lo-of-requires
-lo-of-requires c κs = search needs
-
-hi-of-requires : tie.Need-hi-of-requires
-hi-of-requires c κs = search needs
+end-of-requires : tie.Need-end-of-requires
+end-of-requires c κs = search needs
 
 ended-requires : tie.Need-ended-requires
 ended-requires c κs = search needs
@@ -44,11 +38,12 @@ same-length c = search needs
 returns : tie.Need-returns
 unfolding checkedAt
 returns c =
-    let f = c .before .before .before .before .before .before .before .before .before .before .before .flat-at in
-    let w = c .before .before .before .before .before .before .before .c .given .0 .0 in
+    let f = c .before .before .before .before .before .before .before .before .before .flat-at in
+    let x = c .before .before .before .before .before .c .given in
+    let w = x .0 .0 in
     let l = leading (w .fields .list) (f .last .1 .1 .1 .0) in
-    rw (← (f .ensures), c .before .before .before .before .before .before .before .c .given .1, ← (c .before .before .before .before .list-length .ensures), ← (c .before .before .before .in-order .ensures l), ← (c .before .before .lo-of .ensures l), ← (c .before .hi-of .ensures l))
-    (c .ended .ensures (w .weight) (kindFrom (w .kind) (w .fields) l))
+    let q = rw (c .before .end-of .ensures l) at (c .ended .ensures (w .weight) (kindFrom (w .kind) (w .fields) l)) in
+    rw (← (f .ensures), x .1, ← (c .before .before .list-length .ensures)) q
 
 same-length-2 : tie.Need-same-length-2
 same-length-2 c = search needs
@@ -64,9 +59,7 @@ checked-at-spec =
     flat-at-requires
     enum-known-c
     list-length-requires
-    in-order-requires
-    lo-of-requires
-    hi-of-requires
+    end-of-requires
     ended-requires
     enum-known-f
     same-length

@@ -1,4 +1,4 @@
--- `fields::table::field_of` meets its contract: first, second, third, or a bound.
+-- `fields::table::field_of` meets its contract: first, second, or a later one.
 use borrow.Author.Needs.{needs}
 use borrow.Author.Tests.{ne-eqb}
 use Rattle.fields.specs.Table.{fieldAt}
@@ -11,8 +11,8 @@ first-requires c κs = search needs
 second-requires : tie.Need-second-requires
 second-requires c κs = search needs
 
-third-requires : tie.Need-third-requires
-third-requires c κs = search needs
+later-requires : tie.Need-later-requires
+later-requires c κs = search needs
 
 returns : tie.Need-returns
 unfolding fieldAt
@@ -24,11 +24,7 @@ returns-2 c = rw (c .before .match .keys2) (c .second .ensures)
 
 returns-3 : tie.Need-returns-3
 unfolding fieldAt
-returns-3 c = rw (c .before .match .keys3) (c .third .ensures)
-
-returns-4 : tie.Need-returns-4
-unfolding fieldAt
-returns-4 c = let n = c .match .rest in simp (ne-eqb _ 0 (n .0 .0 .1), ne-eqb _ 1 (n .0 .1), ne-eqb _ 2 (n .1))
+returns-3 c = let n = c .before .match .rest in rw (ne-eqb _ 0 (n .0 .1), ne-eqb _ 1 (n .1)) (c .later .ensures)
 
 pub field-of-spec : {M : Type 1} → statement M
-field-of-spec = tie.close (tie.spec first-requires second-requires third-requires returns returns-2 returns-3 returns-4)
+field-of-spec = tie.close (tie.spec first-requires second-requires later-requires returns returns-2 returns-3)
