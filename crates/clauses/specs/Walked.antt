@@ -25,6 +25,6 @@ pub record Walkable (s us tg list : List ℕ) (h : Head) (v : ℕ) : Type 0 wher
   pub resources : List ℕ
   pub accepted : Accepted s durations resources tg h
   pub filled : Filled us (usersIn resources (h .events))
-  pub groups-long : length tg ≡ 258048
+  pub groups-long : length tg ≡ 129024
   pub list-long : length list ≡ 2048
   pub room : Room v (itemsOf us tg h (constraintsIn h s) v)

@@ -8,7 +8,7 @@ use lib.ListN.{length}
 pub record Tables (durations resources groups : List ℕ) : Type 0 where
   pub durations-long : length durations ≡ 1024
   pub resources-long : length resources ≡ 129024
-  pub groups-long : length groups ≡ 258048
+  pub groups-long : length groups ≡ 129024
 
 -- and room for a constraint's list
 pub record Stores (durations resources groups list : List ℕ) : Type 0 where

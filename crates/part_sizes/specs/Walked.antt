@@ -25,7 +25,7 @@ pub record Walkable (s us tg list store : List ℕ) (h : Head) (cols : ℕ) (bef
   pub durations : List ℕ
   pub resources : List ℕ
   pub tabled : Tabled s durations resources us tg h
-  pub groups-long : length tg ≡ 258048
+  pub groups-long : length tg ≡ 129024
   pub list-long : length list ≡ 2048
   pub store-long : length store ≡ 34816
   pub columns : cols ≤ 4096

@@ -91,7 +91,7 @@ pub fn events_at(
 
 // The time groups, a row for each; the answer has their count.
 pub fn groups_at(s: &[u8], at: usize, times: u32, table: &mut [u8]) -> Number
-    requires { ⌜ length (now table) ≡ 258048 ⌝ }
+    requires { ⌜ length (now table) ≡ 129024 ⌝ }
     requires { ⌜ times ≤ 125 ⌝ }
     ensures { λ r. ⌜ saidRows (now (table .exit)) r ≡ groupsAt times (now (s .entry)) at ⌝ }
 {

@@ -32,7 +32,7 @@ module _ {s d te tg us : List ℕ} {h : Head} (a : Accepted s d te tg h) (f : Fi
 
   module _ {c : Constraint} (v : ConstraintOf (countsIn h) (headStart d te tg h) c) where
     -- what filling its lists asks for
-    pub known-fits : {list : List ℕ} → length tg ≡ 258048 → length list ≡ 2048 → Fits us tg list h (c .kind)
+    pub known-fits : {list : List ℕ} → length tg ≡ 129024 → length list ≡ 2048 → Fits us tg list h (c .kind)
     known-fits lg ll =
         let k = c .kind in
         let same = known-counted k in

@@ -12,7 +12,7 @@ use Rattle.user_table.specs.Filled.{EventRows}
 use Rattle.list_nodes.specs.Ground.{Ground}
 
 module _ {s d te tg : List ℕ} {h : Head} (a : Accepted s d te tg h) where
-  pub known-groups : length tg ≡ 258048 → Ground tg h
+  pub known-groups : length tg ≡ 129024 → Ground tg h
   known-groups l =
       record {
         times = a .sizes .times-high;

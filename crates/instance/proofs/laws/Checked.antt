@@ -104,7 +104,7 @@ module _ (s d te tg : List ℕ) (h : Head) (i : StartIn (headStart d te tg h)) w
 pub start-lent : (d te tg list : List ℕ) (h : Head)
     → StartIn (headStart d te tg h)
     → length te ≡ 129024
-    → length tg ≡ 258048
+    → length tg ≡ 129024
     → length list ≡ 2048
     → Lent te tg list h
 start-lent d te tg list h i a b c =

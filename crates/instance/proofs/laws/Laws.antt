@@ -200,7 +200,7 @@ module _ {s d te tg : List ℕ} {h : Head} (a : Accepted s d te tg h) where
   pub event-rows : length te ≡ 129024 → RowsIn te (h .events)
   event-rows l = events-in d te (h .events) (omega (arith, a .sizes .resources-high)) (omega (arith, a .sizes .events-high)) (a .events)
 
-  pub group-rows : length tg ≡ 258048 → RowsIn tg (h .groups)
+  pub group-rows : length tg ≡ 129024 → RowsIn tg (h .groups)
   group-rows l = groups-in tg (h .groups) (a .sizes .times-high) (omega (arith, a .groups-high)) (a .groups)
 
   -- a turn of the walk, where the call answered x with the store l: the next constraint, and that it is valid

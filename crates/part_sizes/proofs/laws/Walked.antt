@@ -89,7 +89,7 @@ module _ {s d te us tg : List ℕ} {h : Head} (a : Tabled s d te us tg h) {cols 
 
     module _ {next : ℕ} {c : Constraint} (n : NextOf (a .accepted) k next c) where
       -- it can be sized
-      pub part-sizable : {list : List ℕ} → length tg ≡ 258048 → length list ≡ 2048 → Sizable us tg list h c
+      pub part-sizable : {list : List ℕ} → length tg ≡ 129024 → length list ≡ 2048 → Sizable us tg list h c
       part-sizable lg ll =
           record {
             fits = known-fits (a .accepted) (a .filled) (n .valid) lg ll;

@@ -60,7 +60,7 @@ module _ {s d te tg : List ℕ} {h : Head} (a : Accepted s d te tg h) where
   unfolding decodedOf
   accepted-decoded = ap listOf accepted-whole
 
-  pub scorable : (b l : List ℕ) → length te ≡ 129024 → length tg ≡ 258048 → length l ≡ 2048 → length b ≡ 2 * (h .events * h .times) → Scorable s b te tg l h
+  pub scorable : (b l : List ℕ) → length te ≡ 129024 → length tg ≡ 129024 → length l ≡ 2048 → length b ≡ 2 * (h .events * h .times) → Scorable s b te tg l h
   scorable b l p q r t =
       record {
         sizes = a .sizes;

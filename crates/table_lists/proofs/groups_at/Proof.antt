@@ -21,7 +21,7 @@ abbrev Inv-loop : tie.InvT-loop
 Inv-loop s at times table₀ count start most next₀ g₀ table next g =
     (g ≤ count)
     × (count ≤ 1024)
-    × (length table ≡ 258048)
+    × (length table ≡ 129024)
     × (groupsAt times s at ≡ before (rows table g) (repeat (count - g) (listed times s) next))
 
 abbrev μ-loop : tie.MeasureT-loop

@@ -6,7 +6,7 @@ use Rattle.tables.proofs.store.group_rows.Statement.{statement}
 use Rattle.tables.proofs.store.group_rows.Tie as tie
 
 returns : tie.Need-returns
-returns c = sym (length-replicate {A = ℕ} 258048 0)
+returns c = sym (length-replicate {A = ℕ} 129024 0)
 
 pub group-rows-spec : {M : Type 1} → statement M
 group-rows-spec = tie.close (tie.spec returns)
