@@ -9,7 +9,7 @@ use lib.ListN.{length, drop}
 use Rattle.scope.specs.Parsed.{Parsed, got, refused, Answer, answered, refusal, andThen, unless, cons, repeat, with, provided}
 use Rattle.scope.specs.Number.{Front, broken, whole, within, front, numberFrom, number, limited, reference, references, listed}
 use Rattle.scope.specs.Kinds.{Event, Kind, longest, users, groupAt, Counted, countedOf}
-use Rattle.scope.specs.Instance.{countsOf, Instance, eventAt, Fields, aReference, aList, aNumber, theKind, fieldsRead, fieldsOf, ended, constraintAt, sizesAt, groupsAt, constraintsAt, parse}
+use Rattle.scope.specs.Instance.{countsOf, Instance, eventAt, Fields, aReference, aList, aNumber, theKind, fieldsRead, fieldsOf, ordered, ended, constraintAt, sizesAt, groupsAt, constraintsAt, parse}
 use Rattle.scope.specs.Score.{slots, truth, firstWrong, firstAbove, unlessFound, ofTimetable}
 
 -- one of some numbers
@@ -97,23 +97,23 @@ module _ {ns : List ℕ} (r : Reader ns) where
     the-fields (aNumber lo hi f) at = after (a-limit s at lo hi) (λ v next. the-fields (f v) next)
     the-fields (theKind k) at = reads
 
-    an-end : (at lo hi n weight : ℕ) (k : Kind) (end : ℕ) → Reads ns (ended at lo hi n weight k end)
+    an-end : (at : ℕ) (o : Bool) (lo hi n weight : ℕ) (k : Kind) (end : ℕ) → Reads ns (ended at o lo hi n weight k end)
     unfolding ended
-    an-end at lo hi n weight k end =
+    an-end at o lo hi n weight k end =
         tested (leb n 255) 4 at (r .e4)
-        (tested (leb lo hi) 5 at (r .e5) (tested (leb lo n) 5 at (r .e5) reads))
+        (tested o 5 at (r .e5) (tested (leb lo hi) 5 at (r .e5) (tested (leb lo n) 5 at (r .e5) reads)))
 
     module _ (T R : ℕ) (es : List Event) (gs : List (List ℕ)) where
       a-constraint : (at : ℕ) → Reads ns (constraintAt T R es gs s at)
       unfolding constraintAt
       a-constraint at =
-          after (a-limit s at 1 8)
+          after (a-limit s at 1 10)
           (λ kind next.
           after (a-limit s next 0 1000)
           (λ weight more.
           after (the-fields (fieldsOf (countsOf T R es gs) kind) more) (λ k end.
           let c : Counted = countedOf T (λ r. users r es) (groupAt gs) k in
-          an-end at (c .lo) (c .hi) (longest (c .lists)) weight k end)))
+          an-end at (ordered k) (c .lo) (c .hi) (longest (c .lists)) weight k end)))
 
       some-constraints : (at : ℕ) → Reads ns (constraintsAt T R es gs s at)
       unfolding constraintsAt
