@@ -1,34 +1,38 @@
--- The fields of each kind as data: which stands after i others, and how many there are.
+-- The fields of each kind as data: which stands after i others, and how many there are. The law `row-right` says that they are the
+-- rows of the table in the definitions.
 use Prim.Native.Nat.{ℕ, zero, suc}
-use mathlib.Core.Bool.{cond}
+use mathlib.Core.Bool.{Bool, false, cond}
 use mathlib.Core.List.{List, [], _∷_}
-use lib.Dec.{eqb}
+use lib.Dec.{eqb, ltb}
 use Rattle.fields.specs.declared.table.Totals.{Totals}
-use Rattle.fields.specs.declared.table.Field.{Field}
+
+-- a reference to one of n things, a list of such references, or a number from lo to hi
+pub data Field : Type 0 where
+  toOne : (n : ℕ) → Field
+  toMany : (n : ℕ) → Field
+  within : (lo hi : ℕ) → Field
+
+-- how many things the first field refers to: events or resources
+unfoldable pub thingsOf : Totals → ℕ → ℕ
+thingsOf n k = cond (ltb 8 k) (n .events) (cond (ltb 5 k) (n .resources) (cond (ltb 2 k) (n .events) (n .resources)))
 
 unfoldable pub firstOf : Totals → ℕ → Field
-firstOf n k =
-    cond (eqb k 3) (Field.Reference (n .events))
-    (cond (eqb k 4) (Field.Reference (n .events))
-    (cond (eqb k 5) (Field.List (n .events))
-    (cond (eqb k 9) (Field.Reference (n .events))
-    (cond (eqb k 10) (Field.Reference (n .events)) (Field.Reference (n .resources))))))
+firstOf n k = cond (eqb k 5) (toMany (n .events)) (toOne (thingsOf n k))
 
 unfoldable pub secondOf : Totals → ℕ → Field
 secondOf n k =
-    cond (eqb k 4) (Field.Number 0 255)
-    (cond (eqb k 7) (Field.List (n .groups))
-    (cond (eqb k 8) (Field.List (n .groups))
-    (cond (eqb k 9) (Field.Number 1 (n .times))
-    (cond (eqb k 10) (Field.Number 1 (n .times)) (Field.Reference (n .groups))))))
+    cond (ltb 8 k) (within 1 (n .times)) (cond (ltb 6 k) (toMany (n .groups)) (cond (eqb k 4) (within 0 255) (toOne (n .groups))))
 
--- every field after the second
-unfoldable pub laterOf : Totals → ℕ → Field
-laterOf n k = cond (eqb k 10) (Field.Number 1 (n .times)) (Field.Number 0 255)
+-- whether the second field is a list
+unfoldable pub secondListed : ℕ → Bool
+secondListed k = cond (ltb 8 k) false (ltb 6 k)
+
+unfoldable pub thirdOf : Totals → ℕ → Field
+thirdOf n k = cond (eqb k 10) (within 1 (n .times)) (within 0 255)
 
 -- the field after i others
 unfoldable pub fieldAt : Totals → ℕ → ℕ → Field
-fieldAt n k i = cond (eqb i 0) (firstOf n k) (cond (eqb i 1) (secondOf n k) (laterOf n k))
+fieldAt n k i = cond (eqb i 0) (firstOf n k) (cond (eqb i 1) (secondOf n k) (cond (eqb i 2) (thirdOf n k) (within 0 255)))
 
 -- how many fields a kind has
 unfoldable pub countOf : ℕ → ℕ
@@ -38,9 +42,3 @@ countOf k = cond (eqb k 1) 1 (cond (eqb k 2) 2 (cond (eqb k 3) 2 (cond (eqb k 4)
 unfoldable pub fieldsFrom : Totals → (k i j : ℕ) → List Field
 fieldsFrom n k i zero = []
 fieldsFrom n k i (suc j) = fieldAt n k i ∷ fieldsFrom n k (suc i) j
-
--- how many things the list of a field refers to
-abbrev pub listLimit : Field → ℕ
-listLimit (Field.Reference n) = 0
-listLimit (Field.List n) = n
-listLimit (Field.Number lo hi) = 0

@@ -1,7 +1,6 @@
 // The fields of a constraint as plain numbers, before its kind is made.
-use crate::table::Field;
 ghost use mathlib.Core.Path.{_≡_};
-ghost use Rattle.fields.specs.Flat.{pushed, putOf};
+ghost use Rattle.fields.specs.Flat.{pushed, putOr};
 
 // The last four numbers that were read, the latest in d, and the length of the list.
 pub struct Flat {
@@ -13,7 +12,7 @@ pub struct Flat {
 }
 
 // With one more number.
-fn push(w: Flat, v: u32) -> Flat
+pub fn push(w: Flat, v: u32) -> Flat
     ensures { λ r. ⌜ r ≡ pushed v w ⌝ }
 {
     Flat {
@@ -25,19 +24,18 @@ fn push(w: Flat, v: u32) -> Flat
     }
 }
 
-// With the number of one more field, or the length of its list.
-pub fn put(w: Flat, f: Field, v: u32) -> Flat
-    ensures { λ r. ⌜ r ≡ putOf f v w ⌝ }
+// With one more number, or with the length of a list.
+pub fn put(w: Flat, listed: bool, v: u32) -> Flat
+    ensures { λ r. ⌜ r ≡ putOr listed v w ⌝ }
 {
-    match f {
-        Field::Reference(_) => push(w, v),
-        Field::List(_) => Flat {
+    if listed {
+        return Flat {
             a: w.a,
             b: w.b,
             c: w.c,
             d: w.d,
             list: v,
-        },
-        Field::Number(_, _) => push(w, v),
+        };
     }
+    push(w, v)
 }

@@ -1,11 +1,15 @@
-// All fields of a constraint: one turn for each.
-use crate::field::field_at;
+// All fields of a constraint, one after another: at most four, so straight code and no loop.
+use crate::field::first_at;
+use crate::field::second_at;
+use crate::field::third_at;
 use crate::flat::Flat;
+use crate::flat::push;
 use crate::flat::put;
 use crate::table::Totals;
 use crate::table::count_of;
-use crate::table::field_of;
+use crate::table::second_listed;
 use number::Number;
+use number::limited;
 use number::refusal_of;
 use scope::Refusal;
 ghost use mathlib.Core.Path.{_≡_};
@@ -13,12 +17,53 @@ ghost use Prim.Native.Nat.{_≤_};
 ghost use lib.ListN.{length};
 ghost use Rattle.scope.specs.Instance.{fieldsRead};
 ghost use Rattle.fields.specs.Answers.{saidFlat};
-ghost use Rattle.fields.specs.Flat.{rowOf};
+ghost use Rattle.fields.specs.Flat.{rowOf, BoundsRead, leftAfter};
 
 // The fields with the offset after them, or a refusal.
 pub enum FlatRead {
     Read(Flat, usize),
     Refused(Refusal),
+}
+
+// The fields after the second: none, one or two numbers.
+fn bounds_at(s: &[u8], at: usize, kind: u32, t: Totals, w: Flat) -> FlatRead
+    ensures { λ r. ⌜ BoundsRead kind t w (now (s .entry)) at r ⌝ }
+{
+    let most = count_of(kind);
+    if most < 3 {
+        return FlatRead::Read(w, at);
+    }
+    let x = third_at(s, at, kind, t);
+    let Number::Value(v, after) = x else {
+        return FlatRead::Refused(refusal_of(x));
+    };
+    let third = push(w, v);
+    if most < 4 {
+        return FlatRead::Read(third, after);
+    }
+    let y = limited(s, after, 0, 255);
+    let Number::Value(u, next) = y else {
+        return FlatRead::Refused(refusal_of(y));
+    };
+    let fourth = push(third, u);
+    FlatRead::Read(fourth, next)
+}
+
+// The fields after the first.
+fn more_at(s: &[u8], at: usize, kind: u32, t: Totals, w: Flat, list: &mut [u16]) -> FlatRead
+    requires { ⌜ length (now list) ≡ 2048 ⌝ }
+    requires { ⌜ t .groups ≤ 2048 ⌝ }
+    ensures { λ r. ⌜ saidFlat kind (now (list .exit)) r ≡ leftAfter 1 t kind w (now (list .entry)) (now (s .entry)) at ⌝ }
+{
+    if count_of(kind) < 2 {
+        return FlatRead::Read(w, at);
+    }
+    let x = second_at(s, at, kind, t, list);
+    let Number::Value(v, next) = x else {
+        return FlatRead::Refused(refusal_of(x));
+    };
+    let two = put(w, second_listed(kind), v);
+    bounds_at(s, next, kind, t, two)
 }
 
 // The fields of a kind from 1 to 10. The list stands in the store.
@@ -28,25 +73,17 @@ pub fn fields_at(s: &[u8], at: usize, kind: u32, t: Totals, list: &mut [u16]) ->
     requires { ⌜ t .groups ≤ 2048 ⌝ }
     ensures { λ r. ⌜ saidFlat kind (now (list .exit)) r ≡ fieldsRead (rowOf t kind) (now (s .entry)) at ⌝ }
 {
-    let most = count_of(kind);
-    let mut w = Flat {
+    let x = first_at(s, at, kind, t, list);
+    let Number::Value(v, next) = x else {
+        return FlatRead::Refused(refusal_of(x));
+    };
+    let none = Flat {
         a: 0,
         b: 0,
         c: 0,
         d: 0,
         list: 0,
     };
-    let mut next = at;
-    let mut i: u32 = 0;
-    while i < most {
-        let f = field_of(kind, i, t);
-        let z = field_at(s, next, f, list);
-        let Number::Value(v, after) = z else {
-            return FlatRead::Refused(refusal_of(z));
-        };
-        w = put(w, f, v);
-        next = after;
-        i = i + 1;
-    }
-    FlatRead::Read(w, next)
+    let one = put(none, kind == 5, v);
+    more_at(s, next, kind, t, one, list)
 }

@@ -1,7 +1,6 @@
-// Which fields each kind has, in their order: data, so one table in one place for all kinds. The law `row-right` says that
-// they are the rows of the table in the definitions.
+// How many things there are to refer to, and how many fields each kind has.
 ghost use mathlib.Core.Path.{_≡_};
-ghost use Rattle.fields.specs.Table.{firstOf, secondOf, laterOf, fieldAt, countOf};
+ghost use Rattle.fields.specs.Table.{countOf, thingsOf, secondListed};
 
 // How many things there are to refer to.
 pub struct Totals {
@@ -11,58 +10,30 @@ pub struct Totals {
     pub groups: u32,
 }
 
-// A reference to one of so many things, a list of such references, or a number from lo to hi.
-pub enum Field {
-    Reference(u32),
-    List(u32),
-    Number(u32, u32),
+// The things that the first field refers to: events in kinds 3 to 5, 9 and 10, else resources.
+pub fn things_of(kind: u32, t: Totals) -> u32
+    ensures { λ r. ⌜ r ≡ thingsOf t kind ⌝ }
+{
+    if 8 < kind {
+        return t.events;
+    }
+    if 5 < kind {
+        return t.resources;
+    }
+    if 2 < kind {
+        return t.events;
+    }
+    t.resources
 }
 
-fn first(kind: u32, t: Totals) -> Field
-    ensures { λ r. ⌜ r ≡ firstOf t kind ⌝ }
+// Whether the second field is a list: kinds 7 and 8.
+pub fn second_listed(kind: u32) -> bool
+    ensures { λ r. ⌜ r ≡ secondListed kind ⌝ }
 {
-    match kind {
-        3 => Field::Reference(t.events),
-        4 => Field::Reference(t.events),
-        5 => Field::List(t.events),
-        9 => Field::Reference(t.events),
-        10 => Field::Reference(t.events),
-        _ => Field::Reference(t.resources),
+    if 8 < kind {
+        return false;
     }
-}
-
-fn second(kind: u32, t: Totals) -> Field
-    ensures { λ r. ⌜ r ≡ secondOf t kind ⌝ }
-{
-    match kind {
-        4 => Field::Number(0, 255),
-        7 => Field::List(t.groups),
-        8 => Field::List(t.groups),
-        9 => Field::Number(1, t.times),
-        10 => Field::Number(1, t.times),
-        _ => Field::Reference(t.groups),
-    }
-}
-
-// Every field after the second: kind 10's longest, else a bound.
-fn later(kind: u32, t: Totals) -> Field
-    ensures { λ r. ⌜ r ≡ laterOf t kind ⌝ }
-{
-    match kind {
-        10 => Field::Number(1, t.times),
-        _ => Field::Number(0, 255),
-    }
-}
-
-// The field after i others.
-pub fn field_of(kind: u32, i: u32, t: Totals) -> Field
-    ensures { λ r. ⌜ r ≡ fieldAt t kind i ⌝ }
-{
-    match i {
-        0 => first(kind, t),
-        1 => second(kind, t),
-        _ => later(kind, t),
-    }
+    6 < kind
 }
 
 // How many fields a kind has.
