@@ -19,7 +19,7 @@ use Rattle.sink.specs.Lines.{Line}
 use Rattle.sink.specs.World.{World}
 use Rattle.counters.specs.Rows.{gates-map}
 use Rattle.user_table.specs.Filled.{usersAt}
-use Rattle.literals.specs.Tables.{groupIn}
+use Rattle.literals.specs.Tables.{groupIn, durationIn}
 use Rattle.literals.specs.Proper.{Proper}
 use Rattle.literals.specs.NodeWords.{IsNode}
 use Rattle.literals.specs.Numbered.{Numbered, noList, numberOf, numbered, numberedItems, allNumbered}
@@ -37,22 +37,22 @@ use Rattle.list_clauses.specs.Filled as nodes
 use Rattle.list_clauses.proofs.laws.Filled as nodesLaws
 use Rattle.clauses.specs.Fits.{listsIn}
 
-module _ (users groups : List ℕ) (h : Head) (k : Kind) where
+module _ (d users groups : List ℕ) (h : Head) (k : Kind) where
   -- what the constraint counts, and its lists after t of them
   abbrev counts : Counted
-  counts = countedIn (usersAt users) groups h k
+  counts = countedIn d (usersAt users) groups h k
 
   abbrev pub listsLeft : ℕ → List Numbered
-  listsLeft t = drop t (listsIn users groups h k)
+  listsLeft t = drop t (listsIn d users groups h k)
 
   abbrev listNow : ℕ → Listed
-  listNow t = listIn (usersAt users) groups h k (t + 1)
+  listNow t = listIn d (usersAt users) groups h k (t + 1)
 
   pub none-left : (t : ℕ) → length (counts .lists) ≤ t → listsLeft t ≡ []
   unfolding numbered
   none-left t g =
-      let few : length (listsIn users groups h k) ≤ t = rw (length-map (counts .lists) (numberOf (numOf h) counts)) g in
-      drop-of-length-le (listsIn users groups h k) few
+      let few : length (listsIn d users groups h k) ≤ t = rw (length-map (counts .lists) (numberOf (numOf h) counts)) g in
+      drop-of-length-le (listsIn d users groups h k) few
 
   module _ (t : ℕ) (g : t < length (counts .lists)) where
     list-next : listsLeft t ≡ numberOf (numOf h) counts (listNow t) ∷ listsLeft (t + 1)
@@ -65,7 +65,7 @@ module _ (users groups : List ℕ) (h : Head) (k : Kind) where
 
     -- its bounds, its items, and that they can be written
     module _ (w v : ℕ) (b : Bounds) (eb : b ≡ record { lo = lowOf k; hi = highOf k; free = freeOf k })
-        (list : List ℕ) (fits : Fits users groups list h k) (room : Room v (allNumbered w (listsLeft t) v)) where
+        (list : List ℕ) (fits : Fits d users groups list h k) (room : Room v (allNumbered w (listsLeft t) v)) where
       gs : List Gate
       gs = map (nodeGate (numOf h) v) (listNow t .nodes)
 
@@ -73,7 +73,7 @@ module _ (users groups : List ℕ) (h : Head) (k : Kind) where
       ms = map (refLiteral (numOf h) v) (listNow t .members)
 
       bounds-same : boundsOf (numberOf (numOf h) counts (listNow t)) ≡ b
-      bounds-same = let r = bounds-right (h .times) (usersAt users) (groupIn (h .groups) groups) k in rw (r .lo, r .hi, r .free) (sym eb)
+      bounds-same = let r = bounds-right (h .times) (durationIn (h .events) d) (usersAt users) (groupIn (h .groups) groups) k in rw (r .lo, r .hi, r .free) (sym eb)
 
       items-same : numberedItems w (numberOf (numOf h) counts (listNow t)) v ≡ map gate gs ++ counted w b ms (v + length gs)
       unfolding gs ms
@@ -85,7 +85,7 @@ module _ (users groups : List ℕ) (h : Head) (k : Kind) where
       list-short : Short counts (listNow t)
       list-short = let e : t + 1 - 1 ≡ t = omega arith in rw e (each-at t noList (fits .short) g)
 
-      pub list-fillable : {words : List ℕ} → length words ≡ 34816 → Fillable users groups list h k (t + 1) v words
+      pub list-fillable : {words : List ℕ} → length words ≡ 34816 → Fillable d users groups list h k (t + 1) v words
       unfolding gs
       list-fillable l =
           record {
@@ -106,7 +106,7 @@ module _ (users groups : List ℕ) (h : Head) (k : Kind) where
       -- after it was filled into a store
       module _ (before : List ℕ) (l : length before ≡ 34816) {words : List ℕ} {r : Filled} (s : Stored (numOf h) (listNow t) v words r) where
         over : OverLiterals (numOf h) (listNow t) v
-        over = list-literals users groups list h (t + 1) v before (room .some) k (list-fillable l)
+        over = list-literals d users groups list h (t + 1) v before (room .some) k (list-fillable l)
 
         in-store : InStore v gs ms words (r .nodes) (r .at) (r .end)
         unfolding gs ms

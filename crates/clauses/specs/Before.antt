@@ -105,7 +105,7 @@ module _ (T : ℕ) (users : ℕ → List ℕ) (E R : ℕ) (ds : List ℕ) where
     abbrev pub firstVariable : ℕ
     firstVariable = L .primary + 1 + gates blockItems
 
-    pub formula-parts : numberedFormula T users group E R ds cs ≡ blockItems ++ constraintItems T L users group cs firstVariable
+    pub formula-parts : numberedFormula T users group E R ds cs ≡ blockItems ++ constraintItems T L ds users group cs firstVariable
     unfolding numberedFormula listItems blockItems
     formula-parts =
         let e : L .others + 1 + gates durationItems ≡ firstVariable = omega (arith, block-gates) in

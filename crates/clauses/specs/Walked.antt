@@ -2,7 +2,7 @@
 use mathlib.Core.Path.{_≡_}
 use mathlib.Core.List.{List}
 use Prim.Native.Nat.{ℕ}
-use lib.ListN.{length}
+use lib.ListN.{length, take}
 use Rattle.scope.specs.Kinds.{Constraint}
 use Rattle.scope.specs.Cnf.{Item}
 use Rattle.constraint.specs.declared.kinds.Head.{Head}
@@ -16,15 +16,15 @@ use Rattle.list_nodes.specs.Ground.{layoutOf}
 use Rattle.items.specs.Written.{Room}
 
 -- the items of some constraints, from the variable v on
-abbrev pub itemsOf : (users groups : List ℕ) → Head → List Constraint → ℕ → List Item
-itemsOf us tg h cs v = constraintItems (h .times) (layoutOf h) (usersAt us) (groupIn (h .groups) tg) cs v
+abbrev pub itemsOf : (durations users groups : List ℕ) → Head → List Constraint → ℕ → List Item
+itemsOf d us tg h cs v = constraintItems (h .times) (layoutOf h) (take (h .events) d) (usersAt us) (groupIn (h .groups) tg) cs v
 
 -- what the walk is lent: a file that was accepted with its tables, the table of users, and room for its constraints' variables from v on
-pub record Walkable (s us tg list : List ℕ) (h : Head) (v : ℕ) : Type 0 where
-  pub durations : List ℕ
+pub record Walkable (s d us tg list : List ℕ) (h : Head) (v : ℕ) : Type 0 where
   pub resources : List ℕ
-  pub accepted : Accepted s durations resources tg h
+  pub accepted : Accepted s d resources tg h
   pub filled : Filled us (usersIn resources (h .events))
+  pub durations-long : length d ≡ 1024
   pub groups-long : length tg ≡ 129024
   pub list-long : length list ≡ 2048
-  pub room : Room v (itemsOf us tg h (constraintsIn h s) v)
+  pub room : Room v (itemsOf d us tg h (constraintsIn h s) v)

@@ -43,6 +43,7 @@ pub fn write_formula(
         z,
         file,
         head,
+        durations,
         &users,
         groups,
         list,

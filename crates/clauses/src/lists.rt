@@ -23,16 +23,17 @@ pub fn write_lists(
     s: Sink,
     c: Constraint,
     head: Head,
+    durations: &[u8],
     users: &[u16],
     groups: &[u8],
     list: &[u16],
     v: u32,
     store: &mut [u32],
 ) -> Written
-    requires { ⌜ Fits (now users) (now groups) (now list) head (kindOf (now list) (c .kind))
-        × Room v (constraintPart (now users) (now groups) head (kindOf (now list) (c .kind)) (c .weight) v) × (length (now store) ≡ 34816) ⌝ }
+    requires { ⌜ Fits (now durations) (now users) (now groups) (now list) head (kindOf (now list) (c .kind))
+        × Room v (constraintPart (now durations) (now users) (now groups) head (kindOf (now list) (c .kind)) (c .weight) v) × (length (now store) ≡ 34816) ⌝ }
     ensures { λ r. ⌜ Wrote (step job (now (model .entry))) v
-        (constraintPart (now (users .entry)) (now (groups .entry)) head (kindOf (now (list .entry)) (c .kind)) (c .weight) v)
+        (constraintPart (now (durations .entry)) (now (users .entry)) (now (groups .entry)) head (kindOf (now (list .entry)) (c .kind)) (c .weight) v)
         (world s (now (text .entry)) (now (words .entry))) (world (r .sink) (now (text .exit)) (now (words .exit))) (r .next) ⌝ }
 {
     let kind = c.kind;
@@ -41,7 +42,17 @@ pub fn write_lists(
     let mut sink = s;
     let mut next = v;
     for t in 0..n {
-        let f = fill(kind, t + 1, head, users, groups, list, next, store);
+        let f = fill(
+            kind,
+            t + 1,
+            head,
+            durations,
+            users,
+            groups,
+            list,
+            next,
+            store,
+        );
         let w = write_list(
             job,
             model,

@@ -23,17 +23,18 @@ pub fn write_constraint(
     s: Sink,
     c: Constraint,
     head: Head,
+    durations: &[u8],
     users: &[u16],
     groups: &[u8],
     list: &[u16],
     v: u32,
     store: &mut [u32],
 ) -> Written
-    requires { ⌜ Fits (now users) (now groups) (now list) head (kindOf (now list) (c .kind))
-        × Room v (constraintPart (now users) (now groups) head (kindOf (now list) (c .kind)) (c .weight) v) ⌝ }
+    requires { ⌜ Fits (now durations) (now users) (now groups) (now list) head (kindOf (now list) (c .kind))
+        × Room v (constraintPart (now durations) (now users) (now groups) head (kindOf (now list) (c .kind)) (c .weight) v) ⌝ }
     requires { ⌜ (s .at ≤ 9223372036854775807) × (length (now store) ≡ 34816) ⌝ }
     ensures { λ r. ⌜ Wrote (step job (now (model .entry))) v
-        (constraintPart (now (users .entry)) (now (groups .entry)) head (kindOf (now (list .entry)) (c .kind)) (c .weight) v)
+        (constraintPart (now (durations .entry)) (now (users .entry)) (now (groups .entry)) head (kindOf (now (list .entry)) (c .kind)) (c .weight) v)
         (world s (now (text .entry)) (now (words .entry))) (world (r .sink) (now (text .exit)) (now (words .exit))) (r .next) ⌝ }
     ensures { λ r. ⌜ Before (partBase (job .mode) (s .at)) (now (text .entry)) (now (text .exit))
         × Before (partBase (job .mode) (s .at)) (now (words .entry)) (now (words .exit)) ⌝ }
@@ -50,6 +51,7 @@ pub fn write_constraint(
         z,
         c,
         head,
+        durations,
         users,
         groups,
         list,

@@ -21,14 +21,15 @@ pub fn write_constraints(
     s: Sink,
     file: &[u8],
     head: Head,
+    durations: &[u8],
     users: &[u16],
     groups: &[u8],
     list: &mut [u16],
     first: u32,
 ) -> Sink
-    requires { ⌜ Walkable (now file) (now users) (now groups) (now list) head first × (s .at ≤ 9223372036854775807) ⌝ }
+    requires { ⌜ Walkable (now file) (now durations) (now users) (now groups) (now list) head first × (s .at ≤ 9223372036854775807) ⌝ }
     ensures { λ r. ⌜ Ran (step job (now (model .entry)))
-        (lines first (itemsOf (now (users .entry)) (now (groups .entry)) head (constraintsIn head (now (file .entry))) first))
+        (lines first (itemsOf (now (durations .entry)) (now (users .entry)) (now (groups .entry)) head (constraintsIn head (now (file .entry))) first))
         (world s (now (text .entry)) (now (words .entry))) (world r (now (text .exit)) (now (words .exit))) ⌝ }
 {
     let mut store = [0u32; 34816];
@@ -49,6 +50,7 @@ pub fn write_constraints(
             z,
             c,
             head,
+            durations,
             users,
             groups,
             list,

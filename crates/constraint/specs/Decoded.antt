@@ -3,7 +3,7 @@ use Prim.Native.Nat.{ℕ}
 use mathlib.Core.List.{List}
 use Rattle.scope.specs.Parsed.{Parsed, got, andThen}
 use Rattle.scope.specs.Number.{limited}
-use Rattle.scope.specs.Kinds.{Kind, Constraint, Event, users, groupAt, countedOf, longest}
+use Rattle.scope.specs.Kinds.{Kind, Constraint, Event, durationOf, users, groupAt, countedOf, longest}
 use Rattle.scope.specs.Instance.{Counts, fieldsRead, fieldsOf, ordered, ended}
 use Rattle.constraint.specs.Bounds.{lowOf, highOf}
 
@@ -24,4 +24,4 @@ checkedAt n len s at = andThen (decodedAt n s at) (endedBy len at)
 
 -- how long the longest counted list of a kind is, in an instance
 abbrev pub longestOf : ℕ → List Event → List (List ℕ) → Kind → ℕ
-longestOf T es gs k = longest (countedOf T (λ r. users r es) (groupAt gs) k .lists)
+longestOf T es gs k = longest (countedOf T (durationOf es) (λ r. users r es) (groupAt gs) k .lists)

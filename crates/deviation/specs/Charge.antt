@@ -5,7 +5,7 @@ use mathlib.Core.Bool.{cond, _||_}
 use mathlib.Core.List.{List}
 use lib.ListN.{length, getD}
 use lib.Dec.{eqb, ltb}
-use Rattle.scope.specs.Kinds.{Kind, clash, unavailable, preferred, split, spread, busy, cluster, idle, distribute, lengths, upTo, outside}
+use Rattle.scope.specs.Kinds.{Kind, clash, unavailable, preferred, split, spread, busy, cluster, idle, distribute, lengths, upTo}
 use Rattle.scope.specs.Instance.{Counts}
 use Rattle.scope.specs.Score.{trues, any, deviation}
 use Rattle.parsing.specs.Numbers.{Ascending}
@@ -14,6 +14,7 @@ use Rattle.timetable.specs.Bits.{marks}
 use Rattle.deviation.specs.Idle.{idles}
 use Rattle.deviation.specs.Sums.{total}
 use Rattle.deviation.specs.Subevents.{subeventsAt}
+use Rattle.deviation.specs.Held.{timesHeldAt, outsideOf}
 
 -- the charge of each kind, where T is the number of times and c the number of cells
 unfoldable pub clashCharge : ℕ → List ℕ → ℕ → ℕ
@@ -22,8 +23,8 @@ clashCharge T u r = total (λ t. getD u ((r - 1) * T + (t - 1)) 0 - 1) (upTo T)
 unfoldable pub unavailableCharge : ℕ → List ℕ → List ℕ → ℕ → ℕ → ℕ
 unavailableCharge T x gs r g = trues (marks x ((r - 1) * T) (rowAt gs (g - 1)))
 
-unfoldable pub preferredCharge : ℕ → List ℕ → List ℕ → ℕ → ℕ → ℕ
-preferredCharge T b gs e g = trues (marks b ((e - 1) * T) (outside (rowAt gs (g - 1)) (upTo T)))
+unfoldable pub preferredCharge : ℕ → ℕ → List ℕ → List ℕ → (e g : ℕ) → ℕ
+preferredCharge c T b gs e g = timesHeldAt T b ((e - 1) * T) (c + (e - 1) * T) (outsideOf (rowAt gs (g - 1)))
 
 unfoldable pub splitCharge : ℕ → ℕ → List ℕ → ℕ → ℕ → ℕ → ℕ
 splitCharge c T b e lo hi = deviation lo hi (trues (marks b (c + (e - 1) * T) (upTo T)))
@@ -51,7 +52,7 @@ lengthsCharge c T b e shortest longest = subeventsAt T b ((e - 1) * T) (c + (e -
 abbrev pub chargeOf : ℕ → ℕ → List ℕ → List ℕ → List ℕ → List ℕ → Kind → ℕ
 chargeOf c T b u x gs (clash r) = clashCharge T u r
 chargeOf c T b u x gs (unavailable r g) = unavailableCharge T x gs r g
-chargeOf c T b u x gs (preferred e g) = preferredCharge T b gs e g
+chargeOf c T b u x gs (preferred e g) = preferredCharge c T b gs e g
 chargeOf c T b u x gs (split e lo hi) = splitCharge c T b e lo hi
 chargeOf c T b u x gs (spread vs g lo hi) = spreadCharge c T b gs vs g lo hi
 chargeOf c T b u x gs (busy r g lo hi) = busyCharge T x gs r g lo hi

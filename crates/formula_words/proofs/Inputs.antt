@@ -5,7 +5,7 @@ use Prim.Native.Nat.{ℕ, _+_, _-_, _*_, _≤_, min}
 use native.Mathlib.Omega.{arith}
 use lib.ListN.{length, length-append, length-map}
 use Rattle.laws.specs.Lists.{All, All-append}
-use Rattle.scope.specs.Kinds.{Kind, clash, unavailable, preferred, split, spread, busy, cluster, idle, distribute, lengths, Atom, X, Y, S, Ref, is, anAtom, aNode, atoms, Node, someOf, Entry, atom, anyOf, gap, entryNodes, added, entriesNodes, Listed, entries, Counted, from, upTo, usesAt, startsAt, outside, gapsAfter, gaps, goesOn, goingOn, onAt, notOnAt, span, startOf, startAbove, startOutside, timeByTime, ofLength, ofLengthOutside, countedOf}
+use Rattle.scope.specs.Kinds.{Kind, clash, unavailable, preferred, split, spread, busy, cluster, idle, distribute, lengths, Atom, X, Y, S, Ref, is, anAtom, aNode, atoms, Node, someOf, Entry, atom, anyOf, gap, entryNodes, added, entriesNodes, Listed, entries, Counted, from, upTo, usesAt, startsAt, gapsAfter, gaps, Reach, started, carried, both, reached, reachRef, reachNodes, reachAdded, reachesNodes, fromOutside, goesOn, goingOn, onAt, notOnAt, span, startOf, startAbove, startOutside, timeByTime, ofLength, ofLengthOutside, countedOf}
 use Rattle.theory.proofs.laws.Ranges.{length-from}
 use Rattle.theory.proofs.laws.TimeByTime.{outside-either}
 use Rattle.measuring.specs.NodeSizes.{inputs, allInputs}
@@ -72,6 +72,23 @@ unfolding gaps
 all-gaps [] h = tt
 all-gaps (x ∷ xs) h = gaps-brief (x ∷ []) xs (omega arith)
 
+-- two inputs for each node of kind 3
+reach-narrow : (e : ℕ) (x : Reach) (k : ℕ) (p : Ref) → All Narrow (reachNodes e x k p)
+reach-narrow e (started t) k p = tt
+reach-narrow e (carried t) k p = (omega arith, (omega arith, tt))
+reach-narrow e (both t) k p = (omega arith, (omega arith, (omega arith, tt)))
+
+reaches-narrow : (e : ℕ) (xs : List Reach) (k : ℕ) (p : Ref) → All Narrow (reachesNodes e xs k p)
+unfolding reachesNodes
+reaches-narrow e [] k p = tt
+reaches-narrow e (x ∷ xs) k p =
+    All-append Narrow (reachNodes e x k p) (reachesNodes e xs (k + reachAdded x) (reachRef e x k)) (reach-narrow e x k p)
+    (reaches-narrow e xs (k + reachAdded x) (reachRef e x k))
+
+reach-modest : (T e d : ℕ) (g : List ℕ) → Modest (fromOutside T e d g)
+unfolding fromOutside
+reach-modest T e d g = modest (fromOutside T e d g) (reaches-narrow e (reached d g 0 (upTo T)) 0 (is (aNode 0)))
+
 -- what a kind counts, where no group has more than 125 members
 pub record Few (c : Counted) : Type 0 where
   pub lists : length (c .lists) ≤ 125
@@ -114,11 +131,11 @@ module _ (T : ℕ) (h : T ≤ 125) where
       let q : List Ref = is (aNode (T + 3 * (t - 1))) ∷ [] in
       (omega (arith, span-few onAt (t + a) (t + b)), (omega (arith, length-append off q, span-few notOnAt (t + 1) (t + a - 1)), (omega arith, tt)))))
 
-  module _ (us group : ℕ → List ℕ) (short : (g : ℕ) → length (group g) ≤ 125) where
+  module _ (dur : ℕ → ℕ) (us group : ℕ → List ℕ) (short : (g : ℕ) → length (group g) ≤ 125) where
     uses-short : (r g : ℕ) → length (usesAt r (group g)) ≤ 125
     uses-short r g = omega (arith, length-map (group g) (λ t. X r t), short g)
 
-    pub kind-few : (k : Kind) → Few (countedOf T us group k)
+    pub kind-few : (k : Kind) → Few (countedOf T dur us group k)
     unfolding countedOf
     kind-few (clash r) =
         record {
@@ -128,8 +145,7 @@ module _ (T : ℕ) (h : T ≤ 125) where
               (λ t. brief _ (all-map Brief (λ e. atom (Y e t)) (λ e. tt) (us r))) (upTo T);
         }
     kind-few (unavailable r g) = record { lists = omega arith; inputs = (brief _ (all-map Brief atom (λ a. tt) (usesAt r (group g))), tt) }
-    kind-few (preferred e g) =
-        record { lists = omega arith; inputs = (brief _ (all-map Brief (λ t. atom (Y e t)) (λ t. tt) (outside (group g) (upTo T))), tt) }
+    kind-few (preferred e g) = record { lists = omega arith; inputs = (reach-modest T e (dur e) (group g), tt) }
     kind-few (split e lo hi) = record { lists = omega arith; inputs = (brief _ (all-map Brief (λ t. atom (S e t)) (λ t. tt) (upTo T)), tt) }
     kind-few (spread vs g lo hi) =
         record {

@@ -8,7 +8,7 @@ use lib.Dec.{ltb}
 use lib.ListN.{length, getD, length-map, List·getD-eq-default}
 use borrow.Author.Tests.{ltb-true, ltb-false}
 use Rattle.laws.specs.Lists.{All, All-at}
-use Rattle.scope.specs.Kinds.{Event, Constraint, Listed, Counted, Rule, rule, member, from, upTo, users, usersFrom, groupAt, countedOf}
+use Rattle.scope.specs.Kinds.{Event, Constraint, Listed, Counted, Rule, rule, member, from, upTo, durationOf, users, usersFrom, groupAt, countedOf}
 use Rattle.scope.specs.Instance.{Instance}
 use Rattle.scope.specs.Score.{eventCount, rules}
 use Rattle.scope.specs.Formula.{words, variables, hardOf, boundedVariables, boundedHard}
@@ -80,8 +80,8 @@ module _ (i : Instance) (v : ValidInstance i) where
 
   constraint-lean : (c : Constraint) → Lean 250 (constraintSize i c)
   constraint-lean c =
-      let few = kind-few (i .times) (v .times .high) (λ r. users r (i .events)) (groupAt (i .groups)) group-short (c .kind) in
-      let counted = countedOf (i .times) (λ r. users r (i .events)) (groupAt (i .groups)) (c .kind) in
+      let few = kind-few (i .times) (v .times .high) (durationOf (i .events)) (λ r. users r (i .events)) (groupAt (i .groups)) group-short (c .kind) in
+      let counted = countedOf (i .times) (durationOf (i .events)) (λ r. users r (i .events)) (groupAt (i .groups)) (c .kind) in
       lean-more (omega (arith, few .lists)) (rules-lean (c .weight) counted (counted .lists) (few .inputs))
 
   constraints-lean : (cs : List Constraint) → Lean (250 * length cs) (constraintsSize i cs)

@@ -3,4 +3,6 @@ pub mod Fillable
 pub mod LengthLiterals
 pub mod ListsOf
 pub mod Literals
+pub mod OverLiterals
 pub mod Proper
+pub mod ReachLiterals

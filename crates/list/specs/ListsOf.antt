@@ -8,4 +8,4 @@ use Rattle.constraint.specs.declared.kinds.Kind.{Kind}
 use Rattle.constraint.specs.Answers.{kindOf}
 
 pub record ListsOf (k : Kind) (T n : ℕ) : Type 0 where
-  pub eq : (us group : ℕ → List ℕ) (l : List ℕ) → n ≡ length (countedOf T us group (kindOf l k) .lists)
+  pub eq : (dur : ℕ → ℕ) (us group : ℕ → List ℕ) (l : List ℕ) → n ≡ length (countedOf T dur us group (kindOf l k) .lists)

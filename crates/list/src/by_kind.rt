@@ -1,4 +1,5 @@
 // A constraint's list, by its kind.
+use chain_lists::fill_preferred;
 use constraint::Head;
 use constraint::Kind;
 use list_nodes::Filled;
@@ -8,7 +9,6 @@ use node_lists::fill_idle;
 use node_lists::fill_lengths;
 use plain_lists::fill_busy;
 use plain_lists::fill_clash;
-use plain_lists::fill_preferred;
 use plain_lists::fill_split;
 use plain_lists::fill_spread;
 use plain_lists::fill_unavailable;
@@ -23,19 +23,20 @@ pub fn fill(
     kind: Kind,
     t: u32,
     head: Head,
+    durations: &[u8],
     users: &[u16],
     groups: &[u8],
     list: &[u16],
     v: u32,
     out: &mut [u32],
 ) -> Filled
-    requires { ⌜ Fillable (now users) (now groups) (now list) head (kindOf (now list) kind) t v (now out) ⌝ }
-    ensures { λ r. ⌜ Stored (numOf head) (listIn (usersAt (now (users .entry))) (now (groups .entry)) head (kindOf (now (list .entry)) kind) t) v (now (out .exit)) r ⌝ }
+    requires { ⌜ Fillable (now durations) (now users) (now groups) (now list) head (kindOf (now list) kind) t v (now out) ⌝ }
+    ensures { λ r. ⌜ Stored (numOf head) (listIn (now (durations .entry)) (usersAt (now (users .entry))) (now (groups .entry)) head (kindOf (now (list .entry)) kind) t) v (now (out .exit)) r ⌝ }
 {
     match kind {
         Kind::Clash(f) => fill_clash(f, t, head, users, out),
         Kind::Unavailable(f) => fill_unavailable(f, head, groups, out),
-        Kind::Preferred(f) => fill_preferred(f, head, groups, out),
+        Kind::Preferred(f) => fill_preferred(f, head, durations, groups, v, out),
         Kind::Split(f) => fill_split(f, head, out),
         Kind::Spread(f) => fill_spread(f, head, groups, list, out),
         Kind::Busy(f) => fill_busy(f, head, groups, out),

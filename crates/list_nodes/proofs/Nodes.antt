@@ -61,6 +61,17 @@ idling-stored out at x v l =
     let r : opp (pos (v + 1)) ≡ 2 * (v + 1) + 1 = omega arith in
     holds-as (rw (and-words (opp x ∷ pos v ∷ pos (v + 1) ∷ []) (v + 2), p, q, r) (simp append-assoc)) e
 
+-- an OR of two variables
+pub either-stored : (out : List ℕ) (at x y o : ℕ) → at + 4 ≤ length out
+    → Holds (set (set (set (set out at 2) (at + 1) (2 * x)) (at + 2) (2 * y)) (at + 3) (2 * o + 1 + 2147483648)) (at + 4)
+    (take at out ++ nodeWords (or (pos x ∷ pos y ∷ [])) o)
+either-stored out at x y o l =
+    let a = holds-put (holds-kept out at (omega arith)) at 2 (at + 1) refl (omega arith) refl in
+    let b = holds-put a (at + 1) (2 * x) (at + 2) refl (simp length-set (omega arith)) (omega arith) in
+    let c = holds-put b (at + 2) (2 * y) (at + 3) refl (simp length-set (omega arith)) (omega arith) in
+    let d = holds-put c (at + 3) (2 * o + 1 + 2147483648) (at + 4) refl (simp length-set (omega arith)) (omega arith) in
+    holds-as (rw (or-words (pos x ∷ pos y ∷ []) o) (simp append-assoc)) d
+
 -- the words of a row from one place up to another: those up to place k, and one more
 pub copied-none : (row : List ℕ) (from : ℕ) (out : List ℕ) (at : ℕ) → at ≤ length out → from ≤ length row → Holds out at (take at out ++ drop from (take from row))
 copied-none row from out at h l =

@@ -11,7 +11,7 @@ use Rattle.constraint.specs.Answers.{countsIn}
 use Rattle.constraint.specs.Valid.{InRange}
 use Rattle.literals.specs.Words.{Holds}
 use Rattle.user_table.specs.Filled.{usersAt, UserRows}
-use Rattle.literals.specs.Tables.{groupIn}
+use Rattle.literals.specs.Tables.{durationIn, groupIn}
 use Rattle.literals.specs.Numbered.{noList, numAt}
 use Rattle.literals.specs.NodeWords.{nodesWords}
 use Rattle.list_nodes.specs.declared.filled.Filled.{Filled}
@@ -21,17 +21,17 @@ use Rattle.list_nodes.specs.Ground.{Ground, layoutOf}
 abbrev pub listAt : List Listed → ℕ → Listed
 listAt ls t = getD ls (t - 1) noList
 
--- what a constraint counts, by the users of the resources and the rows of the groups
-abbrev pub countedIn : (us : ℕ → List ℕ) (groups : List ℕ) → Head → Kind → Counted
-countedIn us groups h k = countedOf (h .times) us (groupIn (h .groups) groups) k
+-- what a constraint counts, by the table of durations, the users of the resources and the rows of the groups
+abbrev pub countedIn : (durations : List ℕ) (us : ℕ → List ℕ) (groups : List ℕ) → Head → Kind → Counted
+countedIn d us groups h k = countedOf (h .times) (durationIn (h .events) d) us (groupIn (h .groups) groups) k
 
 -- list number t of it
-abbrev pub listIn : (us : ℕ → List ℕ) (groups : List ℕ) → Head → Kind → ℕ → Listed
-listIn us groups h k t = listAt (countedIn us groups h k .lists) t
+abbrev pub listIn : (durations : List ℕ) (us : ℕ → List ℕ) (groups : List ℕ) → Head → Kind → ℕ → Listed
+listIn d us groups h k t = listAt (countedIn d us groups h k .lists) t
 
--- the only list of a kind that goes by no users
+-- the only list of a kind that goes by no durations and no users
 abbrev pub onlyIn : (groups : List ℕ) → Head → Kind → Listed
-onlyIn groups h k = listIn (λ r. []) groups h k 1
+onlyIn groups h k = listIn [] (λ r. []) groups h k 1
 
 -- the literal of an atom
 abbrev pub numOf : Head → Atom → ℕ
@@ -53,10 +53,11 @@ pub record Short (c : Counted) (l : Listed) : Type 0 where
   pub reached : c .lo ≤ length (l .members)
 
 -- a constraint's fields refer to what there is, its list stands in the store, and its counted lists are short
-pub record Fits (users groups list : List ℕ) (h : Head) (k : Kind) : Type 0 where
+pub record Fits (durations users groups list : List ℕ) (h : Head) (k : Kind) : Type 0 where
   pub ground : Ground groups h
+  pub lasts : length durations ≡ 1024
   pub store : length list ≡ 2048
   pub range : InRange (countsIn h) k
   pub rows : UserRows users
   pub resources : h .resources ≤ 99
-  pub short : Each (Short (countedIn (usersAt users) groups h k)) (countedIn (usersAt users) groups h k .lists)
+  pub short : Each (Short (countedIn durations (usersAt users) groups h k)) (countedIn durations (usersAt users) groups h k .lists)

@@ -5,9 +5,11 @@ mod run;
 
 pub use filled::Filled;
 pub use filled::plain;
+pub use node::store_either;
 pub use node::store_group;
 pub use node::store_idling;
 pub use node::store_or;
+pub use node::store_words;
 pub use run::store_all;
 pub use run::store_none;
 pub use run::store_until;

@@ -25,7 +25,7 @@ pub fn store_group(groups: &[u8], g: u32, base: u32, o: u32, at: usize, out: &mu
 }
 
 // The words of a row from one place up to another.
-fn copy(row: &[u32], from: usize, to: usize, at: usize, out: &mut [u32]) -> usize
+pub fn store_words(row: &[u32], from: usize, to: usize, at: usize, out: &mut [u32]) -> usize
     requires { ⌜ (from ≤ to) × ((to ≤ length (now row)) × (at + (to - from) ≤ length (now out))) ⌝ }
     ensures { λ r. ⌜ Holds (now (out .exit)) r (take at (now (out .entry)) ++ drop from (take to (now (row .entry)))) ⌝ }
     ensures { λ r. ⌜ r ≡ at + (to - from) ⌝ }
@@ -47,7 +47,7 @@ pub fn store_or(row: &[u32], from: usize, to: usize, o: u32, at: usize, out: &mu
     ensures { λ r. ⌜ r ≡ at + (to - from) + 2 ⌝ }
 {
     out[at] = (to - from) as u32;
-    let last = copy(row, from, to, at + 1, out);
+    let last = store_words(row, from, to, at + 1, out);
     out[last] = 2 * o + 1 + 2147483648;
     last + 1
 }
@@ -64,4 +64,17 @@ pub fn store_idling(x: u32, v: u32, at: usize, out: &mut [u32]) -> usize
     out[at + 3] = 2 * (v + 1) + 1;
     out[at + 4] = 2 * (v + 2) + 2147483648;
     at + 5
+}
+
+// The OR with the output o of two variables.
+pub fn store_either(x: u32, y: u32, o: u32, at: usize, out: &mut [u32]) -> usize
+    requires { ⌜ (at + 4 ≤ length (now out)) × ((x < 1073741824) × ((y < 1073741824) × (o < 1073741824))) ⌝ }
+    ensures { λ r. ⌜ Holds (now (out .exit)) r (take at (now (out .entry)) ++ nodeWords (or (pos x ∷ pos y ∷ [])) o) ⌝ }
+    ensures { λ r. ⌜ r ≡ at + 4 ⌝ }
+{
+    out[at] = 2;
+    out[at + 1] = 2 * x;
+    out[at + 2] = 2 * y;
+    out[at + 3] = 2 * o + 1 + 2147483648;
+    at + 4
 }

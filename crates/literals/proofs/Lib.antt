@@ -1,3 +1,2 @@
 pub mod laws
 pub mod Turns
-pub mod Outside

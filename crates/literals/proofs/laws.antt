@@ -6,4 +6,6 @@ pub mod Proper
 pub mod NodeWords
 pub mod Entries
 pub mod Laws
+pub mod Tables
+pub mod Passed
 pub mod Blocks

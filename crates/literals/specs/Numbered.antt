@@ -10,6 +10,7 @@ use Rattle.scope.specs.Cnf.{pos, Gate, or, Item, gate, hard, gates}
 use Rattle.scope.specs.Score.{layoutAt, varAt}
 use Rattle.scope.specs.Formula.{refLiteral, nodeGate, countItems}
 use Rattle.literals.specs.Variables.{inBlock, yAt}
+use Rattle.literals.specs.Tables.{durationAt}
 
 -- a counted list: its bounds, its gates and the literals that it counts, from a variable on
 pub record Numbered : Type 0 where
@@ -54,8 +55,9 @@ abbrev pub numAt : (T : ℕ) → Layout → Atom → ℕ
 numAt T L a = pos (varAt T L a)
 
 -- the counted lists of a kind
-unfoldable pub numbered : (T : ℕ) (L : Layout) (users group : ℕ → List ℕ) → Kind → List Numbered
-numbered T L users group k = map (numberOf (numAt T L) (countedOf T users group k)) (countedOf T users group k .lists)
+unfoldable pub numbered : (T : ℕ) (L : Layout) (ds : List ℕ) (users group : ℕ → List ℕ) → Kind → List Numbered
+numbered T L ds users group k =
+    map (numberOf (numAt T L) (countedOf T (durationAt ds) users group k)) (countedOf T (durationAt ds) users group k .lists)
 
 -- Y of each event counted, to its duration; the first has the number e
 unfoldable pub durationLists : (T e : ℕ) → List ℕ → List Numbered
@@ -77,17 +79,17 @@ startClauses T starts e t =
 unfoldable pub useGates : (T : ℕ) → List ℕ → List Gate
 useGates T us = map (λ t. or (map (λ e. yAt T e t) us)) (upTo T)
 
-module _ (T : ℕ) (L : Layout) (users group : ℕ → List ℕ) where
+module _ (T : ℕ) (L : Layout) (ds : List ℕ) (users group : ℕ → List ℕ) where
   -- constraints in file order, from the variable v on
   unfoldable pub constraintItems : List Constraint → ℕ → List Item
   constraintItems [] v = []
   constraintItems (c ∷ cs) v =
-      let is = allNumbered (c .weight) (numbered T L users group (c .kind)) v in
+      let is = allNumbered (c .weight) (numbered T L ds users group (c .kind)) v in
       is ++ constraintItems cs (v + gates is)
 
   -- the durations of events and then the constraints
-  unfoldable pub listItems : List ℕ → List Constraint → ℕ → List Item
-  listItems ds cs v =
+  unfoldable pub listItems : List Constraint → ℕ → List Item
+  listItems cs v =
       let is = allNumbered 0 (durationLists T 1 ds) v in
       is ++ constraintItems cs (v + gates is)
 
@@ -97,4 +99,4 @@ numberedFormula T users group E R ds cs =
     let L : Layout = layoutAt T E R in
     flatMap (λ e. flatMap (startClauses T (L .starts) e) (upTo T)) (upTo E)
     ++ map gate (flatMap (λ r. useGates T (users r)) (upTo R))
-    ++ listItems T L users group ds cs (L .others + 1)
+    ++ listItems T L ds users group cs (L .others + 1)

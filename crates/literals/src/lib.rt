@@ -1,5 +1,5 @@
-// The literals of the formula's lists, gathered from the tables of an instance into a lent slice of words. Each function
-// answers how many literals there are; they stand at the front of the slice.
+// The literals of the formula's lists, gathered from the tables of an instance into a lent slice of words. Each function that
+// gathers answers how many literals there are; they stand at the front of the slice.
 mod events;
 mod gate;
 mod times;
@@ -9,9 +9,9 @@ pub use events::s_spread;
 pub use events::y_of_events;
 pub use gate::outputs;
 pub use times::group_times;
+pub use times::member_is;
 pub use times::s_of_event;
 pub use times::x_of_group;
 pub use times::y_of_event;
-pub use times::y_outside;
 pub use variable::base;
 pub use variable::numbering;

@@ -1,4 +1,5 @@
-// The literals of a row of variables at all times, at the times of a group, and at the other times. Groups count from 1.
+// The literals of a row of variables at all times and at the times of a group, and whether a time is a member of one. Groups count
+// from 1.
 use crate::variable::base;
 use crate::variable::literal;
 use tables::row_len;
@@ -6,8 +7,7 @@ use tables::row_member;
 ghost use Prim.Native.Nat.{_+_, _-_, _*_, _≤_, _<_};
 ghost use mathlib.Core.List.{_++_, map};
 ghost use lib.ListN.{length, take, drop};
-ghost use Rattle.scope.specs.Kinds.{upTo, outside};
-ghost use Rattle.parsing.specs.Numbers.{Ascending};
+ghost use Rattle.scope.specs.Kinds.{upTo};
 ghost use Rattle.tables.specs.Rows.{rowAt, RowIn};
 ghost use Rattle.literals.specs.Variables.{literalAt, yAt, inBlock, Block, Within, GroupIn};
 ghost use Rattle.literals.specs.Words.{Holds, Indicator, startsWith};
@@ -47,7 +47,7 @@ pub fn group_times(groups: &[u8], g: u32, base: u32, n: usize, out: &mut [u32]) 
 }
 
 // 1 where member k of a row of the table, from 0, is t, else 0.
-fn member_is(groups: &[u8], row: usize, k: usize, t: u32) -> usize
+pub fn member_is(groups: &[u8], row: usize, k: usize, t: u32) -> usize
     requires { ⌜ RowIn (now groups) row ⌝ }
     ensures { λ r. ⌜ Indicator (startsWith t (drop k (rowAt (now (groups .entry)) row))) r ⌝ }
 {
@@ -58,26 +58,6 @@ fn member_is(groups: &[u8], row: usize, k: usize, t: u32) -> usize
         return 1;
     }
     0
-}
-
-// The literals of the row after a base at the times outside a group, whose row ascends: one turn for each time, and k is the
-// group's first member not passed.
-fn other_times(groups: &[u8], g: u32, base: u32, times: u32, out: &mut [u32]) -> usize
-    requires { ⌜ GroupIn (now groups) g × (Ascending times 0 (rowAt (now groups) (g - 1)) × ((base < 524288) × ((times ≤ 125) × (times ≤ length (now out))))) ⌝ }
-    ensures { λ r. ⌜ Holds (now (out .exit)) r (map (literalAt base) (outside (rowAt (now (groups .entry)) (g - 1)) (upTo times))) ⌝ }
-{
-    let row = (g - 1) as usize;
-    let mut k: usize = 0;
-    let mut n: usize = 0;
-    let mut t: u32 = 0;
-    while t < times {
-        t = t + 1;
-        let same = member_is(groups, row, k, t);
-        out[n] = literal(base, t);
-        n = n + (1 - same);
-        k = k + same;
-    }
-    n
 }
 
 // Y of an event at all times.
@@ -105,13 +85,4 @@ pub fn x_of_group(groups: &[u8], g: u32, times: u32, uses: u32, r: u32, out: &mu
 {
     let b = base(uses, times, r);
     group_times(groups, g, b, 0, out)
-}
-
-// Y of an event at the times outside a group.
-pub fn y_outside(groups: &[u8], g: u32, times: u32, e: u32, out: &mut [u32]) -> usize
-    requires { ⌜ GroupIn (now groups) g × (Ascending times 0 (rowAt (now groups) (g - 1)) × ((times ≤ 125) × (Within 1024 e × (times ≤ length (now out))))) ⌝ }
-    ensures { λ r. ⌜ Holds (now (out .exit)) r (map (yAt times e) (outside (rowAt (now (groups .entry)) (g - 1)) (upTo times))) ⌝ }
-{
-    let b = base(0, times, e);
-    other_times(groups, g, b, times, out)
 }

@@ -17,12 +17,12 @@ abbrev pub listsSize : ℕ → Counted → List Listed → Size
 listsSize w c ls = rulesSize (map (λ r. (w, r)) (map (rule c) ls))
 
 -- a constraint of an accepted file, with its list in the store
-pub record Sizable (users groups list : List ℕ) (h : Head) (c : Constraint) : Type 0 where
-  pub fits : Fits users groups list h (c .kind)
+pub record Sizable (durations users groups list : List ℕ) (h : Head) (c : Constraint) : Type 0 where
+  pub fits : Fits durations users groups list h (c .kind)
   pub weight : c .weight ≤ 1000
   pub ordered : lowOf (c .kind) ≤ highOf (c .kind)
-  pub few : length (countedIn (usersAt users) groups h (c .kind) .lists) ≤ 125
-  pub some : 1 ≤ length (countedIn (usersAt users) groups h (c .kind) .lists)
+  pub few : length (countedIn durations (usersAt users) groups h (c .kind) .lists) ≤ 125
+  pub some : 1 ≤ length (countedIn durations (usersAt users) groups h (c .kind) .lists)
 
 -- the size of what is counted, far below 2 ^ 64
 pub record CountedSized (w : ℕ) (c : Counted) (z : Size) : Type 0 where

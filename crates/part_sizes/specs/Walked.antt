@@ -21,10 +21,10 @@ pub record Tabled (s d te us tg : List ℕ) (h : Head) : Type 0 where
   pub filled : Filled us (usersIn te (h .events))
 
 -- what the walk is lent
-pub record Walkable (s us tg list store : List ℕ) (h : Head) (cols : ℕ) (before : Size) : Type 0 where
-  pub durations : List ℕ
+pub record Walkable (s d us tg list store : List ℕ) (h : Head) (cols : ℕ) (before : Size) : Type 0 where
   pub resources : List ℕ
-  pub tabled : Tabled s durations resources us tg h
+  pub tabled : Tabled s d resources us tg h
+  pub durations-long : length d ≡ 1024
   pub groups-long : length tg ≡ 129024
   pub list-long : length list ≡ 2048
   pub store-long : length store ≡ 34816

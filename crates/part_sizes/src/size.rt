@@ -35,17 +35,18 @@ fn filled_size(f: Filled, weight: u32, b: Bounds) -> Size
 fn first_size(
     c: Constraint,
     head: Head,
+    durations: &[u8],
     users: &[u16],
     groups: &[u8],
     list: &[u16],
     store: &mut [u32],
 ) -> Size
-    requires { ⌜ Sizable (now users) (now groups) (now list) head (constraintOf (now list) c) × (length (now store) ≡ 34816) ⌝ }
-    ensures { λ r. ⌜ ListSized (c .weight) (countedIn (usersAt (now (users .entry))) (now (groups .entry)) head (constraintOf (now (list .entry)) c .kind))
-        (listIn (usersAt (now (users .entry))) (now (groups .entry)) head (constraintOf (now (list .entry)) c .kind) 1) r ⌝ }
+    requires { ⌜ Sizable (now durations) (now users) (now groups) (now list) head (constraintOf (now list) c) × (length (now store) ≡ 34816) ⌝ }
+    ensures { λ r. ⌜ ListSized (c .weight) (countedIn (now (durations .entry)) (usersAt (now (users .entry))) (now (groups .entry)) head (constraintOf (now (list .entry)) c .kind))
+        (listIn (now (durations .entry)) (usersAt (now (users .entry))) (now (groups .entry)) head (constraintOf (now (list .entry)) c .kind) 1) r ⌝ }
 {
     let kind = c.kind;
-    let f = fill(kind, 1, head, users, groups, list, 1, store);
+    let f = fill(kind, 1, head, durations, users, groups, list, 1, store);
     let b = bounds_of(kind);
     filled_size(f, c.weight, b)
 }
@@ -55,16 +56,17 @@ fn first_size(
 pub fn constraint_size(
     c: Constraint,
     head: Head,
+    durations: &[u8],
     users: &[u16],
     groups: &[u8],
     list: &[u16],
     store: &mut [u32],
 ) -> Size
-    requires { ⌜ Sizable (now users) (now groups) (now list) head (constraintOf (now list) c) × (length (now store) ≡ 34816) ⌝ }
-    ensures { λ r. ⌜ CountedSized (c .weight) (countedIn (usersAt (now (users .entry))) (now (groups .entry)) head (constraintOf (now (list .entry)) c .kind)) r ⌝ }
+    requires { ⌜ Sizable (now durations) (now users) (now groups) (now list) head (constraintOf (now list) c) × (length (now store) ≡ 34816) ⌝ }
+    ensures { λ r. ⌜ CountedSized (c .weight) (countedIn (now (durations .entry)) (usersAt (now (users .entry))) (now (groups .entry)) head (constraintOf (now (list .entry)) c .kind)) r ⌝ }
 {
     let kind = c.kind;
     let most = lists(kind, head.times);
-    let one = first_size(c, head, users, groups, list, store);
+    let one = first_size(c, head, durations, users, groups, list, store);
     multiply(most as u64, one)
 }

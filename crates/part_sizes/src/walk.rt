@@ -34,6 +34,7 @@ fn add(total: Total, columns: u64, one: Size, weight: u64) -> Total
 pub fn constraints_total(
     file: &[u8],
     head: Head,
+    durations: &[u8],
     users: &[u16],
     groups: &[u8],
     list: &mut [u16],
@@ -41,9 +42,9 @@ pub fn constraints_total(
     columns: u64,
     before: Size,
 ) -> Total
-    requires { ⌜ Walkable (now file) (now users) (now groups) (now list) (now store) head columns before ⌝ }
-    ensures { λ r. ⌜ ((d te : List ℕ) → Tabled (now (file .entry)) d te (now (users .entry)) (now (groups .entry)) head
-        → TotalOf (now (file .entry)) d te (now (groups .entry)) head columns before r) ⌝ }
+    requires { ⌜ Walkable (now file) (now durations) (now users) (now groups) (now list) (now store) head columns before ⌝ }
+    ensures { λ r. ⌜ ((te : List ℕ) → Tabled (now (file .entry)) (now (durations .entry)) te (now (users .entry)) (now (groups .entry)) head
+        → TotalOf (now (file .entry)) (now (durations .entry)) te (now (groups .entry)) head columns before r) ⌝ }
 {
     let most = head.constraints as usize;
     let tail = nothing();
@@ -58,7 +59,7 @@ pub fn constraints_total(
         let Next::Read(c, after) = x else {
             return total;
         };
-        let one = constraint_size(c, head, users, groups, list, store);
+        let one = constraint_size(c, head, durations, users, groups, list, store);
         total = add(total, columns, one, c.weight as u64);
         next = after;
         i = i + 1;

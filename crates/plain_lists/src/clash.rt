@@ -15,7 +15,7 @@ ghost use Rattle.list_nodes.specs.Stored.{listIn, numOf, Plain};
 // The list of time t.
 pub fn fill_clash(f: Clash, t: u32, head: Head, users: &[u16], out: &mut [u32]) -> Filled
     requires { ⌜ UserRows (now users) × ((f .resource ≤ 99) × ((head .times ≤ 125) × (Within (head .times) t × (length (now out) ≡ 34816)))) ⌝ }
-    ensures { λ r. ⌜ Plain (numOf head) (listIn (usersAt (now (users .entry))) [] head (clash (f .resource)) t) (now (out .exit)) r ⌝ }
+    ensures { λ r. ⌜ Plain (numOf head) (listIn [] (usersAt (now (users .entry))) [] head (clash (f .resource)) t) (now (out .exit)) r ⌝ }
 {
     let at = f.resource as usize * 1025;
     let n = users[at] as usize;

@@ -1,18 +1,18 @@
--- Demands 2 and 3, what is owed for the two operations beside them, and what kinds 9 and 10 count, as types over the definitions.
+-- Demands 2 and 3, what is owed for the two operations beside them, and what kinds 3, 9 and 10 count, as types over the definitions.
 -- The upper crates prove them.
 use mathlib.Core.Path.{_≡_}
-use mathlib.Core.Bool.{Bool, true, _||_}
+use mathlib.Core.Bool.{Bool, true, not, _||_}
 use mathlib.Core.Logic.{_↔_}
-use mathlib.Core.List.{List, map}
+use mathlib.Core.List.{List, [], map}
 use Prim.Native.Nat.{ℕ, _+_, _-_, _*_, _≤_, _<_}
 use lib.ListN.{length, getD}
 use lib.Dec.{ltb, eqb}
 use Rattle.scope.specs.Parsed.{got, answered}
-use Rattle.scope.specs.Kinds.{distribute, lengths, Atom, Listed, ofLength, ofLengthOutside, rulesOf}
+use Rattle.scope.specs.Kinds.{preferred, distribute, lengths, Atom, Listed, member, eventOf, groupAt, fromOutside, ofLength, ofLengthOutside, rulesOf}
 use Rattle.scope.specs.Instance.{Instance, parse}
 use Rattle.scope.specs.Cnf.{gate, hardClauses, bit, clauses}
-use Rattle.scope.specs.Score.{deviation, deviations}
-use Rattle.scope.specs.Subevents.{subevents}
+use Rattle.scope.specs.Score.{deviation, deviations, rules, eventRight}
+use Rattle.scope.specs.Subevents.{subevents, timesHeld, lengthsFrom}
 use Rattle.scope.specs.Formula.{nodeGate, variables, hardOf, words, mostVariables}
 use Rattle.scope.specs.Operations.{scoreOf, decodeOf, part, falsifiedSoft, checkOf, checkHardOf, bestOf, Lent}
 use Rattle.scope.specs.Refutation.{NoTimetable, NoneAtAll}
@@ -94,10 +94,27 @@ pub record ListedByTime (T n : ℕ) (l : Listed) : Type 0 where
 -- Kinds 9 and 10
 pub record DemandLengths : Type 0 where
   -- "Kind 9 (event, length 1..T, lo, hi) counts subevents of that length."
-  pub of-length : (T : ℕ) (us group : ℕ → List ℕ) (τ : Atom → Bool) (e n lo hi : ℕ) → 1 ≤ n
-      → deviations τ (rulesOf T us group (distribute e n lo hi)) ≡ deviation lo hi (subevents T τ e (eqb n))
+  pub of-length : (T : ℕ) (dur : ℕ → ℕ) (us group : ℕ → List ℕ) (τ : Atom → Bool) (e n lo hi : ℕ) → 1 ≤ n
+      → deviations τ (rulesOf T dur us group (distribute e n lo hi)) ≡ deviation lo hi (subevents T τ e (eqb n))
   -- "Kind 10 (event, shortest, longest, each 1..T) counts subevents whose length lies outside, allowed 0 to 0."
-  pub outside : (T : ℕ) (us group : ℕ → List ℕ) (τ : Atom → Bool) (e a b : ℕ) → 1 ≤ a
-      → deviations τ (rulesOf T us group (lengths e a b)) ≡ deviation 0 0 (subevents T τ e (λ n. ltb n a || ltb b n))
+  pub outside : (T : ℕ) (dur : ℕ → ℕ) (us group : ℕ → List ℕ) (τ : Atom → Bool) (e a b : ℕ) → 1 ≤ a
+      → deviations τ (rulesOf T dur us group (lengths e a b)) ≡ deviation 0 0 (subevents T τ e (λ n. ltb n a || ltb b n))
   pub list : (T e n : ℕ) → ListedByTime T n (ofLength T e n)
   pub list-outside : (T e a b : ℕ) → 1 ≤ a → a ≤ b → ListedByTime T b (ofLengthOutside T e a b)
+
+-- a time outside group number g
+abbrev pub outsideGroup : Instance → ℕ → ℕ → Bool
+outsideGroup i g t = not (member t (groupAt (i .groups) g))
+
+-- Kind 3, where the event's times and starts are those of a timetable
+pub record DemandPreferred : Type 0 where
+  -- "Kind 3 now counts, over all times, those held by a subevent that starts outside."
+  pub times : (i : Instance) (τ : Atom → Bool) (w e g : ℕ) → eventRight i τ e (eventOf (i .events) e) ≡ true
+      → deviations τ (rules i (record { weight = w; kind = preferred e g })) ≡ deviation 0 0 (timesHeld (i .times) τ e (outsideGroup i g))
+  -- "a subevent that starts outside the group deviates by its whole length, and one that starts inside by nothing"
+  pub lengths : (i : Instance) (τ : Atom → Bool) (w e g : ℕ) → eventRight i τ e (eventOf (i .events) e) ≡ true
+      → deviations τ (rules i (record { weight = w; kind = preferred e g })) ≡ lengthsFrom (i .times) τ e (outsideGroup i g) 1 (i .times)
+  -- variables beside the counter's, and members; an event of the duration 1 needs no variable
+  pub variables : (T e d : ℕ) (g : List ℕ) → length (fromOutside T e d g .nodes) ≤ 3 * (T - 1)
+  pub members : (T e d : ℕ) (g : List ℕ) → length (fromOutside T e d g .members) ≤ T
+  pub single : (T e : ℕ) (g : List ℕ) → fromOutside T e 1 g .nodes ≡ []

@@ -1,4 +1,4 @@
--- The examples of document 01 that are marked P, file A's listing, its limits, and those of kinds 9 and 10, as one table under one
+-- The examples of document 01 that are marked P, file A's listing, its limits, and those of kinds 3, 9 and 10, as one table under one
 -- theorem. A case is what the definitions compute and what the paper says, both as numbers.
 use mathlib.Core.Path.{_≡_, refl}
 use mathlib.Core.Bool.{Bool, false, cond, _||_}
@@ -8,12 +8,12 @@ use lib.ListN.{drop, replicate}
 use lib.Dec.{eqb, ltb}
 use Rattle.scope.specs.Parsed.{Parsed, got, refused, Answer, answered, refusal, repeat}
 use Rattle.scope.specs.Number.{group, front, within, number, limited, reference, references, listed}
-use Rattle.scope.specs.Kinds.{Atom, Y, S, X, Rule, rule, Listed, atom, entriesNodes, entriesMembers, entries, spread, limit, upTo, usesAt, from, member, usersFrom, outside, groupAt, gapsAfter, gaps, goingOn, span, timeByTime, ofLength, ofLengthOutside, countedOf, rulesOf, longest}
+use Rattle.scope.specs.Kinds.{Atom, Y, S, X, Rule, rule, Listed, atom, entriesNodes, entriesMembers, entries, spread, limit, upTo, usesAt, from, member, usersFrom, outside, groupAt, gapsAfter, gaps, reached, reachesNodes, reachesMembers, fromOutside, goingOn, span, timeByTime, ofLength, ofLengthOutside, countedOf, rulesOf, longest}
 use Rattle.scope.specs.Instance.{eventAt, fieldsRead, fieldsTable, ended, constraintAt, sizesAt, groupsAt, constraintsAt, parse}
 use Rattle.scope.specs.Cnf.{pos, Item, gate, bit, lit, clause, clauses, hasTrue, withoutFalse, tidy, pairs, gateClauses, hardClauses, softUnits, falsified}
 use Rattle.scope.specs.Score.{layoutAt, varAt, trues, any, all, deviation, charged, valuesAfter, count, deviations, truth, eventRight, firstWrong, infeasibilityOf, objectiveOf, firstAbove}
-use Rattle.scope.specs.Subevents.{before, subevents}
-use Rattle.scope.specs.Formula.{nodeGate, noRow, ones, row, counter, lastRow, lowUnits, highUnits, shortUnits, boundItems, countInto, ruleItems, rulesItems, starts, uses, durationRules, constraintRules, formula, variables, hardOf, softOf, tail, bounded, boundedVariables, boundedHard, words}
+use Rattle.scope.specs.Subevents.{before, subevents, heldFrom, timesHeld, lengthsFrom}
+use Rattle.scope.specs.Formula.{refLiteral, nodeGate, noRow, ones, row, counter, lastRow, lowUnits, highUnits, shortUnits, boundItems, countInto, ruleItems, rulesItems, starts, uses, durationRules, constraintRules, formula, variables, hardOf, softOf, tail, bounded, boundedVariables, boundedHard, words}
 use Rattle.scope.specs.Text.{digits, literalText, line, sumWeights, top, headerLine, text}
 use Rattle.scope.specs.Steps.{numbers, stepAt, literalsOk, wellFormed, hintsShow, deleted}
 use Rattle.scope.specs.PlainRun.{perform, run, start, plainRun}
@@ -35,7 +35,7 @@ fileFree = 0x01 ∷ 0x01 ∷ 0x00 ∷ 0x01 ∷ 0x00 ∷ 0x00 ∷ 0x00 ∷ []
 
 -- the proof of its example, whose added clause has the given id
 proofA : ℕ → List ℕ
-proofA id = 0x61 ∷ id ∷ 0x00 ∷ 0x05 ∷ 0x04 ∷ 0x06 ∷ 0x0E ∷ 0x10 ∷ 0x00 ∷ []
+proofA id = 0x61 ∷ id ∷ 0x00 ∷ 0x05 ∷ 0x04 ∷ 0x02 ∷ 0x06 ∷ 0x0E ∷ 0x10 ∷ 0x00 ∷ []
 
 -- what the text program prints for A, line by line
 listingA : List ℕ
@@ -46,8 +46,8 @@ listingA =
     ∷ 53 ∷ 32 ∷ 45 ∷ 49 ∷ 32 ∷ 51 ∷ 32 ∷ 48 ∷ 10
     ∷ 53 ∷ 32 ∷ 49 ∷ 32 ∷ 45 ∷ 51 ∷ 32 ∷ 48 ∷ 10
     ∷ 53 ∷ 32 ∷ 51 ∷ 32 ∷ 48 ∷ 10
-    ∷ 53 ∷ 32 ∷ 45 ∷ 49 ∷ 32 ∷ 52 ∷ 32 ∷ 48 ∷ 10
-    ∷ 53 ∷ 32 ∷ 49 ∷ 32 ∷ 45 ∷ 52 ∷ 32 ∷ 48 ∷ 10
+    ∷ 53 ∷ 32 ∷ 45 ∷ 50 ∷ 32 ∷ 52 ∷ 32 ∷ 48 ∷ 10
+    ∷ 53 ∷ 32 ∷ 50 ∷ 32 ∷ 45 ∷ 52 ∷ 32 ∷ 48 ∷ 10
     ∷ 52 ∷ 32 ∷ 45 ∷ 52 ∷ 32 ∷ 48 ∷ 10 ∷ []
 
 -- answers as numbers: 0 and the values, or a refusal's number and value
@@ -166,6 +166,22 @@ tenListing =
     ∷ 21 ∷ 24 ∷ 27 ∷ 0 ∷ 6 ∷ 29 ∷ 0 ∷ 26 ∷ 29 ∷ 0 ∷ 7 ∷ 27 ∷ 28 ∷ 0 ∷ 30 ∷ 0 ∷ 22 ∷ 32 ∷ 0 ∷ 31 ∷ 32 ∷ 0
     ∷ 23 ∷ 30 ∷ 33 ∷ 0 ∷ 8 ∷ 35 ∷ 0 ∷ 32 ∷ 35 ∷ 0 ∷ 9 ∷ 33 ∷ 34 ∷ 0 ∷ []
 
+-- one event that takes d of T times, and kind 3 at weight 1 with the group of one time
+preferredFile : (T d t : ℕ) → List ℕ
+preferredFile T d t = T ∷ 0x01 ∷ 0x00 ∷ d ∷ 0x00 ∷ 0x01 ∷ 0x01 ∷ t ∷ 0x01 ∷ 0x03 ∷ 0x01 ∷ 0x01 ∷ 0x01 ∷ []
+
+-- the literals of a list's members, its first node the variable v
+membersOf : (T v : ℕ) → Listed → List ℕ
+membersOf T v l = map (refLiteral (λ a. pos (varAt T (layoutAt T 1 0) a)) v) (l .members)
+
+chainListing : List ℕ
+chainListing = 4 ∷ 33 ∷ 0 ∷ 11 ∷ 33 ∷ 0 ∷ 5 ∷ 10 ∷ 32 ∷ 0 ∷ 8 ∷ 35 ∷ 0 ∷ 32 ∷ 35 ∷ 0 ∷ 9 ∷ 33 ∷ 34 ∷ 0 ∷ []
+
+bothListing : List ℕ
+bothListing =
+    6 ∷ 33 ∷ 0 ∷ 13 ∷ 33 ∷ 0 ∷ 7 ∷ 12 ∷ 32 ∷ 0 ∷ 10 ∷ 35 ∷ 0 ∷ 32 ∷ 35 ∷ 0 ∷ 11 ∷ 33 ∷ 34 ∷ 0 ∷ 13 ∷ 36 ∷ 0 ∷ 35 ∷ 36 ∷ 0
+    ∷ 12 ∷ 34 ∷ 37 ∷ 0 ∷ []
+
 -- an event that takes all times of some, and starts at times 1, 3 and 4
 threeStarts : Atom → Bool
 threeStarts (Y e t) = ltb 0 t
@@ -204,7 +220,9 @@ cases =
     ∷ shows (checkA 4 (proofA 0x13)) (16 ∷ 1 ∷ [])
     ∷ shows (checkA 3 []) (18 ∷ 0 ∷ [])
     -- a hint that is already true breaks the rule
-    ∷ shows (checkA 3 (0x61 ∷ 0x11 ∷ 0x00 ∷ 0x05 ∷ 0x05 ∷ 0x04 ∷ 0x06 ∷ 0x0E ∷ 0x10 ∷ 0x00 ∷ [])) (16 ∷ 1 ∷ [])
+    ∷ shows (checkA 3 (0x61 ∷ 0x11 ∷ 0x00 ∷ 0x05 ∷ 0x05 ∷ 0x04 ∷ 0x02 ∷ 0x06 ∷ 0x0E ∷ 0x10 ∷ 0x00 ∷ [])) (16 ∷ 1 ∷ [])
+    -- so does one with two open literals: clause 6 before clause 2
+    ∷ shows (checkA 3 (0x61 ∷ 0x11 ∷ 0x00 ∷ 0x05 ∷ 0x04 ∷ 0x06 ∷ 0x0E ∷ 0x10 ∷ 0x00 ∷ [])) (16 ∷ 1 ∷ [])
     -- a deleted clause is not used
     ∷ shows (checkA 3 (0x64 ∷ 0x05 ∷ 0x00 ∷ proofA 0x11)) (15 ∷ 2 ∷ [])
     -- the tail's last variable may stand in an added clause, the next one not
@@ -218,7 +236,7 @@ cases =
     ∷ shows (roomA 30 15 8) (9 ∷ 0 ∷ [])
     ∷ shows (roomA 30 16 7) (9 ∷ 0 ∷ [])
     -- without the tail: the hard constraint is refuted in 1 step, A's hard clauses are not
-    ∷ shows (stepsSaid (checkHardOf fileHardA (0x61 ∷ 0x09 ∷ 0x00 ∷ 0x05 ∷ 0x04 ∷ 0x06 ∷ 0x08 ∷ 0x00 ∷ []) ample)) (0 ∷ 1 ∷ [])
+    ∷ shows (stepsSaid (checkHardOf fileHardA (0x61 ∷ 0x09 ∷ 0x00 ∷ 0x05 ∷ 0x04 ∷ 0x02 ∷ 0x06 ∷ 0x08 ∷ 0x00 ∷ []) ample)) (0 ∷ 1 ∷ [])
     ∷ shows (stepsSaid (checkHardOf fileA (proofA 0x11) ample)) (15 ∷ 1 ∷ [])
     -- A's one model is the best, by its proof at bound 3; without a proof 18; no model at all 13; cost 0 needs no proof
     ∷ shows (bestA (1 ∷ 1 ∷ 1 ∷ 1 ∷ []) (proofA 0x11)) (0 ∷ 4 ∷ 1 ∷ [])
@@ -234,7 +252,7 @@ cases =
     -- at members 2 and 4 of six: 1 idle
     ∷ shows (count (busyTimes 2 4) idleSix ∷ []) (1 ∷ [])
     -- two starts of a spread group at one time count twice
-    ∷ shows (deviations startAt1 (rulesOf 1 (λ r. []) (groupAt ((1 ∷ []) ∷ [])) (spread (1 ∷ 2 ∷ []) 1 0 1)) ∷ []) (1 ∷ [])
+    ∷ shows (deviations startAt1 (rulesOf 1 (λ e. 1) (λ r. []) (groupAt ((1 ∷ []) ∷ [])) (spread (1 ∷ 2 ∷ []) 1 0 1)) ∷ []) (1 ∷ [])
     -- literals 1, 0, 1 give last row 1, 1, 0: its clauses refuse a count that is too low or too high
     ∷ shows (holds3 (1 ∷ 0 ∷ 1 ∷ 1 ∷ 0 ∷ 0 ∷ 1 ∷ 0 ∷ 0 ∷ 1 ∷ 1 ∷ 0 ∷ [])) (1 ∷ [])
     ∷ shows (holds3 (1 ∷ 0 ∷ 1 ∷ 1 ∷ 0 ∷ 0 ∷ 1 ∷ 0 ∷ 0 ∷ 1 ∷ 0 ∷ 0 ∷ [])) (0 ∷ [])
@@ -265,6 +283,25 @@ cases =
     ∷ shows (readTen 2 3) (2 ∷ 11 ∷ [])
     ∷ shows (readTen 2 1) (5 ∷ 7 ∷ [])
     ∷ shows (readTen 1 2) (0 ∷ 2 ∷ 1 ∷ 0 ∷ 0 ∷ 1 ∷ [])
+    -- kind 3, a double and two singles in two times: a double that starts outside and runs in costs 2, one that starts inside and
+    -- runs out 0, and two singles of which one starts outside 1
+    ∷ shows (scoreSaid (scoreOf (preferredFile 2 2 2) (1 ∷ 1 ∷ 1 ∷ 0 ∷ []))) (0 ∷ 0 ∷ 2 ∷ [])
+    ∷ shows (scoreSaid (scoreOf (preferredFile 2 2 1) (1 ∷ 1 ∷ 1 ∷ 0 ∷ []))) (0 ∷ 0 ∷ 0 ∷ [])
+    ∷ shows (scoreSaid (scoreOf (preferredFile 2 2 1) (1 ∷ 1 ∷ 1 ∷ 1 ∷ []))) (0 ∷ 0 ∷ 1 ∷ [])
+    -- subevents of lengths 2, 1 and 2 from times 1, 3 and 4: those that start after 2 hold three times,
+    -- counted or by their lengths, the one from time 1 holds two
+    ∷ shows (timesHeld 5 threeStarts 1 (ltb 2) ∷ lengthsFrom 5 threeStarts 1 (ltb 2) 1 5 ∷ []) (3 ∷ 3 ∷ [])
+    ∷ shows (timesHeld 5 threeStarts 1 (eqb 1) ∷ lengthsFrom 5 threeStarts 1 (eqb 1) 1 5 ∷ []) (2 ∷ 2 ∷ [])
+    ∷ shows (count threeStarts (fromOutside 5 1 5 (1 ∷ 2 ∷ [])) ∷ count threeStarts (fromOutside 5 1 5 (1 ∷ 3 ∷ [])) ∷ []) (3 ∷ 2 ∷ [])
+    -- the clauses of M and C in three times, a duration of 2 and the group of time 2, of M, C and D and the group of time 1, with the
+    -- members; where all times are in the group there are none
+    ∷ shows (nodeListing 3 16 (fromOutside 3 1 2 (2 ∷ []))) chainListing
+    ∷ shows (membersOf 3 16 (fromOutside 3 1 2 (2 ∷ []))) (8 ∷ 34 ∷ 12 ∷ [])
+    ∷ shows (nodeListing 3 16 (fromOutside 3 1 2 (1 ∷ []))) bothListing
+    ∷ shows (membersOf 3 16 (fromOutside 3 1 2 (1 ∷ []))) (10 ∷ 36 ∷ [])
+    ∷ shows (membersOf 3 16 (fromOutside 3 1 3 (1 ∷ 2 ∷ 3 ∷ []))) []
+    -- each time outside can be reached from the one before it
+    ∷ shows (membersOf 3 16 (fromOutside 3 1 2 [])) (8 ∷ 36 ∷ 42 ∷ [])
     -- the clauses of M and K in three times for length 2; of M, Q, W and K in two times for 2 to 2
     ∷ shows (nodeListing 3 16 (ofLength 3 1 2)) nineListing
     ∷ shows (nodeListing 2 10 (ofLengthOutside 2 1 2 2)) tenListing
@@ -272,5 +309,5 @@ cases =
 
 -- the definitions compute what the paper says
 pub examples : map (λ c. c .computed) cases ≡ map (λ c. c .expected) cases
-unfolding repeat group front within number limited reference references listed from member usersFrom outside gapsAfter gaps goingOn span timeByTime ofLength ofLengthOutside entriesNodes entriesMembers countedOf longest eventAt fieldsRead fieldsTable ended constraintAt sizesAt groupsAt constraintsAt parse bit lit clause clauses hasTrue withoutFalse tidy pairs gateClauses hardClauses softUnits falsified trues any all deviation charged valuesAfter count deviations truth eventRight firstWrong infeasibilityOf objectiveOf firstAbove row counter lastRow lowUnits highUnits shortUnits boundItems countInto ruleItems rulesItems starts uses durationRules constraintRules formula variables hardOf softOf tail bounded boundedVariables boundedHard words digits literalText line sumWeights top headerLine text numbers stepAt literalsOk wellFormed hintsShow deleted perform run start plainRun readOf scoreOf sameBytes sameSheetOf sizesOf textSizeOf textOf programPrints lowestFalse decodeOf formulaFits checkOf checkHardOf bestOf fileA fileHardA fileFree proofA listingA numberSaid stepsSaid scoreSaid decodeSaid bestSaid sizeSaid ample checkA roomA bestA busyTimes startAt1 counter3 holds3 timesFile spelt listFile six idleSix before subevents lengthFile doubles softNine readNine readTen nodeListing nineListing tenListing threeStarts cases flatMap
+unfolding repeat group front within number limited reference references listed from member usersFrom outside gapsAfter gaps reached reachesNodes reachesMembers fromOutside goingOn span timeByTime ofLength ofLengthOutside entriesNodes entriesMembers countedOf longest eventAt fieldsRead fieldsTable ended constraintAt sizesAt groupsAt constraintsAt parse bit lit clause clauses hasTrue withoutFalse tidy pairs gateClauses hardClauses softUnits falsified trues any all deviation charged valuesAfter count deviations truth eventRight firstWrong infeasibilityOf objectiveOf firstAbove row counter lastRow lowUnits highUnits shortUnits boundItems countInto ruleItems rulesItems starts uses durationRules constraintRules formula variables hardOf softOf tail bounded boundedVariables boundedHard words digits literalText line sumWeights top headerLine text numbers stepAt literalsOk wellFormed hintsShow deleted perform run start plainRun readOf scoreOf sameBytes sameSheetOf sizesOf textSizeOf textOf programPrints lowestFalse decodeOf formulaFits checkOf checkHardOf bestOf fileA fileHardA fileFree proofA listingA numberSaid stepsSaid scoreSaid decodeSaid bestSaid sizeSaid ample checkA roomA bestA busyTimes startAt1 counter3 holds3 timesFile spelt listFile six idleSix before subevents heldFrom timesHeld lengthsFrom lengthFile preferredFile chainListing bothListing membersOf doubles softNine readNine readTen nodeListing nineListing tenListing threeStarts cases flatMap
 examples = refl

@@ -6,7 +6,7 @@ use lib.ListN.{length, getD}
 use lib.Dec.{leb}
 use Rattle.scope.specs.Parsed.{Parsed, got, andThen, unless, repeat}
 use Rattle.scope.specs.Number.{limited, reference, listed}
-use Rattle.scope.specs.Kinds.{Event, Kind, clash, unavailable, preferred, split, spread, busy, cluster, idle, distribute, lengths, Constraint, Counted, users, groupAt, countedOf, longest}
+use Rattle.scope.specs.Kinds.{Event, Kind, clash, unavailable, preferred, split, spread, busy, cluster, idle, distribute, lengths, Constraint, Counted, durationOf, users, groupAt, countedOf, longest}
 
 pub record Instance : Type 0 where
   pub times : ℕ
@@ -97,7 +97,7 @@ constraintAt T R es gs s at =
     (λ kind next.
     andThen (limited 0 1000 s next)
     (λ weight more.
-    andThen (fieldsRead (fieldsOf (countsOf T R es gs) kind) s more) (λ k end. endedAs at (countedOf T (λ r. users r es) (groupAt gs) k) weight k end)))
+    andThen (fieldsRead (fieldsOf (countsOf T R es gs) kind) s more) (λ k end. endedAs at (countedOf T (durationOf es) (λ r. users r es) (groupAt gs) k) weight k end)))
 
 -- times 1..125, events 1..1,024, resources 0..99
 unfoldable pub sizesAt : List ℕ → Parsed (ℕ × ℕ × ℕ)

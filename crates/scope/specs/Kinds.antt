@@ -61,7 +61,7 @@ isNot x = record { negated = true; thing = x }
 abbrev pub atoms : List Atom → List Ref
 atoms xs = map (λ a. is (anAtom a)) xs
 
--- the members of kinds 1 to 8: an atom; whether some atom of a group is true; whether a member of a group is idle: false
+-- the members of kinds 1, 2 and 4 to 8: an atom; whether some atom of a group is true; whether a member of a group is idle: false
 -- itself, with a true one earlier and a true one later
 pub data Entry : Type 0 where
   atom : Atom → Entry
@@ -133,6 +133,13 @@ unfoldable pub member : ℕ → List ℕ → Bool
 member x [] = false
 member x (y ∷ ys) = eqb x y || member x ys
 
+-- event number e, and how many times it takes
+abbrev pub eventOf : List Event → ℕ → Event
+eventOf es e = getD es (e - 1) (record { duration = 0; resources = [] })
+
+abbrev pub durationOf : List Event → ℕ → ℕ
+durationOf es e = eventOf es e .duration
+
 -- the events that use resource r; the first of the list has the number e
 unfoldable pub usersFrom : ℕ → ℕ → List Event → List ℕ
 usersFrom r e [] = []
@@ -141,7 +148,7 @@ usersFrom r e (v ∷ vs) = cond (member r (v .resources)) (e ∷ usersFrom r (su
 abbrev pub users : ℕ → List Event → List ℕ
 users r es = usersFrom r 1 es
 
--- those of some times that are outside a group
+-- those of some numbers that are not in a list
 unfoldable pub outside : List ℕ → List ℕ → List ℕ
 outside g [] = []
 outside g (t ∷ ts) = cond (member t g) (outside g ts) (t ∷ outside g ts)
@@ -170,10 +177,60 @@ unfoldable pub gaps : List Atom → List Entry
 gaps [] = []
 gaps (x ∷ xs) = gapsAfter (x ∷ []) xs
 
--- Kinds 9 and 10, for T times: M of a time, whether it goes on with the subevent before it, taken and no start. M of the times
--- 2 to T + 1 stand first in the list, M of time T + 1 never true
+-- M of a time, in kinds 3, 9 and 10: whether it goes on with the subevent before it, taken and no start
 abbrev pub goesOn : ℕ → ℕ → Node
 goesOn e t = allOf (is (anAtom (Y e t)) ∷ isNot (anAtom (S e t)) ∷ [])
+
+-- Kind 3: a time that a subevent that starts outside the group can hold. It can start there, since the time is outside; it can have
+-- come there, since a time outside is near enough before it; or both can be
+pub data Reach : Type 0 where
+  started : (t : ℕ) → Reach
+  carried : (t : ℕ) → Reach
+  both : (t : ℕ) → Reach
+
+-- those of some times, one after another, for the duration d and the group g; so many of the next ones can be reached from
+-- times outside before them: after a time outside the next d − 1
+unfoldable pub reached : (d : ℕ) (g : List ℕ) (near : ℕ) → List ℕ → List Reach
+reached d g near [] = []
+reached d g zero (t ∷ ts) = cond (member t g) (reached d g zero ts) (started t ∷ reached d g (d - 1) ts)
+reached d g (suc n) (t ∷ ts) = cond (member t g) (carried t ∷ reached d g n ts) (both t ∷ reached d g (d - 1) ts)
+
+-- the reference that says whether a subevent that started outside holds such a time, after k nodes: S, C or D
+abbrev pub reachRef : (e : ℕ) → Reach → (k : ℕ) → Ref
+reachRef e (started t) k = is (anAtom (S e t))
+reachRef e (carried t) k = is (aNode (k + 1))
+reachRef e (both t) k = is (aNode (k + 2))
+
+-- its nodes, where p is the reference of the time before it: M; C, that one holds the time before and goes on; D, that one starts
+-- there or C
+abbrev pub reachNodes : (e : ℕ) → Reach → (k : ℕ) → Ref → List Node
+reachNodes e (started t) k p = []
+reachNodes e (carried t) k p = goesOn e t ∷ allOf (p ∷ is (aNode k) ∷ []) ∷ []
+reachNodes e (both t) k p =
+    goesOn e t ∷ allOf (p ∷ is (aNode k) ∷ []) ∷ someOf (is (anAtom (S e t)) ∷ is (aNode (k + 1)) ∷ []) ∷ []
+
+-- how many nodes it has
+abbrev pub reachAdded : Reach → ℕ
+reachAdded (started t) = 0
+reachAdded (carried t) = 2
+reachAdded (both t) = 3
+
+unfoldable pub reachesNodes : (e : ℕ) → List Reach → (k : ℕ) → Ref → List Node
+reachesNodes e [] k p = []
+reachesNodes e (x ∷ xs) k p = reachNodes e x k p ++ reachesNodes e xs (k + reachAdded x) (reachRef e x k)
+
+unfoldable pub reachesMembers : (e : ℕ) → List Reach → (k : ℕ) → List Ref
+reachesMembers e [] k = []
+reachesMembers e (x ∷ xs) k = reachRef e x k ∷ reachesMembers e xs (k + reachAdded x)
+
+abbrev pub reaches : (e : ℕ) → List Reach → Listed
+reaches e xs = record { nodes = reachesNodes e xs 0 (is (aNode 0)); members = reachesMembers e xs 0 }
+
+-- of T times; no time is before the first of them, which can only be one to start at
+unfoldable pub fromOutside : (T e d : ℕ) (g : List ℕ) → Listed
+fromOutside T e d g = reaches e (reached d g 0 (upTo T))
+
+-- Kinds 9 and 10, for T times: M of the times 2 to T + 1 stand first in the list, M of time T + 1 never true
 
 unfoldable pub goingOn : ℕ → ℕ → List Node
 goingOn T e = map (goesOn e) (from 2 (T - 1)) ++ someOf [] ∷ []
@@ -217,12 +274,12 @@ unfoldable pub ofLengthOutside : (T e a b : ℕ) → Listed
 ofLengthOutside T e a b =
     cond (eqb a 1) (timeByTime T e 1 (startAbove T e b)) (timeByTime T e 3 (λ t. startOutside T e a b (T + 3 * (t - 1)) t))
 
--- The table of kinds, for T times, the users of a resource and the times of a group
-module _ (T : ℕ) (us group : ℕ → List ℕ) where
+-- The table of kinds, for T times, the durations of events, the users of a resource and the times of a group
+module _ (T : ℕ) (dur : ℕ → ℕ) (us group : ℕ → List ℕ) where
   unfoldable pub countedOf : Kind → Counted
   countedOf (clash r) = between 0 1 (map (λ t. entries (map (λ e. atom (Y e t)) (us r))) (upTo T))
   countedOf (unavailable r g) = between 0 0 (entries (map atom (usesAt r (group g))) ∷ [])
-  countedOf (preferred e g) = between 0 0 (entries (takesAt e (outside (group g) (upTo T))) ∷ [])
+  countedOf (preferred e g) = between 0 0 (fromOutside T e (dur e) (group g) ∷ [])
   countedOf (split e lo hi) = between lo hi (entries (startsAt e (upTo T)) ∷ [])
   countedOf (spread vs g lo hi) = between lo hi (entries (flatMap (λ e. startsAt e (group g)) vs) ∷ [])
   countedOf (busy r g lo hi) = limit lo hi (entries (map atom (usesAt r (group g))) ∷ [])

@@ -6,7 +6,7 @@ use Prim.Native.Nat.{ℕ, zero, suc, _+_, _-_, _*_}
 use lib.ListN.{length, getD}
 use lib.Dec.{leb, ltb, eqb}
 use Rattle.scope.specs.Parsed.{Answer, refusal, provided}
-use Rattle.scope.specs.Kinds.{Event, Constraint, Atom, Y, S, X, Thing, anAtom, aNode, Ref, Node, someOf, allOf, Listed, Rule, upTo, users, groupAt, rulesOf}
+use Rattle.scope.specs.Kinds.{Event, Constraint, Atom, Y, S, X, Thing, anAtom, aNode, Ref, Node, someOf, allOf, Listed, Rule, upTo, durationOf, users, groupAt, rulesOf}
 use Rattle.scope.specs.Instance.{Instance}
 use Rattle.scope.specs.Cnf.{bit}
 use Rattle.scope.specs.declared.Infeasibility.{Infeasibility}
@@ -92,7 +92,7 @@ module _ (i : Instance) where
   truth b (X r t) = any (map (λ e. bit b (var (Y e t))) (users r (i .events)))
 
   abbrev pub rules : Constraint → List Rule
-  rules c = rulesOf (i .times) (λ r. users r (i .events)) (groupAt (i .groups)) (c .kind)
+  rules c = rulesOf (i .times) (durationOf (i .events)) (λ r. users r (i .events)) (groupAt (i .groups)) (c .kind)
 
   module _ (τ : Atom → Bool) where
     -- time t − 1 is taken

@@ -1,5 +1,5 @@
--- The subevents of an event: their lengths, and how many have such a length.
-use mathlib.Core.Bool.{Bool, not, cond, _&&_, _||_}
+-- The subevents of an event: their lengths, how many have such a length, and which times they hold.
+use mathlib.Core.Bool.{Bool, false, not, cond, _&&_, _||_}
 use mathlib.Core.List.{map}
 use Prim.Native.Nat.{ℕ, zero, suc, _+_, _-_}
 use lib.Dec.{leb}
@@ -25,3 +25,18 @@ module _ (T : ℕ) (τ : Atom → Bool) (e : ℕ) where
   -- how many starts have a subevent of such a length
   unfoldable pub subevents : (ℕ → Bool) → ℕ
   subevents such = trues (map (λ t. τ (S e t) && such (lengthFrom t)) (upTo T))
+
+  -- whether a subevent that starts at such a time holds time t: t is taken, and it starts there or, where t is no start, it holds
+  -- the time before
+  unfoldable pub heldFrom : (ℕ → Bool) → ℕ → Bool
+  heldFrom such zero = false
+  heldFrom such (suc t) = taken (suc t) && cond (τ (S e (suc t))) (such (suc t)) (heldFrom such t)
+
+  -- "over all times, those held by a subevent that starts" at such a time
+  unfoldable pub timesHeld : (ℕ → Bool) → ℕ
+  timesHeld such = trues (map (heldFrom such) (upTo T))
+
+  -- the whole lengths of the subevents that start at such times, summed over so many times from t on
+  unfoldable pub lengthsFrom : (ℕ → Bool) → ℕ → ℕ → ℕ
+  lengthsFrom such t zero = 0
+  lengthsFrom such t (suc k) = cond (τ (S e t) && such t) (lengthFrom t) 0 + lengthsFrom such (suc t) k

@@ -10,6 +10,7 @@ ghost use Prim.Native.Nat.{ℕ};
 ghost use Rattle.scope.specs.Score.{infeasibility, objective};
 ghost use Rattle.instance.specs.Answers.{instanceOf};
 ghost use Rattle.instance.specs.Laws.{Accepted};
+ghost use Rattle.timetable.specs.Right.{Passed};
 ghost use Rattle.score.specs.Ready.{Scorable};
 
 // The uses are counted once, before the constraints are charged.
@@ -23,6 +24,7 @@ pub fn score_of(
 ) -> Score
     requires { ⌜ Scorable (now file) (now bytes) (now resources) (now groups) (now list) head ⌝ }
     ensures { λ r. ⌜ ((d : List ℕ) → Accepted (now (file .entry)) d (now (resources .entry)) (now (groups .entry)) head
+        → Passed (instanceOf (now (file .entry)) d (now (resources .entry)) (now (groups .entry)) head) (now (bytes .entry))
         → (r .infeasibility ≡ infeasibility
         (instanceOf (now (file .entry)) d (now (resources .entry)) (now (groups .entry)) head) (now (bytes .entry)))
         × (r .objective ≡ objective

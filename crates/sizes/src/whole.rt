@@ -29,6 +29,7 @@ pub fn whole_size(
     constraints_total(
         file,
         head,
+        durations,
         &users,
         groups,
         list,

@@ -13,12 +13,14 @@ pub mod Ranges
 pub mod Bounds
 pub mod Nodes
 pub mod TimeByTime
+pub mod ReachLists
 pub mod Values
 pub mod Entries
 pub mod Lowered
 pub mod Runs
 pub mod StartNodes
 pub mod Subevents
+pub mod Held
 pub mod Words
 pub mod LengthLists
 pub mod Rules

@@ -5,7 +5,7 @@ use mathlib.Core.List.{List}
 use Prim.Native.Nat.{ℕ, _-_, _≤_}
 use lib.ListN.{length}
 use Rattle.laws.specs.Lists.{All}
-use Rattle.scope.specs.Kinds.{Event, Kind, Constraint, Counted, users, groupAt, countedOf, longest}
+use Rattle.scope.specs.Kinds.{Event, Kind, Constraint, Counted, durationOf, users, groupAt, countedOf, longest}
 use Rattle.scope.specs.Instance.{Instance, countsOf, ordered}
 use Rattle.parsing.specs.Numbers.{Ascending}
 pub use Rattle.parsing.specs.Valid.{Within, InRange}
@@ -16,7 +16,7 @@ pub record ValidEvent (T R : ℕ) (v : Event) : Type 0 where
 
 -- what a kind counts in an instance
 abbrev pub counted : ℕ → List Event → List (List ℕ) → Kind → Counted
-counted T es gs k = countedOf T (λ r. users r es) (groupAt gs) k
+counted T es gs k = countedOf T (durationOf es) (λ r. users r es) (groupAt gs) k
 
 pub record ValidConstraint (T R : ℕ) (es : List Event) (gs : List (List ℕ)) (c : Constraint) : Type 0 where
   pub weight : Within 0 1000 (c .weight)

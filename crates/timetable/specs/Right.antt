@@ -10,7 +10,7 @@ use lib.Dec.{eqb}
 use Rattle.scope.specs.Cnf.{bit}
 use Rattle.scope.specs.Kinds.{Event, upTo}
 use Rattle.scope.specs.Instance.{Instance}
-use Rattle.scope.specs.Score.{trues, all}
+use Rattle.scope.specs.Score.{trues, all, slots, truth, firstWrong}
 use Rattle.resource_uses.specs.Bits.{marks}
 
 -- time t − 1 is taken
@@ -41,3 +41,8 @@ pub record Lasts (i : Instance) (T n : ℕ) (d : List ℕ) : Type 0 where
   pub times : i .times ≡ T
   pub count : length (i .events) ≡ n
   pub durations : (k : ℕ) → k < n → getD (i .events) k noEvent .duration ≡ getD d k 0
+
+-- bytes pass refusals 10 and 12 for an instance
+pub record Passed (i : Instance) (b : List ℕ) : Type 0 where
+  pub size : length b ≡ 2 * slots i
+  pub right : firstWrong i (truth i b) 1 (i .events) ≡ none

@@ -24,43 +24,43 @@ use Rattle.items.proofs.laws.Written.{room-first, room-same}
 use Rattle.clauses.specs.Fits.{Fits, constraintPart}
 use Rattle.clauses.specs.Walked.{itemsOf, Walkable}
 
-module _ (us tg : List ℕ) (h : Head) (v : ℕ) where
+module _ (d us tg : List ℕ) (h : Head) (v : ℕ) where
   -- those of the first constraint, and the others
   next-items : {ds cs : List Constraint} {c : Constraint} {v′ : ℕ} → ds ≡ c ∷ cs
-      → v′ ≡ v + gates (constraintPart us tg h (c .kind) (c .weight) v)
-      → itemsOf us tg h ds v ≡ constraintPart us tg h (c .kind) (c .weight) v ++ itemsOf us tg h cs v′
+      → v′ ≡ v + gates (constraintPart d us tg h (c .kind) (c .weight) v)
+      → itemsOf d us tg h ds v ≡ constraintPart d us tg h (c .kind) (c .weight) v ++ itemsOf d us tg h cs v′
   unfolding constraintItems
   next-items e f = rw (e, f)
 
-  no-items : {ds : List Constraint} → ds ≡ [] → itemsOf us tg h ds v ≡ []
+  no-items : {ds : List Constraint} → ds ≡ [] → itemsOf d us tg h ds v ≡ []
   unfolding constraintItems
   no-items e = rw e
 
 -- a list of the same length in the store changes nothing
-pub walkable-kept : {s us tg list after : List ℕ} {h : Head} {v : ℕ} → Walkable s us tg list h v → length after ≡ length list → Walkable s us tg after h v
+pub walkable-kept : {s d us tg list after : List ℕ} {h : Head} {v : ℕ} → Walkable s d us tg list h v → length after ≡ length list → Walkable s d us tg after h v
 walkable-kept w e =
     record {
-      durations = w .durations;
       resources = w .resources;
       accepted = w .accepted;
       filled = w .filled;
+      durations-long = w .durations-long;
       groups-long = w .groups-long;
       list-long = e ∙ w .list-long;
       room = w .room;
     }
 
 -- after i of the constraints: the others stand from an offset on, and have the variables from v on
-pub record Part (f : Line → World → World) (s us tg : List ℕ) (h : Head) (first i at v : ℕ) (w₀ w : World) : Type 0 where
+pub record Part (f : Line → World → World) (s d us tg : List ℕ) (h : Head) (first i at v : ℕ) (w₀ w : World) : Type 0 where
   pub walk : Walk (countsIn h) s (h .constraints) i at (constraintsIn h s)
   pub some : 1 ≤ v
-  pub left : Left f v (itemsOf us tg h (drop i (constraintsIn h s)) v) first (itemsOf us tg h (constraintsIn h s) first) w₀ w
+  pub left : Left f v (itemsOf d us tg h (drop i (constraintsIn h s)) v) first (itemsOf d us tg h (constraintsIn h s) first) w₀ w
 
-module _ {f : Line → World → World} {s us tg list : List ℕ} {h : Head} {first : ℕ} (k : Walkable s us tg list h first) where
+module _ {f : Line → World → World} {s d us tg list : List ℕ} {h : Head} {first : ℕ} (k : Walkable s d us tg list h first) where
   -- at the start
-  pub part-start : {w : World} → Part f s us tg h first 0 (h .start) first w w
+  pub part-start : {w : World} → Part f s d us tg h first 0 (h .start) first w w
   part-start = record { walk = k .accepted .walk; some = k .room .some; left = left-start refl }
 
-  module _ {i at v : ℕ} {w₀ w : World} (p : Part f s us tg h first i at v w₀ w) where
+  module _ {i at v : ℕ} {w₀ w : World} (p : Part f s d us tg h first i at v w₀ w) where
     -- constraint number i is next, where the call answered x with the store l
     pub part-read : (l : List ℕ) (x : Next) {c : decl.Constraint} {next : ℕ} → i < h .constraints
         → saidNext l x ≡ decodedAt (countsIn h) s at → x ≡ Next.Read c next → NextOf (k .accepted) i next (constraintOf l c)
@@ -68,23 +68,23 @@ module _ {f : Line → World → World} {s us tg list : List ℕ} {h : Head} {fi
 
     module _ {next : ℕ} {c : Constraint} (n : NextOf (k .accepted) i next c) where
       -- its writer can be called
-      pub part-fits : Fits us tg list h (c .kind)
-      part-fits = known-fits (k .accepted) (k .filled) (n .valid) (k .groups-long) (k .list-long)
+      pub part-fits : Fits d us tg list h (c .kind)
+      part-fits = known-fits (k .accepted) (k .filled) (n .valid) (k .durations-long) (k .groups-long) (k .list-long)
 
-      pub part-room : Room v (constraintPart us tg h (c .kind) (c .weight) v)
+      pub part-room : Room v (constraintPart d us tg h (c .kind) (c .weight) v)
       part-room =
-          room-first _ _ (room-same (next-items us tg h v (n .whole) refl) (left-room (p .some) (p .left) (k .room)))
+          room-first _ _ (room-same (next-items d us tg h v (n .whole) refl) (left-room (p .some) (p .left) (k .room)))
 
       -- and was
-      pub part-next : {v′ : ℕ} {w′ : World} → Wrote f v (constraintPart us tg h (c .kind) (c .weight) v) w w′ v′
-          → Part f s us tg h first (i + 1) next v′ w₀ w′
+      pub part-next : {v′ : ℕ} {w′ : World} → Wrote f v (constraintPart d us tg h (c .kind) (c .weight) v) w w′ v′
+          → Part f s d us tg h first (i + 1) next v′ w₀ w′
       part-next q =
           record {
             walk = n .walk;
             some = omega (arith, q .next, p .some);
-            left = left-turn (next-items us tg h v (n .whole) (q .next)) (p .left) q;
+            left = left-turn (next-items d us tg h v (n .whole) (q .next)) (p .left) q;
           }
 
     -- at the end
-    pub part-end : h .constraints ≤ i → Ran f (lines first (itemsOf us tg h (constraintsIn h s) first)) w₀ w
-    part-end b = left-end (no-items us tg h v (walk-end (p .walk) b)) (p .left) .ran
+    pub part-end : h .constraints ≤ i → Ran f (lines first (itemsOf d us tg h (constraintsIn h s) first)) w₀ w
+    part-end b = left-end (no-items d us tg h v (walk-end (p .walk) b)) (p .left) .ran

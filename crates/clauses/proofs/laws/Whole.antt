@@ -32,7 +32,7 @@ module _ {s d te tg list us : List ℕ} {h : Head} (w : Writable s d te tg list 
   start = layoutOf h .primary + 1
 
   abbrev constraintsFrom : ℕ → List Item
-  constraintsFrom v = itemsOf us tg h (constraintsIn h s) v
+  constraintsFrom v = itemsOf d us tg h (constraintsIn h s) v
 
   whole-users : usersAt us ≡ usersIn te (h .events)
   whole-users = fun-ext (filled-users te (h .events) u)
@@ -60,13 +60,13 @@ module _ {s d te tg list us : List ℕ} {h : Head} (w : Writable s d te tg list 
       }
 
   module _ {f : Line → World → World} {v : ℕ} {w₀ w₁ : World} (p : Wrote f start (beforeItems d us h) w₀ w₁ v) where
-    pub whole-walkable : Walkable s us tg list h v
+    pub whole-walkable : Walkable s d us tg list h v
     whole-walkable =
         record {
-          durations = d;
           resources = te;
           accepted = w .accepted;
           filled = u;
+          durations-long = w .stores .tables .durations-long;
           groups-long = w .stores .tables .groups-long;
           list-long = w .stores .list-long;
           room = rw (p .next) (room-rest (beforeItems d us h) (constraintsFrom (start + gates (beforeItems d us h))) whole-room);

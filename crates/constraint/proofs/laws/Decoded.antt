@@ -4,7 +4,7 @@ use mathlib.Core.Path.{_≡_, refl, _∙_}
 use mathlib.Core.List.{List}
 use Rattle.scope.specs.Parsed.{Parsed, got, refused, andThen}
 use Rattle.scope.specs.Number.{limited}
-use Rattle.scope.specs.Kinds.{Kind, Constraint, Event, users, groupAt, countedOf}
+use Rattle.scope.specs.Kinds.{Kind, Constraint, Event, durationOf, users, groupAt, countedOf}
 use Rattle.scope.specs.Instance.{Counts, countsOf, fieldsRead, fieldsOf, endedAs, constraintAt}
 use Rattle.constraint.proofs.laws.Bounds.{bounds-right}
 use Rattle.constraint.specs.Decoded.{decodedAt, endedBy, checkedAt, longestOf}
@@ -40,13 +40,13 @@ unfolding constraintAt checkedAt decodedAt
 constraint-checked T R es gs s at = parts ∙ by (decodedAt (countsOf T R es gs) s at)
   where
     endedIn : Constraint → ℕ → Parsed Constraint
-    endedIn c end = endedAs at (countedOf T (λ r. users r es) (groupAt gs) (c .kind)) (c .weight) (c .kind) end
+    endedIn c end = endedAs at (countedOf T (durationOf es) (λ r. users r es) (groupAt gs) (c .kind)) (c .weight) (c .kind) end
 
     parts : constraintAt T R es gs s at ≡ andThen (decodedAt (countsOf T R es gs) s at) endedIn
     parts = kind-checked (limited 1 10 s at) (limited 0 1000 s) (λ kind more. fieldsRead (fieldsOf (countsOf T R es gs) kind) s more) endedIn
 
     by : (p : Parsed Constraint) → andThen p endedIn ≡ andThen p (endedBy (longestOf T es gs) at)
-    by (got c end) = let b = bounds-right T (λ r. users r es) (groupAt gs) (c .kind) in rw (b .lo, b .hi)
+    by (got c end) = let b = bounds-right T (durationOf es) (λ r. users r es) (groupAt gs) (c .kind) in rw (b .lo, b .hi)
     by (refused k v) = refl
 
 -- two measures of the list that agree check alike

@@ -1,21 +1,18 @@
--- The length of a kind's counted list by arithmetic, as the reader computes it, and that it is right: laws.
-use Prim.Native.Nat.{ℕ, zero, suc, _+_, _-_, _*_, _≤_, _<_}
-use mathlib.Core.Path.{_≡_, refl, sym, ap, _∙_}
+-- The length of a kind's counted list by arithmetic, as the reader computes it: the checks at a constraint's end come out right by it.
+use Prim.Native.Nat.{ℕ, zero, suc, _+_, _-_, _*_, _≤_}
+use mathlib.Core.Path.{_≡_, refl, sym, _∙_}
 use mathlib.Core.List.{List, [], _∷_, _++_, map, flatMap}
-use mathlib.Core.Bool.{cond}
-use mathlib.Core.Logic.{⊎-elim}
-use native.Mathlib.Nat.{eq-or-lt-of-le}
 use native.Mathlib.Omega.{arith}
-use borrow.Author.Tests.{eq-eqb, ne-eqb}
-use lib.ListN.{length, getD, length-map, length-append}
-use Rattle.scope.specs.Kinds.{Event, Kind, clash, unavailable, preferred, split, spread, busy, cluster, idle, distribute, lengths, Atom, Y, S, X, Entry, atom, Listed, entries, from, upTo, member, users, outside, groupAt, usesAt, startsAt, gapsAfter, gaps, countedOf, longest}
+use borrow.Author.Tests.{le-leb}
+use lib.ListN.{length, length-map, length-append}
+use Rattle.scope.specs.Kinds.{Event, Kind, clash, unavailable, preferred, split, spread, busy, cluster, idle, distribute, lengths, Atom, Y, S, X, Entry, atom, Listed, entries, from, upTo, durationOf, users, groupAt, usesAt, startsAt, gapsAfter, gaps, fromOutside, countedOf, longest}
+use Rattle.scope.specs.Instance.{ordered, ended}
 use Rattle.theory.proofs.laws.Ranges.{length-from}
 use Rattle.theory.proofs.laws.Nodes.{length-members}
+use Rattle.theory.proofs.laws.ReachLists.{length-from-outside}
 use Rattle.theory.proofs.laws.TimeByTime.{length-of, length-outside}
+use Rattle.constraint.specs.Bounds.{lowOf, highOf}
 use Rattle.constraint.specs.Decoded.{longestOf}
-use Rattle.parsing.specs.Each.{Each, each-none, each-more}
-use Rattle.parsing.specs.Numbers.{Ascending, none, more}
-use Rattle.tables.proofs.laws.Occurrences.{below-once}
 use Rattle.constraint_end.specs.Length.{innerLength, listLength}
 
 -- one counted list, of nodes or of entries
@@ -36,29 +33,6 @@ longest-same : (f : ℕ → Listed) (m T : ℕ) → 1 ≤ T → ((t : ℕ) → l
 unfolding longest from
 longest-same f m zero p h = let z : ⊥ = omega arith in elim z [ ]
 longest-same f m (suc k) p h = omega (arith, longest-most f m 2 k h, h 1)
-
--- a member below all of some times may be left out
-outside-skip : (x n k : ℕ) (g : List ℕ) → x < n → outside (x ∷ g) (from n k) ≡ outside g (from n k)
-unfolding outside from member
-outside-skip x n zero g h = refl
-outside-skip x n (suc k) g h =
-    rw (ne-eqb n x (λ p. omega arith)) (ap (λ (ts : List ℕ). cond (member n g) ts (n ∷ ts)) (outside-skip x (suc n) k g (omega arith)))
-
--- the times outside an ascending group are those that it leaves
-outside-length : (k n T : ℕ) (g : List ℕ) → Ascending T n g → T ≡ n + k → length (outside g (from (suc n) k)) + length g ≡ k
-unfolding outside from member
-outside-length zero n T [] none e = refl
-outside-length zero n T (x ∷ g) (more a b r) e = let z : ⊥ = omega arith in elim z [ ]
-outside-length (suc k) n T [] none e = omega (arith, outside-length k (suc n) T [] none (omega arith))
-outside-length (suc k) n T (x ∷ g) (more a b r) e =
-    ⊎-elim
-    (λ (p : suc n ≡ x).
-    rw (eq-eqb (suc n) x p, ← p, outside-skip (suc n) (suc (suc n)) k g (omega arith))
-    (omega (arith, outside-length k (suc n) T g (rw (← p) at r) (omega arith))))
-    (λ (p : suc n < x).
-    rw (ne-eqb (suc n) x (λ q. omega arith), below-once (suc n) T x g r (omega arith) .1)
-    (omega (arith, outside-length k (suc n) T (x ∷ g) (more p b r) (omega arith))))
-    (eq-or-lt-of-le a)
 
 -- the members but first and last
 length-gapsAfter : (before xs : List Atom) → length (gapsAfter before xs) ≡ length xs - 1
@@ -85,38 +59,48 @@ length-inner r gs (h ∷ hs) =
     length-append (gaps (usesAt r (groupAt gs h))) (flatMap (λ g. gaps (usesAt r (groupAt gs g))) hs)
     ∙ omega (arith, length-gaps (usesAt r (groupAt gs h)), length-map (groupAt gs h) (X r), length-inner r gs hs)
 
--- a group of an instance ascends; one that does not exist is empty
-pub group-ascending : {T : ℕ} (gs : List (List ℕ)) (g : ℕ) → Each (Ascending T 0) gs → Ascending T 0 (groupAt gs g)
-group-ascending gs g e = at gs (g - 1) e
-  where
-    at : {T : ℕ} (gs : List (List ℕ)) (i : ℕ) → Each (Ascending T 0) gs → Ascending T 0 (getD gs i [])
-    at [] i each-none = none
-    at (x ∷ gs) zero (each-more p e) = p
-    at (x ∷ gs) (suc i) (each-more p e) = at gs i e
+-- two lengths that the checks at the end of a constraint of a kind cannot tell apart
+pub record Alike (k : Kind) (n m : ℕ) : Type 0 where
+  pub ends : (at weight end : ℕ)
+      → ended at (ordered k) (lowOf k) (highOf k) n weight k end ≡ ended at (ordered k) (lowOf k) (highOf k) m weight k end
 
--- the counted lists are as long as the arithmetic says
+equal : (k : Kind) {n m : ℕ} → n ≡ m → Alike k n m
+equal k h = record { ends = λ at weight end. rw h }
+
+-- a list of kind 3 that is not too long has members enough
+short : (e g : ℕ) {n m : ℕ} → n ≤ 255 → m ≤ 255 → Alike (preferred e g) n m
+unfolding ended
+short e g {n} {m} a b =
+    record { ends = λ at weight end. rw (le-leb n 255 a, le-leb m 255 b, le-leb 0 n (omega arith), le-leb 0 m (omega arith)) }
+
+-- the counted lists are as long as the arithmetic says, or the checks cannot tell
 pub list-length : (T : ℕ) (used : ℕ → ℕ) (es : List Event) (gs : List (List ℕ)) (k : Kind)
     → 1 ≤ T
+    → T ≤ 255
     → ((r : ℕ) → used r ≡ length (users r es))
-    → Each (Ascending T 0) gs
-    → longestOf T es gs k ≡ listLength T used gs k
+    → Alike k (longestOf T es gs k) (listLength T used gs k)
 unfolding countedOf listLength
-list-length T used es gs (clash r) p u a =
-    longest-same (λ t. entries (map (λ e. atom (Y e t)) (users r es))) (used r) T p
-    (λ t. length-members (map (λ e. atom (Y e t)) (users r es)) 0 ∙ length-map (users r es) (λ e. atom (Y e t)) ∙ sym (u r))
-list-length T used es gs (unavailable r g) p u a = longest-one _ ∙ length-map (usesAt r (groupAt gs g)) atom ∙ length-map (groupAt gs g) (X r)
-list-length T used es gs (preferred e g) p u a =
-    let o = outside-length T 0 T (groupAt gs g) (group-ascending gs g a) (omega arith) in
-    longest-one _ ∙ length-map (outside (groupAt gs g) (upTo T)) (λ t. atom (Y e t)) ∙ omega arith
-list-length T used es gs (split e lo hi) p u a = longest-one _ ∙ length-map (upTo T) (λ t. atom (S e t)) ∙ length-from 1 T
-list-length T used es gs (spread vs g lo hi) p u a =
-    longest-one _
-    ∙ length-flat (λ e. startsAt e (groupAt gs g)) (length (groupAt gs g)) vs (λ e. length-map (groupAt gs g) (λ t. atom (S e t)))
-list-length T used es gs (busy r g lo hi) p u a = longest-one _ ∙ length-map (usesAt r (groupAt gs g)) atom ∙ length-map (groupAt gs g) (X r)
-list-length T used es gs (cluster r hs lo hi) p u a = longest-one _ ∙ length-map hs _
-list-length T used es gs (idle r hs lo hi) p u a = longest-one _ ∙ length-inner r gs hs
-list-length T used es gs (distribute e n lo hi) p u a = longest-alone _ ∙ length-of T e n
-list-length T used es gs (lengths e x y) p u a = longest-alone _ ∙ length-outside T e x y
+list-length T used es gs (clash r) p h u =
+    equal (clash r)
+    (longest-same (λ t. entries (map (λ e. atom (Y e t)) (users r es))) (used r) T p
+    (λ t. length-members (map (λ e. atom (Y e t)) (users r es)) 0 ∙ length-map (users r es) (λ e. atom (Y e t)) ∙ sym (u r)))
+list-length T used es gs (unavailable r g) p h u =
+    equal (unavailable r g) (longest-one _ ∙ length-map (usesAt r (groupAt gs g)) atom ∙ length-map (groupAt gs g) (X r))
+list-length T used es gs (preferred e g) p h u =
+    let l = fromOutside T e (durationOf es e) (groupAt gs g) in
+    short e g (omega (arith, longest-alone l, length-from-outside T e (durationOf es e) (groupAt gs g))) (omega arith)
+list-length T used es gs (split e lo hi) p h u =
+    equal (split e lo hi) (longest-one _ ∙ length-map (upTo T) (λ t. atom (S e t)) ∙ length-from 1 T)
+list-length T used es gs (spread vs g lo hi) p h u =
+    equal (spread vs g lo hi)
+    (longest-one _
+    ∙ length-flat (λ e. startsAt e (groupAt gs g)) (length (groupAt gs g)) vs (λ e. length-map (groupAt gs g) (λ t. atom (S e t))))
+list-length T used es gs (busy r g lo hi) p h u =
+    equal (busy r g lo hi) (longest-one _ ∙ length-map (usesAt r (groupAt gs g)) atom ∙ length-map (groupAt gs g) (X r))
+list-length T used es gs (cluster r hs lo hi) p h u = equal (cluster r hs lo hi) (longest-one _ ∙ length-map hs _)
+list-length T used es gs (idle r hs lo hi) p h u = equal (idle r hs lo hi) (longest-one _ ∙ length-inner r gs hs)
+list-length T used es gs (distribute e n lo hi) p h u = equal (distribute e n lo hi) (longest-alone _ ∙ length-of T e n)
+list-length T used es gs (lengths e x y) p h u = equal (lengths e x y) (longest-alone _ ∙ length-outside T e x y)
 
 -- only the counts of users matter
 pub length-same : (T : ℕ) (used used′ : ℕ → ℕ) (gs : List (List ℕ)) (k : Kind)

@@ -3,11 +3,15 @@ use Prim.Native.Nat.{ℕ, zero, suc}
 use mathlib.Core.Path.{_≡_, refl, _∙_}
 use mathlib.Core.List.{List}
 use lib.ListN.{length, getD, replicate}
+use Rattle.scope.specs.Parsed.{Parsed, got, refused, andThen}
+use Rattle.scope.specs.Kinds.{Kind, Constraint}
+use Rattle.scope.specs.Instance.{Counts}
 use Rattle.tables.specs.Rows.{rows}
 use Rattle.constraint.specs.declared.kinds.Head.{Head}
 use Rattle.constraint.specs.Answers.{countsIn}
+use Rattle.constraint.specs.Decoded.{decodedAt, endedBy, checkedAt}
 use Rattle.constraint.proofs.laws.Decoded.{checked-same}
-use Rattle.constraint_end.proofs.laws.Length.{length-same}
+use Rattle.constraint_end.proofs.laws.Length.{Alike, length-same}
 use Rattle.constraint_end.specs.Ready.{Ready, lengthBy, checkedBy}
 
 -- a list of the same length in the store changes nothing
@@ -21,6 +25,17 @@ ready-kept r e =
       events = r .events;
       rows = r .rows;
     }
+
+-- two measures of the list that the checks cannot tell apart check alike
+pub checked-alike : (n : Counts) (len len′ : Kind → ℕ) (s : List ℕ) (at : ℕ)
+    → ((k : Kind) → Alike k (len k) (len′ k))
+    → checkedAt n len s at ≡ checkedAt n len′ s at
+unfolding checkedAt
+checked-alike n len len′ s at h = by (decodedAt n s at)
+  where
+    by : (p : Parsed Constraint) → andThen p (endedBy len at) ≡ andThen p (endedBy len′ at)
+    by (got c end) = h (c .kind) .ends at (c .weight) end
+    by (refused k v) = refl
 
 -- the same counts check alike
 pub checkedBy-same : (used used′ : ℕ → ℕ) (groups : List ℕ) (h : Head) (s : List ℕ)

@@ -2,7 +2,7 @@
 use Prim.Native.Nat.{ℕ, _+_, _-_, _*_, _<_, _≤_}
 use mathlib.Core.Path.{_≡_, ap}
 use mathlib.Core.List.{List}
-use lib.ListN.{length, getD}
+use lib.ListN.{length, getD, replicate, length-replicate, getD-replicate}
 use native.Mathlib.Omega.{arith}
 use native.Mathlib.Nat.{mul-le-mul, mul-le-mul-right}
 use Rattle.scope.specs.Instance.{Counts}
@@ -16,6 +16,7 @@ use Rattle.timetable.proofs.laws.Uses.{member-in}
 use Rattle.deviation.specs.Group.{Inside}
 use Rattle.deviation.proofs.laws.Group.{ascending-inside}
 use Rattle.deviation.specs.Sums.{EventsListed, GroupsListed}
+use Rattle.deviation.specs.Held.{Flaggable}
 use Rattle.deviation.specs.Charge.{MatrixIn, BytesIn, GroupsIn, ListIn}
 
 -- the row of a resource and the row of an event are there, and so is its row of starts
@@ -45,6 +46,15 @@ module _ {n : Counts} {gs : List ℕ} {g : ℕ} (m : GroupsIn n gs) (o : OneOf (
 
   pub group-times : Ascending (n .times) 0 (rowAt gs (g - 1))
   group-times = m .ascending (g - 1) (omega (arith, o .low, o .high))
+
+  -- its times can be flagged, in flags that are all 1
+  pub group-flaggable : n .times ≤ 125 → Flaggable (rowAt gs (g - 1)) (replicate 126 1)
+  group-flaggable h =
+      record {
+        room = length-replicate {A = ℕ} 126 1;
+        times = λ k l. omega (arith, member-in (n .times) group-times k l);
+        ones = λ t l. getD-replicate {A = ℕ} 126 t 1 0 l;
+      }
 
   pub group-inside : {b : List ℕ} {base : ℕ} → base + n .times ≤ length b → Inside b base (rowAt gs (g - 1))
   group-inside h = ascending-inside _ _ (n .times) _ h group-times

@@ -40,13 +40,7 @@ trues-flat f g [] = refl
 trues-flat f g (x ∷ xs) =
     ap trues (map-append f (g x) (flatMap g xs)) ∙ trues-append (map f (g x)) (map f (flatMap g xs)) ∙ rw (trues-flat f g xs)
 
--- a count where nothing, or one, is free of charge
-pub deviation-zero : (c : ℕ) → deviation 0 0 c ≡ c
-unfolding deviation
-deviation-zero c =
-    rw (le-ltb c 0 (omega arith))
-    (by-order _ 0 c (λ l. rw (lt-ltb 0 c l) (omega arith)) (λ l. rw (le-ltb 0 c l) (omega arith)))
-
+-- a count where one is free of charge
 pub deviation-one : (c : ℕ) → deviation 0 1 c ≡ c - 1
 unfolding deviation
 deviation-one c =

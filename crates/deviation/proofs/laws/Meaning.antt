@@ -9,24 +9,30 @@ use lib.Dec.{ltb, eqb}
 use native.Mathlib.Omega.{arith}
 use native.Mathlib.Nat.{add-assoc, mul-le-mul}
 use Rattle.scope.specs.Cnf.{bit}
-use Rattle.scope.specs.Kinds.{Kind, clash, unavailable, preferred, split, spread, busy, cluster, idle, distribute, lengths, Y, S, X, atom, anyOf, from, upTo, users, outside, groupAt, usesAt, takesAt, startsAt, gaps, countedOf, rulesOf}
+use Rattle.scope.specs.Kinds.{Kind, clash, unavailable, preferred, split, spread, busy, cluster, idle, distribute, lengths, Y, S, X, atom, anyOf, from, upTo, eventOf, durationOf, users, groupAt, usesAt, startsAt, gaps, countedOf, rulesOf}
 use Rattle.scope.specs.Instance.{Instance, Counts}
-use Rattle.scope.specs.Score.{trues, any, deviation, deviations, truth, slots}
-use Rattle.scope.specs.Subevents.{subevents}
+use Rattle.scope.specs.Score.{trues, any, deviation, deviations, truth, slots, eventRight}
+use Rattle.scope.specs.Subevents.{subevents, timesHeld}
 use Rattle.theory.proofs.laws.Entries.{entryTrue}
+use Rattle.theory.proofs.laws.Lowered.{deviation-zero}
 use Rattle.theory.proofs.laws.Subevents.{distribute-counts, lengths-counts}
+use Rattle.theory.proofs.laws.Held.{times-charged}
 use Rattle.parsing.specs.Numbers.{Ascending, none, more}
 use Rattle.tables.specs.Rows.{rowAt, rows, eventsOf}
 use Rattle.tables.proofs.laws.Laws.{group-row}
 use Rattle.constraint.specs.Valid.{OneOf, InRange}
 use Rattle.timetable.specs.Bits.{marks}
+use Rattle.timetable.specs.Right.{Passed}
 use Rattle.timetable.proofs.laws.Bits.{bit-next}
+use Rattle.timetable.proofs.laws.Right.{each-right}
 use Rattle.timetable.proofs.laws.Takers.{takers-users, any-trues}
 use Rattle.timetable.specs.Uses.{UsesOf, Marked}
 use Rattle.deviation.specs.Sums.{total}
 use Rattle.deviation.specs.Subevents.{alone, subeventsAt}
+use Rattle.deviation.specs.Held.{timesHeldAt, outsideOf}
 use Rattle.deviation.proofs.laws.Subevents.{subevents-same}
-use Rattle.deviation.proofs.laws.Counting.{map-map, trues-total, trues-flat, deviation-zero, deviation-one, one-list, one-limit, many-lists, gaps-idle}
+use Rattle.deviation.proofs.laws.Held.{times-held-same}
+use Rattle.deviation.proofs.laws.Counting.{map-map, trues-total, trues-flat, deviation-one, one-list, one-limit, many-lists, gaps-idle}
 use Rattle.deviation.specs.Charge.{chargeOf, clashCharge, unavailableCharge, preferredCharge, splitCharge, spreadCharge, busyCharge, clusterCharge, idleCharge, distributeCharge, lengthsCharge}
 
 -- the table of uses and the table of X say of an instance's timetable what the definitions say
@@ -96,10 +102,6 @@ module _ (i : Instance) (b u x gs : List ℕ) (G : ℕ) (seen : Seen i b u x) (t
   unfolding entryTrue
   uses-valued r ts = map-map (entryTrue (truth i b)) atom (usesAt r ts)
 
-  takes-valued : (e : ℕ) (ts : List ℕ) → map (entryTrue (truth i b)) (takesAt e ts) ≡ marks b ((e - 1) * i .times) ts
-  unfolding entryTrue truth
-  takes-valued e ts = map-map (entryTrue (truth i b)) (λ t. atom (Y e t)) ts
-
   starts-valued : (e : ℕ) (ts : List ℕ) → map (entryTrue (truth i b)) (startsAt e ts) ≡ marks b (slots i + (e - 1) * i .times) ts
   unfolding entryTrue truth
   starts-valued e ts =
@@ -120,7 +122,7 @@ module _ (i : Instance) (b u x gs : List ℕ) (G : ℕ) (seen : Seen i b u x) (t
 
   -- each kind
   abbrev Right : Kind → Type 0
-  Right k = chargeOf (slots i) (i .times) b u x gs k ≡ deviations (truth i b) (rulesOf (i .times) (λ r. users r (i .events)) (groupAt (i .groups)) k)
+  Right k = chargeOf (slots i) (i .times) b u x gs k ≡ deviations (truth i b) (rulesOf (i .times) (durationOf (i .events)) (λ r. users r (i .events)) (groupAt (i .groups)) k)
 
   clash-right : (r : ℕ) → 1 ≤ r → r ≤ 99 → Right (clash r)
   unfolding clashCharge countedOf
@@ -134,12 +136,6 @@ module _ (i : Instance) (b u x gs : List ℕ) (G : ℕ) (seen : Seen i b u x) (t
   unavailable-right r g lo hi o =
       sym (one-list (truth i b) 0 0 (map atom (usesAt r (groupAt (i .groups) g)))
       ∙ rw (deviation-zero, uses-valued r (groupAt (i .groups) g), ← (group-used r g lo hi o)))
-
-  preferred-right : (e g : ℕ) → OneOf G g → Right (preferred e g)
-  unfolding preferredCharge countedOf
-  preferred-right e g o =
-      sym (one-list (truth i b) 0 0 (takesAt e (outside (groupAt (i .groups) g) (upTo (i .times))))
-      ∙ rw (deviation-zero, takes-valued e (outside (groupAt (i .groups) g) (upTo (i .times))), group-is g o))
 
   split-right : (e lo hi : ℕ) → Right (split e lo hi)
   unfolding splitCharge countedOf
@@ -183,27 +179,45 @@ module _ (i : Instance) (b u x gs : List ℕ) (G : ℕ) (seen : Seen i b u x) (t
       (λ t. ap (bit b) (sym (add-assoc (slots i) ((e - 1) * i .times) t)))
       such
 
+  held-alone : (e : ℕ) (such : ℕ → Bool)
+      → timesHeld (i .times) (truth i b) e such ≡ timesHeldAt (i .times) b ((e - 1) * i .times) (slots i + (e - 1) * i .times) such
+  unfolding truth alone
+  held-alone e such =
+      times-held-same (i .times) (truth i b) (alone b ((e - 1) * i .times) (slots i + (e - 1) * i .times)) e 1 such
+      (λ t. refl)
+      (λ t. ap (bit b) (sym (add-assoc (slots i) ((e - 1) * i .times) t)))
+
+  -- an event that takes its duration and starts as it should is charged for the times held by subevents that start outside
+  preferred-right : (e g : ℕ) → OneOf G g → eventRight i (truth i b) e (eventOf (i .events) e) ≡ true → Right (preferred e g)
+  unfolding preferredCharge
+  preferred-right e g o right =
+      sym (times-charged i (truth i b) 0 e g right
+      ∙ deviation-zero (timesHeld (i .times) (truth i b) e (outsideOf (groupAt (i .groups) g)))
+      ∙ held-alone e (outsideOf (groupAt (i .groups) g))
+      ∙ rw (group-is g o))
+
   distribute-right : (e n lo hi : ℕ) → 1 ≤ n → Right (distribute e n lo hi)
   unfolding distributeCharge
   distribute-right e n lo hi h =
-      sym (distribute-counts (i .times) (λ r. users r (i .events)) (groupAt (i .groups)) (truth i b) e n lo hi h ∙ ap (deviation lo hi) (event-alone e (eqb n)))
+      sym (distribute-counts (i .times) (durationOf (i .events)) (λ r. users r (i .events)) (groupAt (i .groups)) (truth i b) e n lo hi h ∙ ap (deviation lo hi) (event-alone e (eqb n)))
 
   lengths-right : (e shortest longest : ℕ) → 1 ≤ shortest → Right (lengths e shortest longest)
   unfolding lengthsCharge
   lengths-right e shortest longest h =
-      sym (lengths-counts (i .times) (λ r. users r (i .events)) (groupAt (i .groups)) (truth i b) e shortest longest h
+      sym (lengths-counts (i .times) (durationOf (i .events)) (λ r. users r (i .events)) (groupAt (i .groups)) (truth i b) e shortest longest h
       ∙ deviation-zero (subevents (i .times) (truth i b) e (λ n. ltb n shortest || ltb longest n))
       ∙ event-alone e (λ n. ltb n shortest || ltb longest n))
 
-  -- a kind whose fields are references to what there is
-  pub charge-right : (n : Counts) (k : Kind) → n .resources ≤ 99 → n .groups ≡ G → InRange n k → Right k
-  charge-right n (clash r) h e v = clash-right r (v .low) (omega (arith, v .high))
-  charge-right n (unavailable r g) h e v = unavailable-right r g (v .0 .low) (omega (arith, v .0 .high)) (rw e at (v .1))
-  charge-right n (preferred ev g) h e v = preferred-right ev g (rw e at (v .1))
-  charge-right n (split ev lo hi) h e v = split-right ev lo hi
-  charge-right n (spread vs g lo hi) h e v = spread-right vs g lo hi (rw e at (v .1))
-  charge-right n (busy r g lo hi) h e v = busy-right r g lo hi (v .0 .low) (omega (arith, v .0 .high)) (rw e at (v .1))
-  charge-right n (cluster r hs lo hi) h e v = cluster-right r hs lo hi (v .0 .low) (omega (arith, v .0 .high)) (rw e at (v .1))
-  charge-right n (idle r hs lo hi) h e v = idle-right r hs lo hi (v .0 .low) (omega (arith, v .0 .high)) (rw e at (v .1))
-  charge-right n (distribute ev l lo hi) h e v = distribute-right ev l lo hi (v .1 .low)
-  charge-right n (lengths ev shortest longest) h e v = lengths-right ev shortest longest (v .1 .low)
+  -- a kind whose fields are references to what there is, in a timetable
+  pub charge-right : (n : Counts) (k : Kind) → Passed i b → n .resources ≤ 99
+      → n .events ≡ length (i .events) → n .groups ≡ G → InRange n k → Right k
+  charge-right n (clash r) w h m e v = clash-right r (v .low) (omega (arith, v .high))
+  charge-right n (unavailable r g) w h m e v = unavailable-right r g (v .0 .low) (omega (arith, v .0 .high)) (rw e at (v .1))
+  charge-right n (preferred ev g) w h m e v = preferred-right ev g (rw e at (v .1)) (each-right i b ev w (v .0 .low) (omega (arith, v .0 .high)))
+  charge-right n (split ev lo hi) w h m e v = split-right ev lo hi
+  charge-right n (spread vs g lo hi) w h m e v = spread-right vs g lo hi (rw e at (v .1))
+  charge-right n (busy r g lo hi) w h m e v = busy-right r g lo hi (v .0 .low) (omega (arith, v .0 .high)) (rw e at (v .1))
+  charge-right n (cluster r hs lo hi) w h m e v = cluster-right r hs lo hi (v .0 .low) (omega (arith, v .0 .high)) (rw e at (v .1))
+  charge-right n (idle r hs lo hi) w h m e v = idle-right r hs lo hi (v .0 .low) (omega (arith, v .0 .high)) (rw e at (v .1))
+  charge-right n (distribute ev l lo hi) w h m e v = distribute-right ev l lo hi (v .1 .low)
+  charge-right n (lengths ev shortest longest) w h m e v = lengths-right ev shortest longest (v .1 .low)

@@ -6,9 +6,10 @@ use Prim.Native.Nat.{ℕ, _+_, _-_, _*_, _≤_}
 use native.Mathlib.Nat.{mul-le-mul-left}
 use native.Mathlib.Omega.{arith}
 use lib.ListN.{length, length-append, length-map}
-use Rattle.scope.specs.Kinds.{Kind, clash, unavailable, preferred, split, spread, busy, cluster, idle, distribute, lengths, Y, Entry, atom, anyOf, gap, Node, entryNodes, added, entriesNodes, entriesMembers, Listed, entries, Counted, upTo, startOf, startAbove, startOutside, timeByTime, ofLength, ofLengthOutside, countedOf, longest}
+use Rattle.scope.specs.Kinds.{Kind, clash, unavailable, preferred, split, spread, busy, cluster, idle, distribute, lengths, Y, Entry, atom, anyOf, gap, is, aNode, Node, entryNodes, added, entriesNodes, entriesMembers, Listed, entries, Counted, upTo, reached, fromOutside, startOf, startAbove, startOutside, timeByTime, ofLength, ofLengthOutside, countedOf, longest}
 use Rattle.parsing.specs.Each.{Each, each-none, each-more}
 use Rattle.theory.proofs.laws.Ranges.{length-from}
+use Rattle.theory.proofs.laws.ReachLists.{length-reach-nodes, length-reach-members}
 use Rattle.theory.proofs.laws.TimeByTime.{length-timed, length-timed-nodes, outside-either}
 use Rattle.list_nodes.specs.Stored.{Short}
 
@@ -35,6 +36,13 @@ entries-few (x ∷ xs) k =
 entries-small : (xs : List Entry) → Small (entries xs)
 entries-small xs = record { few = omega (arith, entries-few xs 0) }
 
+-- up to three nodes for each member
+reach-small : (T e d : ℕ) (g : List ℕ) → Small (fromOutside T e d g)
+unfolding fromOutside
+reach-small T e d g =
+    let xs = reached d g 0 (upTo T) in
+    record { few = omega (arith, length-reach-nodes e xs 0 (is (aNode 0)), length-reach-members e xs 0) }
+
 -- up to three nodes for each time after a first one for each
 timed-small : (T e s : ℕ) (f : ℕ → List Node) → ((t : ℕ) → length (f t) ≡ s) → s ≤ 3 → Small (timeByTime T e s f)
 timed-small T e s f rows h =
@@ -59,18 +67,18 @@ pub data Shape (T : ℕ) (c : Counted) : Type 0 where
   time-lists : (us : List ℕ) → c .lists ≡ map (timeList us) (upTo T) → c .lo ≡ 0 → Shape T c
 
 -- that of each kind
-pub lists-shape : (T : ℕ) (us group : ℕ → List ℕ) (k : Kind) → Shape T (countedOf T us group k)
+pub lists-shape : (T : ℕ) (dur : ℕ → ℕ) (us group : ℕ → List ℕ) (k : Kind) → Shape T (countedOf T dur us group k)
 unfolding countedOf
-lists-shape T us group (clash r) = time-lists (us r) refl refl
-lists-shape T us group (unavailable r g) = one-list _ (entries-small _) refl
-lists-shape T us group (preferred e g) = one-list _ (entries-small _) refl
-lists-shape T us group (split e lo hi) = one-list _ (entries-small _) refl
-lists-shape T us group (spread vs g lo hi) = one-list _ (entries-small _) refl
-lists-shape T us group (busy r g lo hi) = one-list _ (entries-small _) refl
-lists-shape T us group (cluster r hs lo hi) = one-list _ (entries-small _) refl
-lists-shape T us group (idle r hs lo hi) = one-list _ (entries-small _) refl
-lists-shape T us group (distribute e n lo hi) = one-list _ (of-small T e n) refl
-lists-shape T us group (lengths e a b) = one-list _ (outside-small T e a b) refl
+lists-shape T dur us group (clash r) = time-lists (us r) refl refl
+lists-shape T dur us group (unavailable r g) = one-list _ (entries-small _) refl
+lists-shape T dur us group (preferred e g) = one-list _ (reach-small T e (dur e) (group g)) refl
+lists-shape T dur us group (split e lo hi) = one-list _ (entries-small _) refl
+lists-shape T dur us group (spread vs g lo hi) = one-list _ (entries-small _) refl
+lists-shape T dur us group (busy r g lo hi) = one-list _ (entries-small _) refl
+lists-shape T dur us group (cluster r hs lo hi) = one-list _ (entries-small _) refl
+lists-shape T dur us group (idle r hs lo hi) = one-list _ (entries-small _) refl
+lists-shape T dur us group (distribute e n lo hi) = one-list _ (of-small T e n) refl
+lists-shape T dur us group (lengths e a b) = one-list _ (outside-small T e a b) refl
 
 each-of : {A : Type 0} {P : A → Type 0} (f : ℕ → A) → ((t : ℕ) → P (f t)) → (ts : List ℕ) → Each P (map f ts)
 each-of f p [] = each-none

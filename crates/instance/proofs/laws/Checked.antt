@@ -20,7 +20,7 @@ use Rattle.tables.proofs.laws.Occurrences.{users-counted}
 use Rattle.constraint.specs.declared.kinds.Head.{Head}
 use Rattle.constraint.specs.Answers.{countsIn}
 use Rattle.constraint.specs.Decoded.{longestOf}
-use Rattle.constraint.proofs.laws.Decoded.{checked-same, constraint-checked}
+use Rattle.constraint.proofs.laws.Decoded.{constraint-checked}
 use Rattle.instance.specs.declared.reader.Sizes.{Sizes}
 use Rattle.instance.specs.declared.reader.SizesRead.{SizesRead}
 use Rattle.instance.specs.Answers.{saidTables, startOf, headStart, headOf, constraintsOf, instanceOf}
@@ -30,7 +30,7 @@ use Rattle.instance.specs.File.{withConstraints, constraintIn, tablesAt}
 use Rattle.instance.proofs.laws.File.{restAt, parse-parts}
 use Rattle.constraint_end.proofs.laws.Length.{list-length}
 use Rattle.constraint_end.specs.Ready.{Lent, lengthBy, checkedBy, checkedAll, checkedWhole, byCounts, byRows}
-use Rattle.constraint_end.proofs.laws.Ready.{checkedBy-same}
+use Rattle.constraint_end.proofs.laws.Ready.{checked-alike, checkedBy-same}
 use Rattle.instance.proofs.laws.Sequence.{step-tables}
 use Rattle.instance.proofs.laws.Start.{StartIn, tables-start}
 
@@ -75,8 +75,8 @@ module _ (s d te tg : List ℕ) (h : Head) (i : StartIn (headStart d te tg h)) w
       sym
       (constraint-checked (h .times) (h .resources) es gs s at
       ∙ rw counts-are
-      (checked-same (countsIn h) (longestOf (h .times) es gs) (lengthBy (byRows te (h .events)) tg h) s at
-      (λ k. list-length (h .times) (byRows te (h .events)) es gs k (i .sizes .times-low) used-right (i .groups))))
+      (checked-alike (countsIn h) (longestOf (h .times) es gs) (lengthBy (byRows te (h .events)) tg h) s at
+      (λ k. list-length (h .times) (byRows te (h .events)) es gs k (i .sizes .times-low) (omega (arith, i .sizes .times-high)) used-right)))
 
   -- the constraints of the instance, up to the file's end
   abbrev wholeIn : Parsed (List Constraint)

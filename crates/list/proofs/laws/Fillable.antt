@@ -6,7 +6,7 @@ use native.Mathlib.Omega.{arith}
 use lib.ListN.{length, length-append, length-map}
 use Rattle.scope.specs.Cnf.{Gate, or}
 use Rattle.scope.specs.Formula.{refLiteral, nodeGate}
-use Rattle.scope.specs.Kinds.{Kind, clash, spread, cluster, idle, Atom, Y, Entry, atom, entries, entriesNodes, entriesMembers, upTo, countedOf}
+use Rattle.scope.specs.Kinds.{Kind, clash, preferred, spread, cluster, idle, Atom, Y, Entry, atom, entries, entriesNodes, entriesMembers, upTo, countedOf}
 use Rattle.parsing.proofs.laws.Each.{each-head}
 use Rattle.number.specs.Lists.{leading}
 use Rattle.number.proofs.laws.Lists.{length-leading}
@@ -21,7 +21,7 @@ use Rattle.list_nodes.specs.Ground.{layoutOf}
 use Rattle.list_nodes.proofs.laws.Ground.{ground-groups}
 use Rattle.list_nodes.proofs.GroupRows.{known-row}
 use Rattle.list_nodes.proofs.laws.Runs.{length-from, length-every}
-use Rattle.list_nodes.specs.Stored.{countedIn, Fits}
+use Rattle.list_nodes.specs.Stored.{countedIn, listIn, Fits}
 use Rattle.plain_lists.proofs.laws.Atoms.{spread-add}
 use Rattle.node_lists.specs.Cluster.{rowIn, xsOf}
 use Rattle.node_lists.proofs.laws.Cluster.{cluster-adds}
@@ -45,10 +45,10 @@ module _ {num : Atom → ℕ} {l : List Entry} {v k : ℕ} {gs : List Gate} {xs 
   members-length = sym (length-map (entriesMembers l k) (refLiteral num v)) ∙ ap length (a .literals)
 
 -- the times of a clash
-pub clash-time : {users groups list words : List ℕ} {h : Head} {r t v : ℕ} → Fillable users groups list h (clash r) t v words
+pub clash-time : {durations users groups list words : List ℕ} {h : Head} {r t v : ℕ} → Fillable durations users groups list h (clash r) t v words
     → Within (h .times) t
 unfolding countedOf
-clash-time {users} {h = h} {r = r} f =
+clash-time {users = users} {h = h} {r = r} f =
     record {
       low = f .first;
       high =
@@ -61,14 +61,21 @@ clash-time {users} {h = h} {r = r} f =
     }
 
 -- the list of a kind that has one
-pub only-one : {users groups list words : List ℕ} {h : Head} {k : Kind} {t v : ℕ} → Fillable users groups list h k t v words
-    → length (countedIn (usersAt users) groups h k .lists) ≡ 1
+pub only-one : {durations users groups list words : List ℕ} {h : Head} {k : Kind} {t v : ℕ} → Fillable durations users groups list h k t v words
+    → length (countedIn durations (usersAt users) groups h k .lists) ≡ 1
     → t ≡ 1
 only-one f e = omega (arith, f .first, f .last)
 
+-- the variables of a preferred time's nodes
+pub preferred-small : {durations users groups list words : List ℕ} {h : Head} {e g t v : ℕ}
+    → Fillable durations users groups list h (preferred e g) t v words
+    → v + length (listIn durations (λ r. []) groups h (preferred e g) 1 .nodes) ≤ 8000001
+unfolding countedOf
+preferred-small f = rw (only-one f refl) at (f .small)
+
 -- how many members a spread, a cluster and an idle limit have
-module _ (users groups list : List ℕ) (h : Head) where
-  pub spread-short : (n g lo hi : ℕ) → Fits users groups list h (spread (leading n list) g lo hi) → n * length (rowAt groups (g - 1)) ≤ 255
+module _ (durations users groups list : List ℕ) (h : Head) where
+  pub spread-short : (n g lo hi : ℕ) → Fits durations users groups list h (spread (leading n list) g lo hi) → n * length (rowAt groups (g - 1)) ≤ 255
   unfolding countedOf
   spread-short n g lo hi f =
       let s = each-head (f .short) .most in
@@ -76,14 +83,14 @@ module _ (users groups list : List ℕ) (h : Head) where
       let c = rw (length-leading n list) at (length-each (sAt (h .times) (layoutOf h)) (groupIn (h .groups) groups g) (leading n list)) in
       rw (← (known-row groups h g (f .range .1))) (omega (arith, s, members-length a, c))
 
-  pub cluster-short : (r n lo hi : ℕ) → Fits users groups list h (cluster r (leading n list) lo hi) → n ≤ 255
+  pub cluster-short : (r n lo hi : ℕ) → Fits durations users groups list h (cluster r (leading n list) lo hi) → n ≤ 255
   unfolding countedOf
   cluster-short r n lo hi f =
       let s = each-head (f .short) .most in
       let a = cluster-adds (h .times) (layoutOf h) (groupIn (h .groups) groups) r (leading n list) 0 in
       omega (arith, s, members-length a, length-every 1 0 (length (leading n list)), length-leading n list)
 
-  pub idle-short : (r n lo hi : ℕ) → Fits users groups list h (idle r (leading n list) lo hi)
+  pub idle-short : (r n lo hi : ℕ) → Fits durations users groups list h (idle r (leading n list) lo hi)
       → innerCount (xsOf (h .times) (layoutOf h .uses) (rowIn groups) r (leading n list)) ≤ 255
   unfolding countedOf
   idle-short r n lo hi f =
@@ -95,7 +102,7 @@ module _ (users groups list : List ℕ) (h : Head) where
 
   -- the variables of their nodes
   module _ (r n lo hi t v : ℕ) (words : List ℕ) where
-    pub cluster-small : Fillable users groups list h (cluster r (leading n list) lo hi) t v words → v + n ≤ 8000001
+    pub cluster-small : Fillable durations users groups list h (cluster r (leading n list) lo hi) t v words → v + n ≤ 8000001
     unfolding countedOf
     cluster-small f =
         let s = rw (only-one f refl) at (f .small) in
@@ -110,7 +117,7 @@ module _ (users groups list : List ℕ) (h : Head) where
           length-leading n list,
         )
 
-    pub idle-small : Fillable users groups list h (idle r (leading n list) lo hi) t v words
+    pub idle-small : Fillable durations users groups list h (idle r (leading n list) lo hi) t v words
         → v + 3 * innerCount (xsOf (h .times) (layoutOf h .uses) (rowIn groups) r (leading n list)) ≤ 8000001
     unfolding countedOf
     idle-small f =

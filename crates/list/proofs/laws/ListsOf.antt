@@ -7,7 +7,7 @@ use Rattle.scope.specs.Kinds.{clash, Y, atom, entries, upTo, countedOf}
 use Rattle.list_nodes.proofs.laws.Runs.{length-from}
 
 -- those of a clash
-pub clash-lists : (T : ℕ) (us group : ℕ → List ℕ) (r : ℕ) → T ≡ length (countedOf T us group (clash r) .lists)
+pub clash-lists : (T : ℕ) (dur : ℕ → ℕ) (us group : ℕ → List ℕ) (r : ℕ) → T ≡ length (countedOf T dur us group (clash r) .lists)
 unfolding countedOf
-clash-lists T us group r =
+clash-lists T dur us group r =
     sym (length-map (upTo T) (λ t. entries (map (λ e. atom (Y e t)) (us r))) ∙ length-from 1 T)

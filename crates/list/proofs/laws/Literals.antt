@@ -6,7 +6,7 @@ use native.Mathlib.Omega.{arith}
 use lib.ListN.{length, getD, take, drop, length-map}
 use Rattle.scope.specs.Cnf.{pos, opp, Gate, or, and}
 use Rattle.scope.specs.Formula.{refLiteral, nodeGate}
-use Rattle.scope.specs.Kinds.{Kind, clash, unavailable, preferred, split, spread, busy, cluster, idle, distribute, lengths, Atom, Y, Entry, atom, entries, Listed, upTo, outside, countedOf}
+use Rattle.scope.specs.Kinds.{Kind, clash, unavailable, preferred, split, spread, busy, cluster, idle, distribute, lengths, Atom, Y, Entry, atom, entries, Listed, upTo, countedOf}
 use Rattle.parsing.specs.Each.{Each, each-none, each-more}
 use Rattle.parsing.proofs.laws.Each.{each-at, each-drop}
 use Rattle.constraint.specs.declared.kinds.Head.{Head}
@@ -15,12 +15,11 @@ use Rattle.literals.specs.Variables.{Within}
 use Rattle.literals.proofs.laws.Variables.{xAt}
 use Rattle.user_table.specs.Filled.{usersAt}
 use Rattle.literals.specs.Proper.{Proper}
-use Rattle.literals.proofs.laws.Proper.{each-both, times-proper, events-proper, spread-proper, every-proper, upTo-within, outside-within, ascending-within}
-use Rattle.literals.specs.Tables.{groupIn}
+use Rattle.literals.proofs.laws.Proper.{each-both, times-proper, events-proper, spread-proper, every-proper, upTo-within, ascending-within}
+use Rattle.literals.specs.Tables.{durationIn, groupIn}
 use Rattle.literals.specs.Numbered.{noList}
 use Rattle.literals.specs.NodeWords.{IsNode}
 use Rattle.literals.proofs.laws.Entries.{Adds}
-use Rattle.literals.proofs.laws.Laws.{takes-add}
 use Rattle.list_nodes.specs.Ground.{Ground, layoutOf}
 use Rattle.list_nodes.proofs.laws.Ground.{ground-sizes, ground-event, ground-resource, ground-ascends, ground-groups, ground-events}
 use Rattle.list_nodes.specs.Stored.{countedIn, listIn, numOf, Short}
@@ -34,14 +33,11 @@ use Rattle.node_lists.proofs.laws.Idle.{idleGates, length-idle, idle-adds}
 use Rattle.node_lists.specs.Lengths.{outsideCount}
 use Rattle.node_lists.proofs.laws.Lengths.{ByNumbers, of-length, of-length-outside}
 use Rattle.list.specs.Fillable.{Fillable}
+pub use Rattle.list.proofs.laws.OverLiterals.{OverLiterals}
 use Rattle.list.proofs.laws.LengthLiterals.{length-nodes, outside-nodes, last-proper, count-few}
+use Rattle.list.proofs.laws.ReachLiterals.{reach-literals}
 use Rattle.list.proofs.laws.Proper.{opposite-proper, output-proper}
 use Rattle.list.proofs.laws.Fillable.{clash-time, only-one, nodes-length}
-
--- its first node is the variable v
-pub record OverLiterals (num : Atom → ℕ) (l : Listed) (v : ℕ) : Type 0 where
-  pub nodes : Each IsNode (map (nodeGate num v) (l .nodes))
-  pub members : Each Proper (map (refLiteral num v) (l .members))
 
 adds-literals : {num : Atom → ℕ} {l : List Entry} {v : ℕ} {gs : List Gate} {xs : List ℕ}
     → Adds num l v 0 gs xs
@@ -100,8 +96,8 @@ idle-nodes (xs ∷ xss) (each-more p ps) v a b =
     (idle-nodes xss ps (v + 3 * (length xs - 2)) (omega arith) (omega arith))
 
 -- those of each kind
-module _ (users groups list : List ℕ) (h : Head) (t v : ℕ) (words : List ℕ) (s : 1 ≤ v) where
-  pub list-literals : (k : Kind) → Fillable users groups list h k t v words → OverLiterals (numOf h) (listIn (usersAt users) groups h k t) v
+module _ (durations users groups list : List ℕ) (h : Head) (t v : ℕ) (words : List ℕ) (s : 1 ≤ v) where
+  pub list-literals : (k : Kind) → Fillable durations users groups list h k t v words → OverLiterals (numOf h) (listIn durations (usersAt users) groups h k t) v
   unfolding countedOf
   list-literals (clash r) f =
       let w = clash-time f in
@@ -114,11 +110,8 @@ module _ (users groups list : List ℕ) (h : Head) (t v : ℕ) (words : List ℕ
       (adds-literals (uses-add (h .times) (layoutOf h) r (groupIn (h .groups) groups m) v 0) each-none
       (uses-proper (f .fits .ground) (f .fits .range .0) (f .fits .range .1)))
   list-literals (preferred e m) f =
-      let g = f .fits .ground in
       rw (only-one f refl)
-      (adds-literals (takes-add (h .times) (layoutOf h) e (outside (groupIn (h .groups) groups m) (upTo (h .times))) v 0) each-none
-      (times-proper 0 (h .times) e (omega arith) (g .times) (ground-event g (f .fits .range .0))
-      (outside-within (groupIn (h .groups) groups m) (upTo-within 125 (h .times) (g .times)))))
+      (reach-literals (f .fits .ground) (f .fits .range .0) (durationIn (h .events) durations e) (groupIn (h .groups) groups m) v s (rw (only-one f refl) at (f .small)))
   list-literals (split e lo hi) f =
       let g = f .fits .ground in
       rw (only-one f refl)
@@ -172,6 +165,6 @@ module _ (users groups list : List ℕ) (h : Head) (t v : ℕ) (words : List ℕ
       (last-proper (h .times) v (outsideCount a) (g .times) s m (count-few a .0) (count-few a .1)))
 
   -- it has at most 255 members, and the low bound is no more than these
-  pub list-short : (k : Kind) → Fillable users groups list h k t v words
-      → Short (countedIn (usersAt users) groups h k) (listIn (usersAt users) groups h k t)
+  pub list-short : (k : Kind) → Fillable durations users groups list h k t v words
+      → Short (countedIn durations (usersAt users) groups h k) (listIn durations (usersAt users) groups h k t)
   list-short k f = each-at (t - 1) noList (f .fits .short) (omega (arith, f .first, f .last))

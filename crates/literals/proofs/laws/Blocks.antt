@@ -1,15 +1,17 @@
 -- The formula's blocks by numbers, and the whole formula.
-use Prim.Native.Nat.{ℕ, zero, suc, _+_}
-use mathlib.Core.Path.{_≡_, refl, sym, ap, _∙_}
+use Prim.Native.Nat.{ℕ, zero, suc, _+_, _-_}
+use mathlib.Core.Path.{_≡_, refl, sym, ap, fun-ext, _∙_}
 use mathlib.Core.List.{List, [], _∷_, _++_, map, flatMap, append-assoc}
 use native.Mathlib.Omega.{arith}
 use native.Mathlib.Nat.{add-zero}
-use Rattle.scope.specs.Kinds.{Event, Constraint, Atom, Y, entries, Counted, between, Rule, takesAt, upTo, users, groupAt, countedOf}
+use lib.ListN.{List·getD-map}
+use Rattle.scope.specs.Kinds.{Event, Constraint, Atom, Y, entries, Counted, between, Rule, takesAt, upTo, durationOf, users, groupAt, countedOf}
 use Rattle.scope.specs.Instance.{Instance}
 use Rattle.scope.specs.Score.{layout, rules, eventCount}
 use Rattle.scope.specs.Cnf.{or, Item, gate, hard, soft, gates}
 use Rattle.scope.specs.Formula.{num, yBefore, startItems, starts, uses, durationRules, constraintRules, rulesItems, ruleItems, formula}
 use Rattle.literals.specs.Variables.{yAt}
+use Rattle.literals.specs.Tables.{durationAt}
 use Rattle.literals.specs.Numbered.{plain, numberedItems, numberOf, allNumbered, numbered, durationLists, earlier, startClauses, useGates, constraintItems, listItems, numberedFormula}
 use Rattle.literals.proofs.laws.Laws.{y-literal, s-literal, takes-add, rule-items, rules-items}
 
@@ -39,6 +41,11 @@ rules-both f (r ∷ rs) ss v =
     let js = rulesItems f rs (v + gates is) in
     let e : v + gates is + gates js ≡ v + gates (is ++ js) = omega (arith, gates-both is js) in
     rw (rules-both f rs ss (v + gates is), e) (sym (append-assoc is js _))
+
+-- the durations of events in a list of them
+durations-listed : (es : List Event) → _≡_ {A = ℕ → ℕ} (durationOf es) (durationAt (map (λ x. x .duration) es))
+durations-listed es =
+    fun-ext (λ e. sym (List·getD-map (λ (x : Event). x .duration) es (e - 1) (record { duration = 0; resources = [] })))
 
 module _ (i : Instance) where
   -- 1. the starts
@@ -90,13 +97,13 @@ module _ (i : Instance) where
   -- 4. the constraints
   pub constraint-items : (cs : List Constraint) (v : ℕ)
       → rulesItems (num i) (constraintRules i cs) v
-      ≡ constraintItems (i .times) (layout i) (λ r. users r (i .events)) (groupAt (i .groups)) cs v
+      ≡ constraintItems (i .times) (layout i) (map (λ x. x .duration) (i .events)) (λ r. users r (i .events)) (groupAt (i .groups)) cs v
   unfolding constraintRules rulesItems constraintItems flatMap numbered
   constraint-items [] v = refl
   constraint-items (c ∷ cs) v =
-      let k : Counted = countedOf (i .times) (λ r. users r (i .events)) (groupAt (i .groups)) (c .kind) in
+      let k : Counted = countedOf (i .times) (durationOf (i .events)) (λ r. users r (i .events)) (groupAt (i .groups)) (c .kind) in
       rules-both (num i) (map (λ r. (c .weight, r)) (rules i c)) (constraintRules i cs) v
-      ∙ rw (rules-items (num i) k (k .lists) (c .weight) v, constraint-items cs _)
+      ∙ rw (rules-items (num i) k (k .lists) (c .weight) v, constraint-items cs _, durations-listed (i .events))
 
   -- the whole
   pub formula-numbers : formula i

@@ -1,9 +1,8 @@
 -- The gathered literals are literals of variables, and fit a word with a bit to spare: laws.
 use Prim.Native.Nat.{ℕ, zero, suc, _+_, _-_, _*_, _≤_, _<_}
-use mathlib.Core.Bool.{Bool, true, false, cond}
-use mathlib.Core.List.{List, _∷_, _++_, map, flatMap}
+use mathlib.Core.List.{List, _++_, map, flatMap}
 use native.Mathlib.Omega.{arith}
-use Rattle.scope.specs.Kinds.{from, upTo, member, outside}
+use Rattle.scope.specs.Kinds.{from, upTo}
 use Rattle.parsing.specs.Each.{Each, each-none, each-more}
 use Rattle.parsing.specs.Numbers.{Ascending, none, more}
 use Rattle.literals.specs.Variables.{baseOf, literalAt, yAt, Within}
@@ -46,7 +45,7 @@ every-proper step v zero h l = each-none
 every-proper step v (suc n) h l =
     each-more {x = 2 * v} (record { low = omega arith; high = omega arith }) (every-proper step (v + step) n (omega arith) (omega arith))
 
--- the numbers up to n, those of an ascending list, and those outside a group
+-- the numbers up to n, and those of an ascending list
 from-within : (n k v : ℕ) → 1 ≤ v → v + k ≤ n + 1 → Each (Within n) (from v k)
 unfolding from
 from-within n zero v h l = each-none
@@ -58,12 +57,3 @@ upTo-within n k h = from-within n k 1 (omega arith) (omega arith)
 pub ascending-within : {n before : ℕ} {l : List ℕ} (m : ℕ) → n ≤ m → Ascending n before l → Each (Within m) l
 ascending-within m h none = each-none
 ascending-within m h (more {x = x} a b r) = each-more {x = x} (record { low = omega arith; high = omega arith }) (ascending-within m h r)
-
-pub outside-within : {P : ℕ → Type 0} (g : List ℕ) {ts : List ℕ} → Each P ts → Each P (outside g ts)
-unfolding outside
-outside-within g each-none = each-none
-outside-within {P} g (each-more {x = t} {xs = ts} p ps) = by (member t g) (outside-within g ps)
-  where
-    by : (b : Bool) → Each P (outside g ts) → Each P (cond b (outside g ts) (t ∷ outside g ts))
-    by true q = q
-    by false q = each-more p q

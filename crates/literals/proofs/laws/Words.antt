@@ -1,14 +1,13 @@
 -- Lists at the front of a lent slice of words: laws.
-use Prim.Native.Nat.{ℕ, _+_, _-_, _<_, _≤_}
+use Prim.Native.Nat.{ℕ, _+_, _<_, _≤_}
 use mathlib.Core.Path.{_≡_, refl, ap, _∙_}
-use mathlib.Core.List.{List, [], _∷_, _++_, append-nil}
+use mathlib.Core.List.{List, [], _∷_, _++_}
 use mathlib.Core.Bool.{Bool, true, false, cond}
 use lib.Dec.{eqb}
 use lib.ListN.{length, getD, drop, set, length-append, drop-of-length-le}
-use lib.Seq.{take-suc-set, take-set-le, drop-cons}
+use lib.Seq.{take-suc-set, drop-cons}
 use native.Mathlib.Omega.{arith}
 use native.Mathlib.Numerals.{add-one}
-use native.Mathlib.Nat.{add-zero}
 use Rattle.literals.specs.Words.{Indicator, Holds, startsWith}
 
 pub indicator-most : {b : Bool} {k : ℕ} → Indicator b k → k ≤ 1
@@ -26,25 +25,12 @@ holds-none words = record { count = refl; front = refl }
 pub holds-as : {words : List ℕ} {n : ℕ} {xs ys : List ℕ} → xs ≡ ys → Holds words n xs → Holds words n ys
 holds-as e h = record { count = h .count ∙ ap length e; front = h .front ∙ e }
 
-module _ {words : List ℕ} {n : ℕ} {xs : List ℕ} (h : Holds words n xs) where
-  pub holds-more : (x : ℕ) → n < length words → Holds (set words n x) (n + 1) (xs ++ (x ∷ []))
-  holds-more x l =
-      record {
-        count = simp length-append (omega (arith, h .count));
-        front = rw (add-one n, take-suc-set words n x l, h .front);
-      }
-
-  -- a word that is stored, and taken only where b is false
-  pub holds-unless : {b : Bool} {k : ℕ} → Indicator b k → (x : ℕ) → n < length words → Holds (set words n x) (n + (1 - k)) (xs ++ cond b [] (x ∷ []))
-  holds-unless {b} {k} o x l = rw (o .is) (by b)
-    where
-      by : (b : Bool) → Holds (set words n x) (n + (1 - cond b 1 0)) (xs ++ cond b [] (x ∷ []))
-      by true =
-          record {
-            count = rw (add-zero n, append-nil xs) (h .count);
-            front = rw (add-zero n, append-nil xs, take-set-le n words n x (omega arith)) (h .front);
-          }
-      by false = holds-more x l
+pub holds-more : {words : List ℕ} {n : ℕ} {xs : List ℕ} → Holds words n xs → (x : ℕ) → n < length words → Holds (set words n x) (n + 1) (xs ++ (x ∷ []))
+holds-more {words} {n} h x l =
+    record {
+      count = simp length-append (omega (arith, h .count));
+      front = rw (add-one n, take-suc-set words n x l, h .front);
+    }
 
 module _ (x : ℕ) (l : List ℕ) (k : ℕ) where
   pub with-past : length l ≤ k → startsWith x (drop k l) ≡ false

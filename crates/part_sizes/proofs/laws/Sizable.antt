@@ -14,7 +14,7 @@ use Rattle.constraint.specs.Bounds.{lowOf, highOf, freeOf}
 use Rattle.constraint.proofs.laws.Bounds.{bounds-right}
 use Rattle.user_table.specs.Filled.{usersAt}
 use Rattle.literals.specs.Numbered.{noList}
-use Rattle.literals.specs.Tables.{groupIn}
+use Rattle.literals.specs.Tables.{groupIn, durationIn}
 use Rattle.list_nodes.specs.Stored.{Short, listAt, countedIn, listIn}
 use Rattle.fitting.proofs.laws.Lists.{Shape, lists-shape, Small, lists-small, Like, lists-alike}
 use Rattle.sizing.specs.declared.Size.{Size}
@@ -26,32 +26,32 @@ use Rattle.part_sizes.specs.Listed.{ListSized}
 use Rattle.part_sizes.proofs.laws.Listed.{BoundsOf}
 use Rattle.part_sizes.specs.Sizable.{listsSize, Sizable, CountedSized}
 
-module _ {users groups list : List ℕ} {h : Head} {c : Constraint} (s : Sizable users groups list h c) where
+module _ {durations users groups list : List ℕ} {h : Head} {c : Constraint} (s : Sizable durations users groups list h c) where
   -- what it counts
   abbrev countedBy : Counted
-  countedBy = countedIn (usersAt users) groups h (c .kind)
+  countedBy = countedIn durations (usersAt users) groups h (c .kind)
 
   pub sizable-bounds : {b : Bounds} → b ≡ record { lo = lowOf (c .kind); hi = highOf (c .kind); free = freeOf (c .kind) }
       → BoundsOf countedBy b
   sizable-bounds e =
-      let r = bounds-right (h .times) (usersAt users) (groupIn (h .groups) groups) (c .kind) in
+      let r = bounds-right (h .times) (durationIn (h .events) durations) (usersAt users) (groupIn (h .groups) groups) (c .kind) in
       record { lo = rw (e, r .lo); hi = rw (e, r .hi); free = rw (e, r .free) }
 
   pub sizable-ordered : countedBy .lo ≤ countedBy .hi
   sizable-ordered =
-      let r = bounds-right (h .times) (usersAt users) (groupIn (h .groups) groups) (c .kind) in
+      let r = bounds-right (h .times) (durationIn (h .events) durations) (usersAt users) (groupIn (h .groups) groups) (c .kind) in
       omega (arith, r .lo, r .hi, s .ordered)
 
   pub sizable-shape : Shape (h .times) countedBy
-  sizable-shape = lists-shape (h .times) (usersAt users) (groupIn (h .groups) groups) (c .kind)
+  sizable-shape = lists-shape (h .times) (durationIn (h .events) durations) (usersAt users) (groupIn (h .groups) groups) (c .kind)
 
   -- its first list is short, and so its nodes have small numbers
-  pub sizable-short : Short countedBy (listIn (usersAt users) groups h (c .kind) 1)
+  pub sizable-short : Short countedBy (listIn durations (usersAt users) groups h (c .kind) 1)
   sizable-short = each-at 0 noList (s .fits .short) (omega (arith, s .some))
 
-  pub sizable-small : 1 + length (listIn (usersAt users) groups h (c .kind) 1 .nodes) ≤ 8000001
+  pub sizable-small : 1 + length (listIn durations (usersAt users) groups h (c .kind) 1 .nodes) ≤ 8000001
   sizable-small =
-      let small : Small (listIn (usersAt users) groups h (c .kind) 1) =
+      let small : Small (listIn durations (usersAt users) groups h (c .kind) 1) =
       each-at 0 noList (lists-small sizable-shape) (omega (arith, s .some))
       in
       omega (arith, small .few, sizable-short .most)

@@ -27,16 +27,16 @@ use Rattle.part_sizes.specs.Sizable.{Sizable, CountedSized}
 use Rattle.part_sizes.specs.Walked.{Tabled, Walkable, Addable, added, TotalWithin, TotalOf}
 
 -- stores of the same lengths change nothing
-pub walkable-kept : {s us tg list store list′ store′ : List ℕ} {h : Head} {cols : ℕ} {before : Size}
-    → Walkable s us tg list store h cols before
+pub walkable-kept : {s d us tg list store list′ store′ : List ℕ} {h : Head} {cols : ℕ} {before : Size}
+    → Walkable s d us tg list store h cols before
     → length list′ ≡ length list
     → length store′ ≡ length store
-    → Walkable s us tg list′ store′ h cols before
+    → Walkable s d us tg list′ store′ h cols before
 walkable-kept w e f =
     record {
-      durations = w .durations;
       resources = w .resources;
       tabled = w .tabled;
+      durations-long = w .durations-long;
       groups-long = w .groups-long;
       list-long = e ∙ w .list-long;
       store-long = f ∙ w .store-long;
@@ -89,10 +89,10 @@ module _ {s d te us tg : List ℕ} {h : Head} (a : Tabled s d te us tg h) {cols 
 
     module _ {next : ℕ} {c : Constraint} (n : NextOf (a .accepted) k next c) where
       -- it can be sized
-      pub part-sizable : {list : List ℕ} → length tg ≡ 129024 → length list ≡ 2048 → Sizable us tg list h c
-      part-sizable lg ll =
+      pub part-sizable : {list : List ℕ} → length d ≡ 1024 → length tg ≡ 129024 → length list ≡ 2048 → Sizable d us tg list h c
+      part-sizable ld lg ll =
           record {
-            fits = known-fits (a .accepted) (a .filled) (n .valid) lg ll;
+            fits = known-fits (a .accepted) (a .filled) (n .valid) ld lg ll;
             weight = n .valid .weight;
             ordered = n .valid .ordered;
             few = known-few (a .accepted) (a .filled) (n .valid);
@@ -100,7 +100,7 @@ module _ {s d te us tg : List ℕ} {h : Head} (a : Tabled s d te us tg h) {cols 
           }
 
       -- and was
-      module _ {one : Size} (z : CountedSized (c .weight) (countedIn (usersAt us) tg h (c .kind)) one) where
+      module _ {one : Size} (z : CountedSized (c .weight) (countedIn d (usersAt us) tg h (c .kind)) one) where
         sized : one ≡ constraintSize (instanceOf s d te tg h) c
         sized = rw (known-counted (a .accepted) (a .filled) (c .kind)) (z .eq)
 

@@ -1,5 +1,5 @@
--- The literals of the lists that have no nodes: Y of events at a time, Y and S of an event, and X of a resource, at some times, S
--- of events at some times.
+-- The literals of the lists that have no nodes: Y of events at a time, S of an event, and X of a resource, at some times, S of events at
+-- some times.
 use Prim.Native.Nat.{ℕ}
 use mathlib.Core.List.{List, [], map, flatMap, map-map}
 use Rattle.scope.specs.declared.Layout.{Layout}

@@ -5,13 +5,12 @@ use mathlib.Core.List.{List, map, flatMap}
 use native.Mathlib.Omega.{arith}
 use native.Mathlib.Nat.{add-zero}
 use lib.ListN.{getD}
-use Rattle.scope.specs.Kinds.{clash, unavailable, preferred, split, spread, busy, Y, atom, entries, Listed, from, upTo, outside, countedOf}
+use Rattle.scope.specs.Kinds.{clash, unavailable, split, spread, busy, Y, atom, entries, Listed, from, upTo, countedOf}
 use Rattle.constraint.specs.declared.kinds.Head.{Head}
 use Rattle.literals.specs.Words.{Holds}
 use Rattle.literals.specs.Variables.{yAt, Within}
 use Rattle.literals.proofs.laws.Variables.{sAt, xAt}
 use Rattle.literals.specs.Tables.{groupIn}
-use Rattle.literals.proofs.laws.Laws.{takes-add}
 use Rattle.literals.specs.Numbered.{noList}
 use Rattle.list_nodes.specs.declared.filled.Filled.{Filled}
 use Rattle.list_nodes.specs.Ground.{layoutOf}
@@ -36,11 +35,11 @@ list-of-time f T t w =
     map-from f 1 T (t - 1) (omega (arith, w .low, w .high)) ∙ ap f e
 
 module _ (h : Head) {words : List ℕ} {n : ℕ} where
-  pub clash-plain : (us : ℕ → List ℕ) (groups : List ℕ) (r t : ℕ) → Within (h .times) t
+  pub clash-plain : (durations : List ℕ) (us : ℕ → List ℕ) (groups : List ℕ) (r t : ℕ) → Within (h .times) t
       → Holds words n (map (λ e. yAt (h .times) e t) (us r))
-      → Plain (numOf h) (listIn us groups h (clash r) t) words (plainOf n)
+      → Plain (numOf h) (listIn durations us groups h (clash r) t) words (plainOf n)
   unfolding countedOf
-  clash-plain us groups r t w p =
+  clash-plain durations us groups r t w p =
       rw (list-of-time (λ t. entries (map (λ e. atom (Y e t)) (us r))) (h .times) t w)
       (adds-plain (λ v. events-add (h .times) (layoutOf h) t (us r) v 0) p)
 
@@ -49,12 +48,6 @@ module _ (h : Head) {words : List ℕ} {n : ℕ} where
         → Plain (numOf h) (onlyIn groups h (unavailable r g)) words (plainOf n)
     unfolding countedOf
     unavailable-plain r g p = adds-plain (λ v. uses-add (h .times) (layoutOf h) r (groupIn (h .groups) groups g) v 0) p
-
-    pub preferred-plain : (e g : ℕ) → Holds words n (map (yAt (h .times) e) (outside (groupIn (h .groups) groups g) (upTo (h .times))))
-        → Plain (numOf h) (onlyIn groups h (preferred e g)) words (plainOf n)
-    unfolding countedOf
-    preferred-plain e g p =
-        adds-plain (λ v. takes-add (h .times) (layoutOf h) e (outside (groupIn (h .groups) groups g) (upTo (h .times))) v 0) p
 
     pub split-plain : (e lo hi : ℕ) → Holds words n (map (sAt (h .times) (layoutOf h) e) (upTo (h .times)))
         → Plain (numOf h) (onlyIn groups h (split e lo hi)) words (plainOf n)

@@ -8,7 +8,7 @@ use lib.Dec.{eqb, leb, ltb}
 use lib.ListN.{length, drop}
 use Rattle.scope.specs.Parsed.{Parsed, got, refused, Answer, answered, refusal, andThen, unless, cons, repeat, with, provided}
 use Rattle.scope.specs.Number.{Front, broken, whole, within, front, numberFrom, number, limited, reference, references, listed}
-use Rattle.scope.specs.Kinds.{Event, Kind, longest, users, groupAt, Counted, countedOf}
+use Rattle.scope.specs.Kinds.{Event, Kind, longest, durationOf, users, groupAt, Counted, countedOf}
 use Rattle.scope.specs.Instance.{countsOf, Instance, eventAt, Fields, aReference, aList, aNumber, theKind, fieldsRead, fieldsOf, ordered, ended, constraintAt, sizesAt, groupsAt, constraintsAt, parse}
 use Rattle.scope.specs.Score.{slots, truth, firstWrong, firstAbove, unlessFound, ofTimetable}
 
@@ -112,7 +112,7 @@ module _ {ns : List ℕ} (r : Reader ns) where
           after (a-limit s next 0 1000)
           (λ weight more.
           after (the-fields (fieldsOf (countsOf T R es gs) kind) more) (λ k end.
-          let c : Counted = countedOf T (λ r. users r es) (groupAt gs) k in
+          let c : Counted = countedOf T (durationOf es) (λ r. users r es) (groupAt gs) k in
           an-end at (ordered k) (c .lo) (c .hi) (longest (c .lists)) weight k end)))
 
       some-constraints : (at : ℕ) → Reads ns (constraintsAt T R es gs s at)

@@ -1,9 +1,9 @@
 -- What was summed over the constraints of an accepted file is the score of the timetable by the definitions.
 use Prim.Native.Nat.{ℕ, _*_}
-use mathlib.Core.Path.{_≡_, refl, ap, _∙_}
+use mathlib.Core.Path.{_≡_, refl, sym, ap, _∙_}
 use mathlib.Core.List.{List}
 use lib.ListN.{length}
-use Rattle.scope.specs.Kinds.{Kind, users, groupAt, rulesOf}
+use Rattle.scope.specs.Kinds.{Kind, durationOf, users, groupAt, rulesOf}
 use Rattle.scope.specs.Score.{truth, deviations, infeasibility, objective}
 use Rattle.scope.specs.declared.Infeasibility.{Infeasibility}
 use Rattle.scope.specs.declared.Objective.{Objective}
@@ -13,6 +13,7 @@ use Rattle.constraint.specs.Answers.{countsIn}
 use Rattle.constraint.specs.Valid.{InRange}
 use Rattle.instance.specs.Answers.{instanceOf}
 use Rattle.instance.specs.Laws.{Accepted}
+use Rattle.timetable.specs.Right.{Passed}
 use Rattle.timetable.specs.Uses.{UsesOf, Marked}
 use Rattle.deviation.specs.Charge.{chargeOf}
 use Rattle.deviation.proofs.laws.Meaning.{tables-seen, charge-right}
@@ -26,18 +27,19 @@ module _
     {h : Head}
     (a : Accepted s d te tg h)
     (z : Scorable s b te tg l h)
+    (passed : Passed (instanceOf s d te tg h) b)
     (long : length u ≡ 12375)
     (uses : UsesOf (h .times) b te (h .events) u)
     (marked : Marked u x) where
   charged : (k : Kind) → InRange (countsIn h) k
       → chargeOf (h .events * h .times) (h .times) b u x tg k
       ≡ deviations (truth (instanceOf s d te tg h) b)
-      (rulesOf (h .times) (λ r. users r (instanceOf s d te tg h .events)) (groupAt (instanceOf s d te tg h .groups)) k)
+      (rulesOf (h .times) (durationOf (instanceOf s d te tg h .events)) (λ r. users r (instanceOf s d te tg h .events)) (groupAt (instanceOf s d te tg h .groups)) k)
   charged k v =
       rw (length-events d te (h .events)) at
       (charge-right (instanceOf s d te tg h) b u x tg (h .groups)
       (tables-seen (instanceOf s d te tg h) b u x d te (h .events) refl (z .sizes .times-high) long uses marked)
-      refl (z .times) (countsIn h) k (z .sizes .resources-high) refl v)
+      refl (z .times) (countsIn h) k passed (z .sizes .resources-high) (sym (length-events d te (h .events))) refl v)
 
   pub infeasibility-right : {r : Infeasibility}
       → r .0 ≡ hardSum (chargeOf (h .events * h .times) (h .times) b u x tg) (decodedOf s h)

@@ -5,7 +5,7 @@ use mathlib.Core.Bool.{Bool, cond}
 use mathlib.Core.List.{List}
 use lib.Dec.{eqb}
 use Rattle.scope.specs.Parsed.{got, repeat}
-use Rattle.scope.specs.Kinds.{Kind, Constraint, Atom, users, groupAt, rulesOf}
+use Rattle.scope.specs.Kinds.{Kind, Constraint, Atom, durationOf, users, groupAt, rulesOf}
 use Rattle.scope.specs.Instance.{Instance, Counts}
 use Rattle.scope.specs.Score.{deviations, infeasibilityOf, objectiveOf}
 use Rattle.parsing.specs.Each.{Each, each-none, each-more}
@@ -17,7 +17,7 @@ use Rattle.score.specs.Amounts.{hardSum, softSum}
 
 -- what is charged for a kind whose fields are in range is its deviation
 module _ (i : Instance) (τ : Atom → Bool) (n : Counts) (f : Kind → ℕ)
-    (right : (k : Kind) → InRange n k → f k ≡ deviations τ (rulesOf (i .times) (λ r. users r (i .events)) (groupAt (i .groups)) k)) where
+    (right : (k : Kind) → InRange n k → f k ≡ deviations τ (rulesOf (i .times) (durationOf (i .events)) (λ r. users r (i .events)) (groupAt (i .groups)) k)) where
   pub hard-right : {cs : List Constraint} → Each (λ c. InRange n (c .kind)) cs → hardSum f cs ≡ infeasibilityOf i τ cs
   unfolding hardSum infeasibilityOf
   hard-right each-none = refl

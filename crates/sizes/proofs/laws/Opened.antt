@@ -86,12 +86,12 @@ module _ {s d te tg list : List ℕ} {h : Head} {B : ℕ} (o : Opened s d te tg 
     opened-tabled = record { accepted = o .accepted; filled = f }
 
     pub opened-walkable : {before : Size} {store : List ℕ} {cols : ℕ} → Within 2147483648 before → length store ≡ 34816 → cols ≡ B + 1
-        → Walkable s us tg list store h cols before
+        → Walkable s d us tg list store h cols before
     opened-walkable w l k =
         record {
-          durations = d;
           resources = te;
           tabled = opened-tabled;
+          durations-long = o .stores .tables .durations-long;
           groups-long = o .stores .tables .groups-long;
           list-long = o .stores .list-long;
           store-long = l;

@@ -24,7 +24,7 @@ use Rattle.theory.proofs.laws.Nodes.{length-members}
 use Rattle.theory.proofs.laws.Entries.{entryTrue, entries-count}
 use Rattle.theory.proofs.laws.Rules.{charge, Kept, weighed}
 
-all-true : {A : Type 0} (f : A → Bool) (xs : List A) → (all (map f xs) ≡ true) ↔ All (λ x. f x ≡ true) xs
+pub all-true : {A : Type 0} (f : A → Bool) (xs : List A) → (all (map f xs) ≡ true) ↔ All (λ x. f x ≡ true) xs
 unfolding all
 all-true f [] = (λ _. tt, λ _. refl)
 all-true f (x ∷ xs) =

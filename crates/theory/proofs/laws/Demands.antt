@@ -1,10 +1,12 @@
--- Demands 2 and 3 of the definitions, what the two operations beside them owe, and what kinds 9 and 10 count.
-use Rattle.scope.specs.Demands.{Demand2, Demand3, DemandHard, DemandBest, DemandLengths}
+-- Demands 2 and 3 of the definitions, what the two operations beside them owe, and what kinds 3, 9 and 10 count.
+use Rattle.scope.specs.Demands.{Demand2, Demand3, DemandHard, DemandBest, DemandLengths, DemandPreferred}
 use Rattle.theory.proofs.laws.Match as match
 use Rattle.theory.proofs.laws.Bounded.{bounded-model}
 use Rattle.theory.proofs.laws.Never as bound
 use Rattle.theory.proofs.laws.Subevents.{distribute-counts, lengths-counts}
 use Rattle.theory.proofs.laws.LengthLists.{of-length-listed, outside-listed}
+use Rattle.theory.proofs.laws.ReachLists.{length-from-outside, few-nodes, single-nodes}
+use Rattle.theory.proofs.laws.Held.{times-charged, lengths-charged}
 
 pub demand2 : Demand2
 demand2 = match.demand2
@@ -21,3 +23,7 @@ demandBest = bound.demand-best (λ file i B t cost a. bounded-model file i a B t
 pub demandLengths : DemandLengths
 demandLengths =
     record { of-length = distribute-counts; outside = lengths-counts; list = of-length-listed; list-outside = outside-listed }
+
+pub demandPreferred : DemandPreferred
+demandPreferred =
+    record { times = times-charged; lengths = lengths-charged; variables = few-nodes; members = length-from-outside; single = single-nodes }

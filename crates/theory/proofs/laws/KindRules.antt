@@ -7,7 +7,7 @@ use Prim.Native.Nat.{ℕ, suc, _+_, _≤_, max}
 use native.Mathlib.Omega.{arith}
 use lib.ListN.{length, length-map}
 use Rattle.laws.specs.Lists.{All, All-append, All-weaken, All-map, All-flatMap}
-use Rattle.scope.specs.Kinds.{Event, Kind, clash, unavailable, preferred, split, spread, busy, cluster, idle, distribute, lengths, Constraint, Atom, Y, S, X, Entry, atom, anyOf, Listed, entries, entriesMembers, Counted, Rule, rule, between, limit, upTo, member, usersFrom, users, outside, groupAt, usesAt, takesAt, startsAt, gapsAfter, gaps, countedOf, rulesOf, ofLength, ofLengthOutside, longest}
+use Rattle.scope.specs.Kinds.{Event, Kind, clash, unavailable, preferred, split, spread, busy, cluster, idle, distribute, lengths, Constraint, Atom, Y, S, X, Entry, atom, anyOf, Listed, entries, entriesMembers, Counted, Rule, rule, between, limit, upTo, member, usersFrom, users, durationOf, fromOutside, groupAt, usesAt, takesAt, startsAt, gapsAfter, gaps, countedOf, rulesOf, ofLength, ofLengthOutside, longest}
 use Rattle.scope.specs.Instance.{Instance, countsOf}
 use Rattle.scope.specs.Score.{eventCount, rules}
 use Rattle.scope.specs.Formula.{durationRules, constraintRules, allRules}
@@ -16,6 +16,7 @@ use Rattle.theory.proofs.laws.Accepted.{ascending-within, group-within}
 use Rattle.theory.proofs.laws.Ranges.{length-from, from-all}
 use Rattle.theory.proofs.laws.Nodes.{ListKnown, Atoms, length-members, entries-known}
 use Rattle.theory.proofs.laws.TimeByTime.{of-length-known, outside-known}
+use Rattle.theory.proofs.laws.ReachLists.{from-outside-known}
 use Rattle.theory.proofs.laws.Rules.{ValidRule, ValidRule-weaken}
 
 -- an atom of an event, a resource and a time that there are
@@ -44,15 +45,6 @@ users-from r b e n (v ∷ vs) l h = go (member r (v .resources)) (users-from r b
 
 pub users-within : (i : Instance) (r : ℕ) → All (Within 1 (length (i .events))) (users r (i .events))
 users-within i r = users-from r 1 1 (length (i .events)) (i .events) (omega arith) (omega arith)
-
-outside-all : (P : ℕ → Type 0) (g ts : List ℕ) → All P ts → All P (outside g ts)
-unfolding outside
-outside-all P g [] h = tt
-outside-all P g (t ∷ ts) h = go (member t g) (outside-all P g ts (h .1))
-  where
-    go : (m : Bool) → All P (outside g ts) → All P (cond m (outside g ts) (t ∷ outside g ts))
-    go true a = a
-    go false a = (h .0, a)
 
 gapsAfter-atoms : (P : Atom → Type 0) (before xs : List Atom) → All P before → All P xs → All (Atoms P) (gapsAfter before xs)
 unfolding gapsAfter
@@ -109,16 +101,13 @@ module _ (i : Instance) (v : ValidInstance i) where
 
   kind-valid : (k : Kind) → ValidFields (countsOf (i .times) (i .resources) (i .events) (i .groups)) k
       → countedIn k .lo ≤ countedIn k .hi → countedIn k .lo ≤ longest (countedIn k .lists)
-      → All (ValidRule (InRange i)) (rulesOf (i .times) (λ r. users r (i .events)) (groupAt (i .groups)) k)
+      → All (ValidRule (InRange i)) (rulesOf (i .times) (durationOf (i .events)) (λ r. users r (i .events)) (groupAt (i .groups)) k)
   unfolding countedOf longest
   kind-valid (clash r) f a b = clash-valid (between 0 1 []) (users r (i .events)) refl (users-within i r)
   kind-valid (unavailable r g) f a b = one-valid (InRange i) (between 0 0 []) _ (group-atoms r g (f .0) (f .1)) a b
   kind-valid (preferred e g) f a b =
-      let P = Atoms (InRange i) in
-      let members = groupAt (i .groups) g in
-      let times = outside-all _ members (upTo (i .times)) (times-within i) in
-      one-valid (InRange i) (between 0 0 []) _
-      (All-map _ P (λ t. atom (Y e t)) (λ t w. (f .0, w)) (outside members (upTo (i .times))) times) a b
+      one-list (InRange i) (between 0 0 []) (fromOutside (i .times) e (durationOf (i .events) e) (groupAt (i .groups) g))
+      (from-outside-known (InRange i) e (i .times) (durationOf (i .events) e) (groupAt (i .groups) g) (λ t w. (f .0, w)) (λ t w. (f .0, w))) a b
   kind-valid (split e lo hi) f a b =
       one-valid (InRange i) (between lo hi []) _
       (All-map _ (Atoms (InRange i)) (λ t. atom (S e t)) (λ t w. (f .0, w)) (upTo (i .times)) (times-within i)) a b

@@ -6,7 +6,7 @@ use Prim.Native.Nat.{ℕ, _-_, _<_, _≤_, min}
 use native.Mathlib.Omega.{arith}
 use lib.ListN.{length, length-map}
 use lib.Dec.{ltb, eqb}
-use borrow.Author.Tests.{ltb-true, ltb-false, le-ltb}
+use borrow.Author.Tests.{ltb-true, ltb-false, le-ltb, lt-ltb}
 use Rattle.scope.specs.Kinds.{Atom, Listed, Counted, rule}
 use Rattle.scope.specs.Score.{trues, deviation, charged, refTrue, valuesAfter, count}
 
@@ -31,6 +31,13 @@ by-order P a b f g = go (ltb a b) refl
     go : (t : Bool) → ltb a b ≡ t → P
     go true e = f (ltb-true a b e)
     go false e = g (ltb-false a b e)
+
+-- with bounds 0 to 0 the deviation is the count
+pub deviation-zero : (c : ℕ) → deviation 0 0 c ≡ c
+unfolding deviation
+deviation-zero c =
+    rw (le-ltb c 0 (omega arith))
+    (by-order _ 0 c (λ l. rw (lt-ltb 0 c l) (omega arith)) (λ l. rw (le-ltb 0 c l) (omega arith)))
 
 deviation-lowered : (lo hi n c : ℕ) → c ≤ n → deviation lo (min hi n) c ≡ deviation lo hi c
 unfolding deviation

@@ -87,19 +87,19 @@ module _ (T : ℕ) (τ : Atom → Bool) (e : ℕ) where
           ∙ rw p (ap trues (map-same _ _ (upTo T) (from-all _ 1 T (λ t l h. rw (le-ltb (lengthFrom T τ e t) 1 (omega arith))))))
 
 -- a kind with one list
-one-charged : (τ : Atom → Bool) (lo hi : ℕ) (l : Listed) → deviations τ (rule (between lo hi []) l ∷ []) ≡ deviation lo hi (count τ l)
+pub one-charged : (τ : Atom → Bool) (lo hi : ℕ) (l : Listed) → deviations τ (rule (between lo hi []) l ∷ []) ≡ deviation lo hi (count τ l)
 unfolding deviations
 one-charged τ lo hi l = rw add-zero (charged-lowered τ (between lo hi []) l)
 
 -- kind 9 and kind 10 charge for subevents
-pub distribute-counts : (T : ℕ) (us group : ℕ → List ℕ) (τ : Atom → Bool) (e n lo hi : ℕ) → 1 ≤ n
-    → deviations τ (rulesOf T us group (distribute e n lo hi)) ≡ deviation lo hi (subevents T τ e (eqb n))
+pub distribute-counts : (T : ℕ) (dur : ℕ → ℕ) (us group : ℕ → List ℕ) (τ : Atom → Bool) (e n lo hi : ℕ) → 1 ≤ n
+    → deviations τ (rulesOf T dur us group (distribute e n lo hi)) ≡ deviation lo hi (subevents T τ e (eqb n))
 unfolding countedOf
-distribute-counts T us group τ e n lo hi h =
+distribute-counts T dur us group τ e n lo hi h =
     one-charged τ lo hi (ofLength T e n) ∙ ap (deviation lo hi) (of-length-count T τ e n h)
 
-pub lengths-counts : (T : ℕ) (us group : ℕ → List ℕ) (τ : Atom → Bool) (e a b : ℕ) → 1 ≤ a
-    → deviations τ (rulesOf T us group (lengths e a b)) ≡ deviation 0 0 (subevents T τ e (λ n. ltb n a || ltb b n))
+pub lengths-counts : (T : ℕ) (dur : ℕ → ℕ) (us group : ℕ → List ℕ) (τ : Atom → Bool) (e a b : ℕ) → 1 ≤ a
+    → deviations τ (rulesOf T dur us group (lengths e a b)) ≡ deviation 0 0 (subevents T τ e (λ n. ltb n a || ltb b n))
 unfolding countedOf
-lengths-counts T us group τ e a b h =
+lengths-counts T dur us group τ e a b h =
     one-charged τ 0 0 (ofLengthOutside T e a b) ∙ ap (deviation 0 0) (outside-count T τ e a b h)

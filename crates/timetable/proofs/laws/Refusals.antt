@@ -6,13 +6,13 @@ use mathlib.Core.List.{List}
 use mathlib.Core.Option.{Option, none, some}
 use lib.ListN.{length}
 use lib.Dec.{eqb}
-use borrow.Author.Tests.{eq-eqb, ne-eqb}
+use borrow.Author.Tests.{eq-eqb, ne-eqb, eqb-true}
 use Rattle.scope.specs.Parsed.{Answer, answered, refusal, provided, then}
 use Rattle.scope.specs.Instance.{Instance}
 use Rattle.scope.specs.Score.{slots, truth, firstAbove, firstWrong, unlessFound, ofTimetable}
 use Rattle.timetable.specs.declared.bytes.Found.{Found}
 use Rattle.timetable.specs.Answers.{foundAt, placeOf}
-use Rattle.timetable.specs.Right.{Lasts, wrongFrom}
+use Rattle.timetable.specs.Right.{Lasts, Passed, wrongFrom}
 use Rattle.timetable.proofs.laws.Right.{wrong-event}
 
 -- what was found is refused, and what was not found is passed
@@ -71,3 +71,19 @@ then-timetable i b a =
     let events = firstWrong i (truth i b) 1 (i .events) in
     then-provided (eqb (length b) (2 * slots i)) 10 (2 * slots i) _ a _
     (then-found 11 (firstAbove 0 b) _ a _ (then-found 12 events (answered tt) a a refl))
+
+-- bytes that are not refused have the length wanted, and no event is wrong
+found-answered : {A : Type 0} (k : ℕ) (o : Option ℕ) (a : Answer A) {x : A} → answered x ≡ unlessFound k o a → (o ≡ none) × (answered x ≡ a)
+found-answered k none a e = (refl, e)
+found-answered k (some v) a e = (cc, cc)
+
+provided-answered : {A : Type 0} (t : Bool) (k v : ℕ) (a : Answer A) {x : A} → answered x ≡ provided t k v a → (t ≡ true) × (answered x ≡ a)
+provided-answered true k v a e = (refl, e)
+provided-answered false k v a e = (cc, cc)
+
+pub timetable-passed : {A : Type 0} (i : Instance) (b : List ℕ) (a : Answer A) {x : A} → answered x ≡ ofTimetable i b a → Passed i b
+timetable-passed i b a e =
+    let events = firstWrong i (truth i b) 1 (i .events) in
+    let l = provided-answered (eqb (length b) (2 * slots i)) 10 (2 * slots i) _ e in
+    let f = found-answered 11 (firstAbove 0 b) (unlessFound 12 events a) (l .1) in
+    record { size = eqb-true (length b) (2 * slots i) (l .0); right = found-answered 12 events a (f .1) .0 }

@@ -11,12 +11,12 @@ use native.Mathlib.Omega.{arith}
 use native.Mathlib.Nat.{sub-zero, add-zero, zero-add, add-assoc}
 use borrow.Author.Tests.{not-true, not-false, eq-eqb, ne-eqb}
 use Rattle.scope.specs.Cnf.{bit}
-use Rattle.scope.specs.Kinds.{Event, from, upTo}
+use Rattle.scope.specs.Kinds.{Event, Atom, from, upTo, eventOf}
 use Rattle.scope.specs.Instance.{Instance}
 use Rattle.scope.specs.Score.{trues, all, truth, slots, startRight, eventRight, firstWrong}
 use Rattle.resource_uses.specs.Bits.{marks}
 use Rattle.resource_uses.proofs.laws.Bits.{bit-next, from-more, from-done}
-use Rattle.timetable.specs.Right.{beforeAt, startAt, eventAt, wrongFrom, noEvent, Lasts}
+use Rattle.timetable.specs.Right.{beforeAt, startAt, eventAt, wrongFrom, noEvent, Lasts, Passed}
 
 -- the turns of a walk over n times of an event that has found no wrong start before time i + 1
 module _ (b : List ℕ) (c y n : ℕ) where
@@ -127,3 +127,23 @@ module _ (b : List ℕ) (c y n d count : ℕ) (counted : count ≡ trues (marks 
   event-whole r h e = rw (← counted, eq-eqb count d h) e
 
 pub ruleset events = (event-short, event-whole)
+
+-- where no event is wrong, each is right
+right-from : (i : Instance) (τ : Atom → Bool) (e : ℕ) (vs : List Event) → firstWrong i τ e vs ≡ none
+    → (k : ℕ) → k < length vs → eventRight i τ (e + k) (getD vs k noEvent) ≡ true
+unfolding firstWrong
+right-from i τ e [] w k h = let f : ⊥ = omega arith in absurd f
+right-from i τ e (v ∷ vs) w k h = by (λ u. right-from i τ (suc e) vs u) (eventRight i τ e v) refl w k h
+  where
+    by : (firstWrong i τ (suc e) vs ≡ none → (k : ℕ) → k < length vs → eventRight i τ (suc e + k) (getD vs k noEvent) ≡ true)
+        → (t : Bool) → eventRight i τ e v ≡ t → cond t (firstWrong i τ (suc e) vs) (some e) ≡ none
+        → (k : ℕ) → k < suc (length vs) → eventRight i τ (e + k) (getD (v ∷ vs) k noEvent) ≡ true
+    by later true r u zero h = rw add-zero r
+    by later true r u (suc k) h = let m : e + suc k ≡ suc e + k = omega arith in rw m (later u k (omega arith))
+    by later false r u k h = cc
+
+pub each-right : (i : Instance) (b : List ℕ) (e : ℕ) → Passed i b → 1 ≤ e → e ≤ length (i .events)
+    → eventRight i (truth i b) e (eventOf (i .events) e) ≡ true
+each-right i b e p lo hi =
+    let k : 1 + (e - 1) ≡ e = omega arith in
+    rw k at (right-from i (truth i b) 1 (i .events) (p .right) (e - 1) (omega arith))

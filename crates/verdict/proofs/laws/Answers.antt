@@ -1,14 +1,12 @@
 -- What the verdict on lent bytes says of the operations' answers: laws.
 use Prim.Native.Nat.{ℕ, _*_, _/_, _≤_}
 use mathlib.Core.Path.{_≡_, refl, sym, ap, _∙_}
-use mathlib.Core.Bool.{Bool, true, false}
+use mathlib.Core.Bool.{Bool}
 use mathlib.Core.List.{List, []}
 use lib.ListN.{length, take}
 use lib.Seq.{length-take-le}
-use lib.Dec.{eqb}
 use native.Mathlib.Omega.{arith}
-use borrow.Author.Tests.{eqb-true}
-use Rattle.scope.specs.Parsed.{Answer, answered, provided, then}
+use Rattle.scope.specs.Parsed.{Answer, answered, then}
 use Rattle.scope.specs.Instance.{Instance}
 use Rattle.scope.specs.Score.{slots, ofTimetable, infeasibility, objective}
 use Rattle.scope.specs.Operations.{scoreOf, sameBytes, sameSheetOf}
@@ -23,20 +21,17 @@ use Rattle.instance.specs.Answers.{instanceOf}
 use Rattle.instance.specs.Laws.{Accepted}
 use Rattle.timetable.specs.declared.check.Verdict.{Verdict}
 use Rattle.timetable.specs.Answers.{verdictAs}
-use Rattle.timetable.proofs.laws.Refusals.{then-timetable}
+use Rattle.timetable.specs.Right.{Passed}
+use Rattle.timetable.proofs.laws.Refusals.{then-timetable, timetable-passed}
 use Rattle.score.proofs.laws.Ready.{tables-last}
 use Rattle.verdict.specs.Answers.{refusalOfVerdict, VerdictOf}
 
 -- a timetable has the length wanted
-provided-answered : {A : Type 0} (t : Bool) (k v : ℕ) (p : Answer A) {x : A} → answered x ≡ provided t k v p → t ≡ true
-provided-answered true k v p e = refl
-provided-answered false k v p e = cc
-
 pub timetable-long : {b d : List ℕ} {h : Head} {v : Verdict} → VerdictOf b d h v → v ≡ Verdict.Timetable → length b ≡ 2 * (h .events * h .times)
 timetable-long {b} {d} {h} {v} o t =
     let i : Instance = record { times = h .times; resources = 0; events = eventsOf d [] (h .events); groups = []; constraints = [] } in
     let e = rw t at (o .says i (tables-last d [] i (h .times) (h .events) refl refl)) in
-    rw (length-events d [] (h .events)) at (eqb-true (length b) (2 * slots i) (provided-answered (eqb (length b) (2 * slots i)) 10 (2 * slots i) _ e))
+    rw (length-events d [] (h .events)) at (timetable-passed i b _ e .size)
 
 -- the Y bytes of two timetables of one instance are as many
 pub record Halves (b c : List ℕ) : Type 0 where
@@ -70,6 +65,9 @@ module _ {s d te tg : List ℕ} {h : Head} (a : Accepted s d te tg h) where
 
   -- scoring
   module _ {b : List ℕ} {v : Verdict} (o : VerdictOf b d h v) where
+    pub score-passed : v ≡ Verdict.Timetable → Passed (instanceOf s d te tg h) b
+    score-passed t = timetable-passed (instanceOf s d te tg h) b (answered (tt {0})) (timetable-bytes o (answered tt) t)
+
     pub score-refused : {g x : Refusal} → v ≡ Verdict.Refused g → x ≡ refusalOfVerdict v → given x ≡ scoreOf s b
     unfolding scoreOf
     score-refused t k = rw (a .parsed) (refused-bytes o _ t k)

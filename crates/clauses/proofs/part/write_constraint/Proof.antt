@@ -15,7 +15,7 @@ lesser-requires-2 c κs = search needs
 
 sub-placed : tie.Need-sub-placed
 sub-placed c =
-    omega (arith, base-within (c .before .before .before .before .before .before .before .before .before .before .before .args .job .mode) (c .before .before .before .before .before .before .before .before .before .before .before .args .s .at))
+    omega (arith, base-within (c .before .before .before .before .before .before .before .before .before .before .before .before .args .job .mode) (c .before .before .before .before .before .before .before .before .before .before .before .before .args .s .at))
 
 placed-requires : tie.Need-placed-requires
 placed-requires c κs = search needs
@@ -61,7 +61,7 @@ same-length-3 c = search needs
 
 returns : tie.Need-returns
 returns c =
-    let a = c .before .before .before .before .before .before .before .before .before .before .before .before .before .before .before .before .before .before .before .before .before .before .before .before .before .args in
+    let a = c .before .before .before .before .before .before .before .before .before .before .before .before .before .before .before .before .before .before .before .before .before .before .before .before .before .before .args in
     let p = c .before .before .before .before .before .before .before .before .before .before .before .before .before .before .before .before .before .part-base in
     let l = c .before .before .before .before .before .before .before .before .before .write-lists .last in
     let w = c .before .before .before .before .before .before .before .before .before .write-lists .ensures in
@@ -70,7 +70,7 @@ returns c =
       rw (c .placed2 .ensures)
           (record {
             ran =
-                lent (a .job) _ _ (a .s) _ (a .text .now) (a .words .now) _ _ (p .result) _ _ _ (omega (arith, c .before .before .before .before .before .before .before .before .before .before .before .before .before .before .before .before .before .before .before .before .before .before .before .before .before)) (omega (arith, c .before .before .before .before .before .before .before .before .before .before .before .before .before .before .before .before .before .before .before .before .before .before .before .before .before)) (c .before .before .before .before .before .before .before .before .before .before .before .before .before .before .before .before .before .before .before .before .before .before .before .before .before .pre .1 .0) (p .ensures) t u (c .before .advance .ensures)
+                lent (a .job) _ _ (a .s) _ (a .text .now) (a .words .now) _ _ (p .result) _ _ _ (omega (arith, c .before .before .before .before .before .before .before .before .before .before .before .before .before .before .before .before .before .before .before .before .before .before .before .before .before .before)) (omega (arith, c .before .before .before .before .before .before .before .before .before .before .before .before .before .before .before .before .before .before .before .before .before .before .before .before .before .before)) (c .before .before .before .before .before .before .before .before .before .before .before .before .before .before .before .before .before .before .before .before .before .before .before .before .before .before .pre .1 .0) (p .ensures) t u (c .before .advance .ensures)
                 (rw (c .before .before .before .before .before .before .before .before .before .before .before .before .before .placed .ensures) at (w .ran));
             next = w .next;
           }),

@@ -14,18 +14,18 @@ use Rattle.clauses.proofs.walk.write_constraints.Statement.{statement}
 use Rattle.clauses.proofs.walk.write_constraints.Tie as tie
 
 abbrev Inv-loop : tie.InvT-loop
-Inv-loop job model text₀ words₀ file head users groups list₀ first store₀ z₀ v₀ next₀ i₀ text words list store z v next i =
+Inv-loop job model text₀ words₀ file head durations users groups list₀ first store₀ z₀ v₀ next₀ i₀ text words list store z v next i =
     (i ≤ head .constraints) × (length text ≡ length text₀) × (length words ≡ length words₀) × (z .at ≤ 9223372036854775807)
-    × Walkable file users groups list head first
-    × Part (step job model) file users groups head first i next v (world z₀ text₀ words₀) (world z text words)
+    × Walkable file durations users groups list head first
+    × Part (step job model) file durations users groups head first i next v (world z₀ text₀ words₀) (world z text words)
     × (length store ≡ 34816)
 
 abbrev μ-loop : tie.MeasureT-loop
-μ-loop job model text₀ words₀ file head users groups list₀ first store₀ z₀ v₀ next₀ i₀ text words list store z v next i = head .constraints - i
+μ-loop job model text₀ words₀ file head durations users groups list₀ first store₀ z₀ v₀ next₀ i₀ text words list store z v next i = head .constraints - i
 
 loop-holds : tie.Need-loop-holds Inv-loop μ-loop
 loop-holds c =
-    let p = c .before .before .before .before .before .before .before .pre in (omega arith, refl, refl, p .1, p .0, part-start (p .0), refl)
+    let p = c .before .before .before .before .before .before .before .before .pre in (omega arith, refl, refl, p .1, p .0, part-start (p .0), refl)
 
 constraint-at-requires : tie.Need-constraint-at-requires Inv-loop μ-loop
 constraint-at-requires c κs =
@@ -82,7 +82,7 @@ loop-again c =
       omega (arith, c .before .before .before .before .before .before .before .before .before .before .before .before .before .before .before .before .before .before .if1 .taken),
       search needs,
       search needs,
-      ran-placed (c .before .before .before .before .before .before .before .before .before .before .before .before .before .before .before .before .before .before .before .before .before .before .before .before .before .before .before .before .args .job) (c .before .before .before .before .before .before .before .before .before .before .before .before .before .before .before .before .before .before .before .before .before .before .before .before .before .before .before .before .args .model .now) (g .ensures .0 .ran) (l .inv .3),
+      ran-placed (c .before .before .before .before .before .before .before .before .before .before .before .before .before .before .before .before .before .before .before .before .before .before .before .before .before .before .before .before .before .args .job) (c .before .before .before .before .before .before .before .before .before .before .before .before .before .before .before .before .before .before .before .before .before .before .before .before .before .before .before .before .before .args .model .now) (g .ensures .0 .ran) (l .inv .3),
       k,
       part-next k (l .inv .5) n (g .ensures .0),
       search needs,

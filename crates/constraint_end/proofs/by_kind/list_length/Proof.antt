@@ -27,15 +27,11 @@ length-of-unavailable-requires c κs =
     let v = rw (c .match .keys2) at (p .1) in
     one-in _ _ _ (p .0 .rows) (v .1)
 
-length-of-preferred-requires : tie.Need-length-of-preferred-requires
-unfolding kindFrom
-length-of-preferred-requires c κs =
-    let p = c .before .before .before .before .pre in
-    let v = rw (c .match .keys3) at (p .1) in
-    one-in _ _ _ (p .0 .rows) (v .1)
-
 one-for-each-time-requires : tie.Need-one-for-each-time-requires
 one-for-each-time-requires c κs = search needs
+
+one-for-each-time-requires-2 : tie.Need-one-for-each-time-requires-2
+one-for-each-time-requires-2 c κs = search needs
 
 length-of-spread-requires : tie.Need-length-of-spread-requires
 unfolding kindFrom
@@ -67,9 +63,6 @@ length-of-idle-requires c κs =
     let m : w .list ≤ 2048 = omega (arith, l, length-leading (w .list) (a .args .list .now), a .pre .0 .numbers) in
     (omega (arith, a .pre .0 .room), (m, ascending-in _ _ 0 _ (a .pre .0 .rows) (v .1)))
 
-one-for-each-time-requires-2 : tie.Need-one-for-each-time-requires-2
-one-for-each-time-requires-2 c κs = search needs
-
 one-for-each-time-requires-3 : tie.Need-one-for-each-time-requires-3
 one-for-each-time-requires-3 c κs = search needs
 
@@ -87,11 +80,7 @@ returns-2 c =
 
 returns-3 : tie.Need-returns-3
 unfolding kindFrom listLength
-returns-3 c =
-    let a = c .before .before .before .before .before in
-    let v = rw (c .before .match .keys3) at (a .pre .1) in
-    let g = group-row (a .args .groups .now) (a .args .head .groups) _ (v .1 .low) (v .1 .high) in
-    rw (c .before .match .keys3, g) (c .length-of-preferred .ensures)
+returns-3 c = rw (c .match .keys3)
 
 returns-4 : tie.Need-returns-4
 unfolding kindFrom listLength
@@ -139,7 +128,6 @@ list-length-spec =
     (tie.spec
     length-of-clash-requires
     length-of-unavailable-requires
-    length-of-preferred-requires
     one-for-each-time-requires
     length-of-spread-requires
     length-of-busy-requires

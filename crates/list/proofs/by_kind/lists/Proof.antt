@@ -38,43 +38,43 @@ enum-told-10 c = search needs
 
 returns : tie.Need-returns
 unfolding countedOf
-returns c = rw (c .enum-told .given .1) (record { eq = λ us group l. clash-lists (c .before .before .args .times) us group _ })
+returns c = rw (c .enum-told .given .1) (record { eq = λ dur us group l. clash-lists (c .before .before .args .times) dur us group _ })
 
 returns-2 : tie.Need-returns-2
 unfolding countedOf
-returns-2 c = rw (c .enum-told2 .given .1) (record { eq = λ us group l. refl })
+returns-2 c = rw (c .enum-told2 .given .1) (record { eq = λ dur us group l. refl })
 
 returns-3 : tie.Need-returns-3
 unfolding countedOf
-returns-3 c = rw (c .enum-told3 .given .1) (record { eq = λ us group l. refl })
+returns-3 c = rw (c .enum-told3 .given .1) (record { eq = λ dur us group l. refl })
 
 returns-4 : tie.Need-returns-4
 unfolding countedOf
-returns-4 c = rw (c .enum-told4 .given .1) (record { eq = λ us group l. refl })
+returns-4 c = rw (c .enum-told4 .given .1) (record { eq = λ dur us group l. refl })
 
 returns-5 : tie.Need-returns-5
 unfolding countedOf
-returns-5 c = rw (c .enum-told5 .given .1) (record { eq = λ us group l. refl })
+returns-5 c = rw (c .enum-told5 .given .1) (record { eq = λ dur us group l. refl })
 
 returns-6 : tie.Need-returns-6
 unfolding countedOf
-returns-6 c = rw (c .enum-told6 .given .1) (record { eq = λ us group l. refl })
+returns-6 c = rw (c .enum-told6 .given .1) (record { eq = λ dur us group l. refl })
 
 returns-7 : tie.Need-returns-7
 unfolding countedOf
-returns-7 c = rw (c .enum-told7 .given .1) (record { eq = λ us group l. refl })
+returns-7 c = rw (c .enum-told7 .given .1) (record { eq = λ dur us group l. refl })
 
 returns-8 : tie.Need-returns-8
 unfolding countedOf
-returns-8 c = rw (c .enum-told8 .given .1) (record { eq = λ us group l. refl })
+returns-8 c = rw (c .enum-told8 .given .1) (record { eq = λ dur us group l. refl })
 
 returns-9 : tie.Need-returns-9
 unfolding countedOf
-returns-9 c = rw (c .enum-told9 .given .1) (record { eq = λ us group l. refl })
+returns-9 c = rw (c .enum-told9 .given .1) (record { eq = λ dur us group l. refl })
 
 returns-10 : tie.Need-returns-10
 unfolding countedOf
-returns-10 c = rw (c .enum-told10 .given .1) (record { eq = λ us group l. refl })
+returns-10 c = rw (c .enum-told10 .given .1) (record { eq = λ dur us group l. refl })
 
 pub lists-spec : {M : Type 1} → statement M
 lists-spec =

@@ -20,11 +20,11 @@ mul-out c = search needs
 slice-write-out : tie.Need-slice-write-out
 slice-write-out c = search needs
 
-add-copy : tie.Need-add-copy
-add-copy c = search needs
+add-store-words : tie.Need-add-store-words
+add-store-words c = search needs
 
-copy-requires : tie.Need-copy-requires
-copy-requires c κs = (c .before .before .before .pre .0, (c .before .before .before .pre .1 .1 .0, simp length-set (omega arith)))
+store-words-requires : tie.Need-store-words-requires
+store-words-requires c κs = (c .before .before .before .pre .0, (c .before .before .before .pre .1 .1 .0, simp length-set (omega arith)))
 
 mul-out-2 : tie.Need-mul-out-2
 mul-out-2 c = search needs
@@ -52,7 +52,7 @@ returns c =
     let a = c .before .before .before .before .before .before .args in
     let ys = drop (a .from) (take (a .to) (a .row .now)) in
     let e = part-length (a .row .now) (a .from) (a .to) (c .before .before .before .before .before .before .pre .1 .1 .0) in
-    let h = c .before .before .copy .ensures in
+    let h = c .before .before .store-words .ensures in
     (or-stored (a .out .now) (a .at) (a .to - a .from) ys (omega arith) (sym e) (h .0) (omega (arith, simp length-set at (c .before .out .given))) (a .o) _ refl, omega (arith, h .1))
 
 pub store-or-spec : {M : Type 1} → statement M
@@ -63,8 +63,8 @@ store-or-spec =
     cast-out
     mul-out
     slice-write-out
-    add-copy
-    copy-requires
+    add-store-words
+    store-words-requires
     mul-out-2
     add-out
     add-out-2

@@ -12,7 +12,7 @@ use Rattle.part_sizes.proofs.size.first_size.Tie as tie
 
 fill-requires : tie.Need-fill-requires
 fill-requires c κs =
-    let p = c .before .before .before .before .before .pre in
+    let p = c .before .before .before .before .before .before .pre in
     record {
       fits = p .0 .fits;
       first = omega arith;
@@ -26,11 +26,11 @@ bounds-of-requires c κs = search needs
 
 filled-size-requires : tie.Need-filled-size-requires
 filled-size-requires c κs =
-    let a = c .before .before .before .before .before .before .before .before .before .args in
-    let p = c .before .before .before .before .before .before .before .before .before .pre in
+    let a = c .before .before .before .before .before .before .before .before .before .before .args in
+    let p = c .before .before .before .before .before .before .before .before .before .before .pre in
     let f = c .before .before .before .fill in
-    let l = listIn (usersAt (a .users .now)) (a .groups .now) (a .head) (kindOf (a .list .now) (a .c .kind)) 1 in
-    let told = stored-told {l = l} (f .ensures) (f .kept .1 .1 .1 .1 .1 .1 .1 .0 ∙ p .1) in
+    let l = listIn (a .durations .now) (usersAt (a .users .now)) (a .groups .now) (a .head) (kindOf (a .list .now) (a .c .kind)) 1 in
+    let told = stored-told {l = l} (f .ensures) (f .kept .1 .1 .1 .1 .1 .1 .1 .1 .0 ∙ p .1) in
     measurable {l = l} told (sizable-bounds (p .0) (c .bounds-of .ensures (a .list .now))) (p .0 .weight) (sizable-ordered (p .0)) (sizable-short (p .0))
 
 same-length : tie.Need-same-length
@@ -38,11 +38,11 @@ same-length c = search needs
 
 returns : tie.Need-returns
 returns c =
-    let a = c .before .before .before .before .before .before .before .before .before .before .args in
-    let p = c .before .before .before .before .before .before .before .before .before .before .pre in
+    let a = c .before .before .before .before .before .before .before .before .before .before .before .args in
+    let p = c .before .before .before .before .before .before .before .before .before .before .before .pre in
     let f = c .before .before .before .before .fill in
-    let l = listIn (usersAt (a .users .now)) (a .groups .now) (a .head) (kindOf (a .list .now) (a .c .kind)) 1 in
-    let told = stored-told {l = l} (f .ensures) (f .kept .1 .1 .1 .1 .1 .1 .1 .0 ∙ p .1) in
+    let l = listIn (a .durations .now) (usersAt (a .users .now)) (a .groups .now) (a .head) (kindOf (a .list .now) (a .c .kind)) 1 in
+    let told = stored-told {l = l} (f .ensures) (f .kept .1 .1 .1 .1 .1 .1 .1 .1 .0 ∙ p .1) in
     filled-sized {l = l} told (sizable-bounds (p .0) (c .before .bounds-of .ensures (a .list .now))) (p .0 .weight) (sizable-ordered (p .0))
     (sizable-short (p .0)) (c .filled-size .ensures)
 

@@ -12,14 +12,14 @@ use Rattle.part_sizes.proofs.walk.constraints_total.Statement.{statemen
 use Rattle.part_sizes.proofs.walk.constraints_total.Tie as tie
 
 abbrev Inv-loop : tie.InvT-loop
-Inv-loop file head users groups list₀ store₀ columns most total₀ next₀ i₀ list store total next i =
+Inv-loop file head durations users groups list₀ store₀ columns most total₀ next₀ i₀ list store total next i =
     (i ≤ head .constraints)
-    × Walkable file users groups list store head columns (total₀ .formula)
+    × Walkable file durations users groups list store head columns (total₀ .formula)
     × TotalWithin i total
-    × ((d te : List ℕ) → Tabled file d te users groups head → Part file d te groups head columns (total₀ .formula) i next total)
+    × ((te : List ℕ) → Tabled file durations te users groups head → Part file durations te groups head columns (total₀ .formula) i next total)
 
 abbrev μ-loop : tie.MeasureT-loop
-μ-loop file head users groups list₀ store₀ columns most total₀ next₀ i₀ list store total next i = head .constraints - i
+μ-loop file head durations users groups list₀ store₀ columns most total₀ next₀ i₀ list store total next i = head .constraints - i
 
 cast-most : tie.Need-cast-most Inv-loop μ-loop
 cast-most c = search needs
@@ -29,9 +29,9 @@ nothing-requires c κs = search needs
 
 loop-holds : tie.Need-loop-holds Inv-loop μ-loop
 loop-holds c =
-    let w = c .before .before .before .before .before .before .before .pre in
+    let w = c .before .before .before .before .before .before .before .before .pre in
     let e = c .nothing .ensures in
-    (omega arith, w, total-start (w .within) e, λ d te a. part-start a refl e)
+    (omega arith, w, total-start (w .within) e, λ te a. part-start a refl e)
 
 constraint-at-requires : tie.Need-constraint-at-requires Inv-loop μ-loop
 constraint-at-requires c κs =
@@ -56,7 +56,7 @@ returns c =
     let l = c .before .before .before .before .before .before .before .loop in
     let w = l .inv .1 in
     let f = c .before .before .before .before .constraint-at in
-    let p = l .inv .3 (w .durations) (w .resources) (w .tabled) in
+    let p = l .inv .3 (w .resources) (w .tabled) in
     absurd (walk-refused (p .walk) (c .before .before .before .before .before .before .loop-test .taken) (f .last .1 .1 .1 .0) _ (f .ensures) (c .enum-told .given .1))
 
 constraint-size-requires : tie.Need-constraint-size-requires Inv-loop μ-loop
@@ -64,9 +64,9 @@ constraint-size-requires c κs =
     let l = c .before .before .before .before .before .before .before .before .before .before .loop in
     let w = l .inv .1 in
     let f = c .before .before .before .before .before .before .before .constraint-at in
-    let p = l .inv .3 (w .durations) (w .resources) (w .tabled) in
+    let p = l .inv .3 (w .resources) (w .tabled) in
     let n = part-read (w .tabled) p (f .last .1 .1 .1 .0) _ (c .before .before .before .before .before .before .before .before .before .loop-test .taken) (f .ensures) (c .before .before .before .x .given .1) in
-    (part-sizable (w .tabled) p n (w .groups-long) (f .kept .1 .1 .1 .0 ∙ w .list-long), w .store-long)
+    (part-sizable (w .tabled) p n (w .durations-long) (w .groups-long) (f .kept .1 .1 .1 .0 ∙ w .list-long), w .store-long)
 
 cast-add : tie.Need-cast-add Inv-loop μ-loop
 cast-add c = search needs
@@ -92,10 +92,10 @@ loop-again c =
     let g = c .before .before .before .before .constraint-size in
     let z = g .ensures in (
       omega (arith, c .before .before .before .before .before .before .before .before .before .before .before .before .before .before .loop-test .taken),
-      walkable-kept w (f .kept .1 .1 .1 .0) (g .kept .1 .1 .1 .1 .1 .0),
+      walkable-kept w (f .kept .1 .1 .1 .0) (g .kept .1 .1 .1 .1 .1 .1 .0),
       total-within (l .inv .2) (w .columns) (z .within) (z .few) _ (c .add .ensures),
-      λ d te a.
-          let p = l .inv .3 d te a in
+      λ te a.
+          let p = l .inv .3 te a in
           let n = part-read a p (f .last .1 .1 .1 .0) _ (c .before .before .before .before .before .before .before .before .before .before .before .before .before .before .loop-test .taken) (f .ensures) (c .before .before .before .before .before .before .before .before .x .given .1) in
           part-next a p n z (c .add .ensures),
     )
@@ -108,10 +108,10 @@ same-length-4 c = search needs
 
 returns-2 : tie.Need-returns-2 Inv-loop μ-loop
 returns-2 c =
-    λ d te a.
+    λ te a.
     let l = c .before .loop in
-    let k : l .i ≡ c .before .before .before .before .before .before .before .before .before .args .head .constraints = omega (arith, l .inv .0, c .loop-test .left) in
-    part-end a (l .inv .3 d te a) (c .loop-test .left) (rw k at (l .inv .2))
+    let k : l .i ≡ c .before .before .before .before .before .before .before .before .before .before .args .head .constraints = omega (arith, l .inv .0, c .loop-test .left) in
+    part-end a (l .inv .3 te a) (c .loop-test .left) (rw k at (l .inv .2))
 
 pub constraints-total-spec : {M : Type 1} → statement M
 constraints-total-spec =

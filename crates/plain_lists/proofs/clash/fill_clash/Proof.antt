@@ -56,7 +56,7 @@ returns c =
     let p = c .before .before .before .before .before .before .before .before .before .before .pre in
     let r = a .f .resource in
     rw (c .plain .ensures)
-    (clash-plain (a .head) (usersAt (a .users .now)) [] r (a .t) (p .1 .1 .1 .0) (rw (part-holds (p .0) r (p .1 .0) .front) at (c .before .before .before .y-of-events .ensures)))
+    (clash-plain (a .head) [] (usersAt (a .users .now)) [] r (a .t) (p .1 .1 .1 .0) (rw (part-holds (p .0) r (p .1 .0) .front) at (c .before .before .before .y-of-events .ensures)))
 
 pub fill-clash-spec : {M : Type 1} → statement M
 fill-clash-spec =

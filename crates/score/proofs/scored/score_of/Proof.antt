@@ -47,13 +47,13 @@ same-length : tie.Need-same-length
 same-length c = search needs
 
 returns : tie.Need-returns
-returns c = λ d a.
+returns c = λ d a t.
     let p = c .before .before .before .before .before .before .before .before .before .before .before .before .before .before .before .before .before .before .before .before .pre in
     let u = c .before .before .before .before .before .before .before .before .before .before .before .count-uses in
     let m = c .before .before .before .before .before .before .before .mark-used in
     let r = c .before .before .charge-all .ensures in
     let l = u .kept .0 ∙ zeros-long in
-    (infeasibility-right a p l (u .ensures) (m .ensures) (r .0), objective-right a p l (u .ensures) (m .ensures) (r .1))
+    (infeasibility-right a p t l (u .ensures) (m .ensures) (r .0), objective-right a p t l (u .ensures) (m .ensures) (r .1))
 
 pub score-of-spec : {M : Type 1} → statement M
 score-of-spec =

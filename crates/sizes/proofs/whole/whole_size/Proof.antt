@@ -40,7 +40,7 @@ returns : tie.Need-returns
 returns c =
     let o = c .before .before .before .before .before .before .before .before .before .before .before .before .before .before .before .before .before .pre in
     let f = c .before .before .before .before .before .before .before .before .before .before .fill-users .ensures in
-    opened-whole o f (c .before .before .before .before .before .before .before .before-size .ensures .1 _ (opened-users o f)) (c .before .before .before .constraints-total .ensures _ _ (opened-tabled o f))
+    opened-whole o f (c .before .before .before .before .before .before .before .before-size .ensures .1 _ (opened-users o f)) (c .before .before .before .constraints-total .ensures _ (opened-tabled o f))
 
 pub whole-size-spec : {M : Type 1} → statement M
 whole-size-spec =

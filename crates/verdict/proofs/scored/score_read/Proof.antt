@@ -1,5 +1,5 @@
 -- `verdict::scored::score_read` meets its contract. The verdict first, then the score.
-use Rattle.verdict.proofs.laws.Answers.{timetable-long, score-refused, score-scored}
+use Rattle.verdict.proofs.laws.Answers.{timetable-long, score-passed, score-refused, score-scored}
 use Rattle.score.proofs.laws.Ready.{scorable}
 use borrow.Author.Needs.{needs}
 use Rattle.verdict.proofs.scored.score_read.Statement.{statement}
@@ -29,7 +29,11 @@ same-length : tie.Need-same-length
 same-length c = search needs
 
 returns-2 : tie.Need-returns-2
-returns-2 c = score-scored (c .before .before .before .before .before .before .before .before .before .before .before .before .before .before .before .pre .0) (c .before .before .before .before .before .before .before .before .verdict-of .ensures) (c .before .before .before .before .before .before .enum-told .given .1) (c .before .before .before .before .score-of .ensures _ (c .before .before .before .before .before .before .before .before .before .before .before .before .before .before .before .pre .0))
+returns-2 c =
+    let a = c .before .before .before .before .before .before .before .before .before .before .before .before .before .before .before .pre .0 in
+    let o = c .before .before .before .before .before .before .before .before .verdict-of .ensures in
+    let t = c .before .before .before .before .before .before .enum-told .given .1 in
+    score-scored a o t (c .before .before .before .before .score-of .ensures _ a (score-passed a o t))
 
 pub score-read-spec : {M : Type 1} → statement M
 score-read-spec =

@@ -1,20 +1,18 @@
 -- Passing through the times and through an ascending row together.
-use Prim.Native.Nat.{ℕ, _+_, _-_, _≤_, _<_}
+use Prim.Native.Nat.{ℕ, _+_, _≤_, _<_}
 use mathlib.Core.Path.{_≡_, refl, sym, _∙_}
 use mathlib.Core.Bool.{Bool, true, false, cond}
-use mathlib.Core.List.{List, [], _∷_, _++_, map, map-append}
+use mathlib.Core.List.{List, [], _∷_}
 use native.Mathlib.Omega.{arith}
 use borrow.Author.Tests.{eq-eqb, ne-eqb, eqb-true, eqb-false}
 use lib.Dec.{eqb}
-use lib.ListN.{length, drop, set}
+use lib.ListN.{drop}
 use lib.Seq.{drop-drop}
-use Rattle.scope.specs.Kinds.{from, member, outside}
+use Rattle.scope.specs.Kinds.{member}
 use Rattle.parsing.specs.Numbers.{Ascending, none, more}
-use Rattle.literals.specs.Words.{Holds, Indicator, startsWith}
-use Rattle.literals.proofs.laws.Words.{holds-as, holds-unless, cond-append}
-use Rattle.literals.proofs.Turns.{times-more}
+use Rattle.literals.specs.Words.{Indicator, startsWith}
 
--- an ascending list has no member up to where it startsWith
+-- an ascending list has no member up to where it starts
 below : (x n before : ℕ) (l : List ℕ) → Ascending n before l → x ≤ before → member x l ≡ false
 unfolding member
 below x n before [] none h = refl
@@ -55,37 +53,17 @@ pub record Passed (n : ℕ) (row : List ℕ) (k t : ℕ) : Type 0 where
 pub passed-none : (n : ℕ) (row : List ℕ) → Ascending n 0 row → Passed n row 0 0
 passed-none n row a = record { above = a; later = λ x h. refl }
 
-outside-last : (g ts : List ℕ) (t : ℕ) → outside g (ts ++ (t ∷ [])) ≡ outside g ts ++ cond (member t g) [] (t ∷ [])
-unfolding outside
-outside-last g [] t = refl
-outside-last g (u ∷ ts) t =
-    rw (outside-last g ts t) (cond-append (member u g) (outside g ts) (u ∷ outside g ts) (cond (member t g) [] (t ∷ [])))
+module _ {n : ℕ} {row : List ℕ} {k t : ℕ} (p : Passed n row k t) where
+  -- time t + 1 is in the row where member k is it
+  pub passed-here : member (t + 1) row ≡ startsWith (t + 1) (drop k row)
+  passed-here = p .later (t + 1) (omega arith) ∙ passing n t (drop k row) (p .above) .here
 
-map-unless : (f : ℕ → ℕ) (b : Bool) (t : ℕ) → map f (cond b [] (t ∷ [])) ≡ cond b [] (f t ∷ [])
-map-unless f true t = refl
-map-unless f false t = refl
-
-module _ {n : ℕ} {row : List ℕ} {k t : ℕ} (p : Passed n row k t) {h : ℕ} (o : Indicator (startsWith (t + 1) (drop k row)) h) where
-  -- time t + 1 is passed
-  pub passed-more : Passed n row (k + h) (t + 1)
-  passed-more =
+  -- and it is passed
+  pub passed-more : {h : ℕ} → Indicator (startsWith (t + 1) (drop k row)) h → Passed n row (k + h) (t + 1)
+  passed-more o =
       let l = passing n t (drop k row) (p .above) in
       rw (o .is)
       (record {
         above = rw drop-drop at (l .above);
         later = λ x h. p .later x (omega arith) ∙ rw drop-drop at (l .later x h);
       })
-
-  -- and it is outside the group unless member k is it; x is its literal
-  pub next-other : (f : ℕ → ℕ) (words : List ℕ) (m x : ℕ)
-      → Holds words m (map f (outside row (from 1 t)))
-      → m < length words
-      → x ≡ f (t + 1)
-      → Holds (set words m x) (m + (1 - h)) (map f (outside row (from 1 (t + 1))))
-  next-other f words m x q l v =
-      let b = startsWith (t + 1) (drop k row) in
-      let i : member (t + 1) row ≡ b = p .later (t + 1) (omega arith) ∙ passing n t (drop k row) (p .above) .here in
-      let e : map f (outside row (from 1 (t + 1))) ≡ map f (outside row (from 1 t)) ++ cond b [] (x ∷ []) =
-      rw (times-more t, outside-last row (from 1 t) (t + 1), map-append f (outside row (from 1 t)) (cond (member (t + 1) row) [] ((t + 1) ∷ [])), i, map-unless f b (t + 1), v)
-      in
-      holds-as (sym e) (holds-unless q o x l)

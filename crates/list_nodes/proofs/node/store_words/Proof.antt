@@ -1,4 +1,4 @@
--- `list_nodes::node::copy` meets its contract. The loop's invariant: the words are those that stay, then those of the row that were passed.
+-- `list_nodes::node::store_words` meets its contract. The loop's invariant: the words are those that stay, then those of the row that were passed.
 use borrow.Author.Needs.{needs}
 use Rattle.list_nodes.proofs.Nodes.{copied-none, copied-more}
 use Rattle.literals.specs.Words.{Holds}
@@ -8,8 +8,8 @@ use native.Mathlib.Omega.{arith}
 use mathlib.Core.List.{_++_}
 use mathlib.Core.Path.{_≡_, refl}
 use Prim.Native.Nat.{_+_, _-_, _≤_}
-use Rattle.list_nodes.proofs.node.copy.Statement.{statement}
-use Rattle.list_nodes.proofs.node.copy.Tie as tie
+use Rattle.list_nodes.proofs.node.store_words.Statement.{statement}
+use Rattle.list_nodes.proofs.node.store_words.Tie as tie
 
 abbrev Inv-loop : tie.InvT-loop
 Inv-loop row from to at out₀ k₀ n₀ out k n =
@@ -54,8 +54,8 @@ same-length c = search needs
 returns : tie.Need-returns Inv-loop μ-loop
 returns c = let l = c .before .loop in let e : l .k ≡ c .before .before .args .to = omega arith in (holds-as (rw e) (l .inv .4), omega (arith, l .inv .2))
 
-pub copy-spec : {M : Type 1} → statement M
-copy-spec =
+pub store-words-spec : {M : Type 1} → statement M
+store-words-spec =
     tie.close
     (tie.spec
     Inv-loop

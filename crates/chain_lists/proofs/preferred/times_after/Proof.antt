@@ -1,0 +1,31 @@
+-- `chain_lists::preferred::times_after` meets its contract.
+use Prim.Native.Nat.{_-_}
+use native.Mathlib.Omega.{arith}
+use borrow.Author.Needs.{needs}
+use Rattle.chain_lists.proofs.preferred.times_after.Statement.{statement}
+use Rattle.chain_lists.proofs.preferred.times_after.Tie as tie
+
+sub-at : tie.Need-sub-at
+sub-at c = search needs
+
+cast-at : tie.Need-cast-at
+cast-at c = search needs
+
+shared-slice-read-d : tie.Need-shared-slice-read-d
+shared-slice-read-d c = search needs
+
+cast-d : tie.Need-cast-d
+cast-d c = omega (arith, c .shared-slice-known .given (c .before .args .event - 1))
+
+returns : tie.Need-returns
+returns c = search needs
+
+sub-result : tie.Need-sub-result
+sub-result c = search needs
+
+returns-2 : tie.Need-returns-2
+returns-2 c = search needs
+
+pub times-after-spec : {M : Type 1} → statement M
+times-after-spec =
+    tie.close (tie.spec sub-at cast-at shared-slice-read-d cast-d returns sub-result returns-2)
