@@ -17,11 +17,11 @@ static const uint8_t model[] = {1, 1, 1, 1};
 static const uint8_t no_model[] = {1, 1, 1, 0};
 
 /* A refutation at bound 3. */
-static const uint8_t proof[] = {0x61, 0x11, 0, 5, 4, 6, 0x0e, 0x10, 0};
+static const uint8_t proof[] = {0x61, 0x11, 0, 5, 4, 2, 6, 0x0e, 0x10, 0};
 
 static const char text[] =
     "p wcnf 4 8 5\n5 1 -2 0\n5 -1 2 0\n5 -1 3 0\n5 1 -3 0\n5 3 0\n"
-    "5 -1 4 0\n5 1 -4 0\n4 -4 0\n";
+    "5 -2 4 0\n5 2 -4 0\n4 -4 0\n";
 
 /* What stands in an output that is left alone. */
 static const uint64_t kept = 77;
@@ -228,7 +228,7 @@ static void checked(void)
 static void checked_hard(void)
 {
     static const uint8_t hard[] = {1, 1, 0, 1, 0, 1, 0, 1, 3, 0, 1, 1};
-    static const uint8_t refutation[] = {'a', 9, 0, 5, 4, 6, 8, 0};
+    static const uint8_t refutation[] = {'a', 9, 0, 5, 4, 2, 6, 8, 0};
     uint64_t value = kept;
     fill_stores();
     expect("check without the tail",

@@ -13,11 +13,11 @@ static const bytes table = {1, 1};
 static const bytes model = {1, 1, 1, 1};
 static const bytes no_model = {1, 1, 1, 0};
 /* A refutation at bound 3, and one that first adds the clause (3). */
-static const bytes proof = {'a', 17, 0, 5, 4, 6, 14, 16, 0};
-static const bytes longer = {'a', 17, 6, 0, 5, 0, 'd', 5, 0, 'a', 18, 0, 17, 4, 6, 14, 16, 0};
+static const bytes proof = {'a', 17, 0, 5, 4, 2, 6, 14, 16, 0};
+static const bytes longer = {'a', 17, 6, 0, 5, 0, 'd', 5, 0, 'a', 18, 0, 17, 4, 2, 6, 14, 16, 0};
 /* The same file with its constraint hard, and a refutation of its hard clauses. */
 static const bytes hard = {1, 1, 0, 1, 0, 1, 0, 1, 3, 0, 1, 1};
-static const bytes hard_proof = {'a', 9, 0, 5, 4, 6, 8, 0};
+static const bytes hard_proof = {'a', 9, 0, 5, 4, 2, 6, 8, 0};
 static const bytes nothing;
 
 static int failures = 0;

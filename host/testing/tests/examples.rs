@@ -18,7 +18,7 @@ fn scored<E>(infeasibility: u64, objective: u64) -> Result<Score, E> {
 
 #[test]
 fn text_of_file_a() {
-    let expected = b"p wcnf 4 8 5\n5 1 -2 0\n5 -1 2 0\n5 -1 3 0\n5 1 -3 0\n5 3 0\n5 -1 4 0\n5 1 -4 0\n4 -4 0\n";
+    let expected = b"p wcnf 4 8 5\n5 1 -2 0\n5 -1 2 0\n5 -1 3 0\n5 1 -3 0\n5 3 0\n5 -2 4 0\n5 2 -4 0\n4 -4 0\n";
     assert_eq!(text_program(&hex(FILE_A)), expected);
 }
 
@@ -32,8 +32,10 @@ fn timetables_of_file_a() {
 fn proofs_of_file_a() {
     let run = |bound, proof: &str| check(&hex(FILE_A), bound, &hex(proof), 99, 99, 99);
     assert_eq!(run(3, PROOF_A), Ok(1));
+    // Without the hint 2, clause 6 has two open literals.
+    assert_eq!(run(3, "61 11 00 05 04 06 0E 10 00"), refused(16, 1));
     assert_eq!(run(4, PROOF_A), refused(14, 1));
-    assert_eq!(run(4, "61 13 00 05 04 06 0E 10 00"), refused(16, 1));
+    assert_eq!(run(4, "61 13 00 05 04 02 06 0E 10 00"), refused(16, 1));
     assert_eq!(run(3, ""), refused(18, 0));
 }
 
@@ -63,6 +65,65 @@ fn idle_times() {
         score(&file, &hex("00 01 00 00 01 00 00 01 00 00 01 00")),
         scored(0, 2)
     );
+}
+
+/// A double in two times, with a group of one of them: it costs its whole length
+/// if it starts outside, wherever it ends.
+#[test]
+fn preferred_times() {
+    let with = |member| numbers(&[2, 1, 0, 2, 0, 1, 1, member, 1, 3, 1, 1, 1]);
+    let double = hex("01 01 01 00");
+    assert_eq!(score(&with(2), &double), scored(0, 2));
+    assert_eq!(score(&with(1), &double), scored(0, 0));
+    assert_eq!(score(&with(1), &hex("01 01 01 01")), scored(0, 1));
+}
+
+/// The clauses of a hard kind 3 for an event of duration 2 in three times: its
+/// gates, a counter of one column over its members, the unit.
+#[test]
+fn clauses_of_preferred_times() {
+    let added = |member| {
+        let start = [3, 1, 0, 2, 0, 1, 1, member];
+        let all = clauses(&numbers(&[&start[..], &[1, 3, 0, 1, 1]].concat()), None);
+        let without = clauses(&numbers(&[&start[..], &[0]].concat()), None);
+        all[without.len()..].to_vec()
+    };
+    let scattered: [&[i64]; 15] = [
+        &[2, -16],
+        &[-5, -16],
+        &[-2, 5, 16],
+        &[4, -17],
+        &[16, -17],
+        &[-4, -16, 17],
+        &[-4, 18],
+        &[4, -18],
+        &[-18, 19],
+        &[-17, 19],
+        &[17, 18, -19],
+        &[-19, 20],
+        &[-6, 20],
+        &[6, 19, -20],
+        &[-20],
+    ];
+    assert_eq!(added(2), scattered);
+    let adjacent: [&[i64]; 15] = [
+        &[3, -16],
+        &[-6, -16],
+        &[-3, 6, 16],
+        &[5, -17],
+        &[16, -17],
+        &[-5, -16, 17],
+        &[-6, 18],
+        &[-17, 18],
+        &[6, 17, -18],
+        &[-5, 19],
+        &[5, -19],
+        &[-19, 20],
+        &[-18, 20],
+        &[18, 19, -20],
+        &[-20],
+    ];
+    assert_eq!(added(1), adjacent);
 }
 
 /// "Two doubles and a single" in six times: two subevents of length 2, one of

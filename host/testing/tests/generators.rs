@@ -9,7 +9,7 @@ use testing::generate::{
     damaged_instance, damaged_numbers, damaged_table, encode, instance, lent, model, number_starts,
     proof, timetable, Random, Shape,
 };
-use testing::reference::{Constraint, Infeasibility, Instance, Kind, Refusal};
+use testing::reference::{Constraint, Infeasibility, Instance, Kind, Refusal, Sheet};
 
 /// How often each refusal was given; 0 stands for acceptance.
 #[derive(Default, Debug)]
@@ -127,6 +127,80 @@ fn lengths_of_every_sort_are_drawn() {
     println!("seeds 0..2_000: {seen:?}");
     assert_eq!(seen.len(), 11);
     assert!(seen.values().all(|&count| count >= 20));
+}
+
+/// Which times lie outside a group.
+fn times_outside(instance: &Instance, group: usize) -> &'static str {
+    let outside: Vec<bool> = (0..instance.times)
+        .map(|time| instance.outside(group, time))
+        .collect();
+    let adjacent = outside.windows(2).any(|two| two == [true, true]);
+    match (outside.contains(&true), outside.contains(&false)) {
+        (false, _) => "none",
+        (_, false) => "all",
+        _ if adjacent => "adjacent",
+        _ => "scattered",
+    }
+}
+
+/// What a subevent does that holds times of both sides of a group, and what comes
+/// after a subevent that starts outside.
+fn crossings(instance: &Instance, event: usize, group: usize, table: &[u8]) -> Vec<&'static str> {
+    let sheet = Sheet::read(instance, table).expect("a timetable");
+    let outside = |&time: &usize| instance.outside(group, time);
+    let mut cases = Vec::new();
+    for start in sheet.starts_of(event) {
+        let end = start + sheet.length_from(event, start);
+        let mut others = start + 1..end;
+        match outside(&start) {
+            true => {
+                cases.extend(others.any(|time| !outside(&time)).then_some("runs in"));
+                let next = end < instance.times && sheet.starts(event, end);
+                cases.extend((next && !outside(&end)).then_some("then one inside"));
+            }
+            false => cases.extend(others.any(|time| outside(&time)).then_some("runs out")),
+        }
+    }
+    cases
+}
+
+/// Kind 3, hard and soft, for each sort of duration and of group; each sort of time
+/// in its list, and each way of a subevent across the group's borders.
+#[test]
+fn preferred_times_of_every_sort_are_drawn() {
+    let mut lists: BTreeMap<(usize, &str, bool), usize> = BTreeMap::new();
+    let mut seen: BTreeMap<&str, usize> = BTreeMap::new();
+    for seed in 0..6_000 {
+        let mut random = Random::new(seed);
+        let instance = instance(&mut random, &shape(seed));
+        let table = timetable(&mut random, &instance);
+        for constraint in &instance.constraints {
+            let Kind::PreferredTimes { event, group } = constraint.kind else {
+                continue;
+            };
+            let duration = instance.events[event].duration.min(4);
+            let outside = times_outside(&instance, group);
+            let list = (duration, outside, constraint.weight == 0);
+            *lists.entry(list).or_default() += 1;
+            let mut cases = crossings(&instance, event, group, &table);
+            for time in 0..instance.times {
+                let reachable = instance.reachable(event, group, time);
+                cases.push(match (instance.outside(group, time), reachable) {
+                    (true, true) => "outside and reachable",
+                    (true, false) => "outside alone",
+                    (false, true) => "reachable alone",
+                    (false, false) => "no member",
+                });
+            }
+            for case in cases {
+                *seen.entry(case).or_default() += 1;
+            }
+        }
+    }
+    println!("seeds 0..6_000: {lists:?}, {seen:?}");
+    assert_eq!((lists.len(), seen.len()), (4 * 4 * 2, 7));
+    let mut counts = lists.values().chain(seen.values());
+    assert!(counts.all(|&count| count >= 20));
 }
 
 /// The refusals of one damaged field of kinds 9 and 10.

@@ -87,8 +87,10 @@ fn a_long_tail_leaves_no_room_for_another_list() {
     let (instance, table) = long_tail(&mut Random::new(1), 4_095, 8_000_000);
     keeps(&instance, &table);
     let sizes = sizes(&encode(&instance), Some(4_095)).expect("a tail that fits");
-    // A list of ten has ten rows of the tail and a counter of a hundred cells.
-    assert!(sizes.variables + 10 * 4_096 + 100 > 8_000_000);
+    // Ten times lie outside. Of a lesson of duration 4 the nine after the first have
+    // three gates each and three more times two: thirteen rows of the tail.
+    let gates = 9 * 3 + 3 * 2;
+    assert!(sizes.variables + 13 * 4_096 + 13 * 13 + gates > 8_000_000);
 }
 
 #[test]

@@ -4,36 +4,20 @@
 
 mod support;
 
-use support::both::{decode, read, score, sizes};
-use support::models::{assignments, Models};
-use testing::generate::{encode, model};
-use testing::reference::{
-    Constraint, Event, Infeasibility, Instance, Kind, Objective, Range, Score,
-};
+use support::both::read;
+use support::models::{models_match, one_event, subevents};
+use testing::reference::{Constraint, Kind, Range};
 
 const MOST_TIMES: usize = 4;
 /// The weight of soft constraints; 0 means hard.
 const WEIGHTS: [u32; 2] = [0, 3];
 
-/// The lengths of the subevents of the only event: each start begins one, and
-/// each other taken time makes the last one longer.
-fn lengths(table: &[u8]) -> Vec<usize> {
-    let (taken, starts) = table.split_at(table.len() / 2);
-    let mut lengths = Vec::new();
-    for (&taken, &start) in taken.iter().zip(starts) {
-        match (taken, start) {
-            (1, 1) => lengths.push(1),
-            (1, _) => *lengths.last_mut().expect("a start before it") += 1,
-            _ => {}
-        }
-    }
-    lengths
-}
-
 /// What the constraint counts, and how far that lies outside what is allowed.
-fn deviation(kind: &Kind, lengths: &[usize]) -> u64 {
+fn deviation(kind: &Kind, table: &[u8]) -> u64 {
+    let subevents = subevents(table);
     let counted = |wanted: &dyn Fn(usize) -> bool| {
-        lengths.iter().filter(|&&length| wanted(length)).count() as u64
+        let lengths = subevents.iter().map(|&(_, length)| length);
+        lengths.filter(|&length| wanted(length)).count() as u64
     };
     match *kind {
         Kind::Distribute { length, range, .. } => {
@@ -70,57 +54,6 @@ fn kinds(times: usize) -> Vec<Kind> {
     kinds
 }
 
-fn instance(times: usize, duration: usize, constraint: Constraint) -> Instance {
-    let event = Event {
-        duration,
-        resources: Vec::new(),
-    };
-    Instance {
-        times,
-        resources: 0,
-        events: vec![event],
-        groups: Vec::new(),
-        constraints: vec![constraint],
-    }
-}
-
-/// A timetable has one model if it keeps the constraint or the constraint is
-/// soft, and the model costs what the timetable does; nothing else has a model.
-fn models_match(instance: &Instance) -> usize {
-    let file = encode(instance);
-    let Constraint { weight, kind } = &instance.constraints[0];
-    let variables = sizes(&file, None).unwrap().variables as usize;
-    let models = Models::of(instance, variables);
-    let mut timetables = 0;
-    for table in assignments(instance) {
-        let found = models.extending(&table);
-        let Ok(scored) = score(&file, &table) else {
-            assert!(found.is_empty(), "{instance:?}, {table:?}");
-            continue;
-        };
-        timetables += 1;
-        let deviation = deviation(kind, &lengths(&table));
-        let (broken, cost) = match weight {
-            0 => (deviation, 0),
-            _ => (0, u64::from(*weight) * deviation),
-        };
-        let expected = Score {
-            infeasibility: Infeasibility(broken),
-            objective: Objective(cost),
-        };
-        assert_eq!(scored, expected, "{instance:?}, {table:?}");
-        let extended = model(instance, &table);
-        if broken > 0 {
-            assert!(found.is_empty(), "{instance:?}, {table:?}");
-            assert_eq!(decode(&file, &extended).unwrap_err().number, 13);
-            continue;
-        }
-        assert_eq!(found, [extended], "{instance:?}, {table:?}");
-        assert_eq!(decode(&file, &found[0]), Ok((&table[..], Objective(cost))));
-    }
-    timetables
-}
-
 #[test]
 fn models_and_timetables_match_one_to_one() {
     let (mut instances, mut timetables) = (0, 0);
@@ -129,8 +62,10 @@ fn models_and_timetables_match_one_to_one() {
             for kind in kinds(times) {
                 for weight in WEIGHTS {
                     let kind = kind.clone();
-                    let instance = instance(times, duration, Constraint { weight, kind });
-                    timetables += models_match(&instance);
+                    let constraint = Constraint { weight, kind };
+                    let instance = one_event(times, duration, Vec::new(), constraint);
+                    let kind = &instance.constraints[0].kind;
+                    timetables += models_match(&instance, |table| deviation(kind, table));
                     instances += 1;
                 }
             }

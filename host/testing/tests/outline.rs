@@ -34,16 +34,18 @@ fn its_sums_are_the_sizes_of_the_formula() {
     }
 }
 
-/// The event of a constraint of kind 9 or 10.
+/// The event of a constraint of kind 3, 9 or 10.
 fn event_of(kind: &Kind) -> usize {
     match *kind {
-        Kind::Distribute { event, .. } | Kind::Lengths { event, .. } => event,
-        _ => panic!("no other kind asks for lengths"),
+        Kind::PreferredTimes { event, .. }
+        | Kind::Distribute { event, .. }
+        | Kind::Lengths { event, .. } => event,
+        _ => panic!("no other kind asks for subevents"),
     }
 }
 
 /// The variables of the clauses that are easy to name: those of starts, uses,
-/// times that go on, lengths, and the last column of a counter.
+/// times that go on or are held, lengths, and the last column of a counter.
 #[test]
 fn its_clauses_are_those_of_the_formula() {
     let mut named = 0;
@@ -74,6 +76,9 @@ fn its_clauses_are_those_of_the_formula() {
                 (Owner::Constraint { index }, Purpose::GoesOn { time, inputs: 2 }) => {
                     y(event_of(&typed.constraints[index].kind), time)
                         + [0, events * times, 0][found.place as usize] as u32
+                }
+                (Owner::Constraint { index }, Purpose::Held { time }) if found.place != 1 => {
+                    y(events + event_of(&typed.constraints[index].kind), time)
                 }
                 (Owner::Constraint { index }, Purpose::Counted { time, inputs })
                     if found.place == 0 || found.place == inputs as u64 =>
@@ -128,12 +133,10 @@ fn the_clauses_of_file_a_are_told() {
     );
 }
 
-/// What the clauses of kinds 9 and 10 say where they are false: three times, an
-/// event of duration 2, hard; one double, then no part of another length.
-#[test]
-fn the_clauses_of_lengths_are_told() {
-    let file = hex("03 01 00 02 00 00 02 09 00 01 02 01 01 0A 00 01 02 02");
-    let typed = read(&file).expect("an accepted file");
+/// What the clauses of a file's constraints say where they are false, those of
+/// counters left out, each once.
+fn told(file: &str) -> Vec<String> {
+    let typed = read(&hex(file)).expect("an accepted file");
     let outline = Outline::of(&typed);
     let mut said: Vec<String> = (1..)
         .map_while(|id| outline.clause(id))
@@ -142,6 +145,41 @@ fn the_clauses_of_lengths_are_told() {
         .filter(|words| !words.contains("counter"))
         .collect();
     said.dedup();
+    said
+}
+
+/// Kind 3, hard: three times, an event of duration 2, the group (2), then (1).
+#[test]
+fn the_clauses_of_preferred_times_are_told() {
+    let said = told("03 01 00 02 00 02 01 02 01 01 02 03 00 01 01 03 00 01 02");
+    let mut wanted = Vec::new();
+    for (number, time, held) in [(1, 2, false), (2, 3, true)] {
+        let mut says = |words: &str| {
+            let kind = "kind preferred-times";
+            wanted.push(format!("block 4, constraint {number}, {kind}: {words}"));
+        };
+        let outside = "the variable for a subevent that starts outside the group and";
+        says(&format!(
+            "the variable for a subevent that goes on at time {time} has a wrong value"
+        ));
+        says(&format!(
+            "{outside} goes on at time {time} has a wrong value"
+        ));
+        if held {
+            says(&format!("{outside} holds time {time} has a wrong value"));
+        }
+        says(
+            "the number of the event's times in subevents that start outside the group is above 0",
+        );
+    }
+    assert_eq!(said, wanted);
+}
+
+/// Kinds 9 and 10, hard: three times, an event of duration 2; one double, then no
+/// part of another length.
+#[test]
+fn the_clauses_of_lengths_are_told() {
+    let said = told("03 01 00 02 00 00 02 09 00 01 02 01 01 0A 00 01 02 02");
     let mut wanted = Vec::new();
     for kind in ["1, kind distribute", "2, kind lengths"] {
         let mut says = |words: &str| wanted.push(format!("block 4, constraint {kind}: {words}"));

@@ -6,10 +6,12 @@
 
 mod support;
 
-use support::both::{check, decode, read, same_sheet, score, sizes, text, text_program, text_size};
+use support::both::{
+    check, check_hard, decode, read, same_sheet, score, sizes, text, text_program, text_size,
+};
 use support::{clauses, first_times, hex, numbers, oversized, refused, FILE_A, PROOF_A};
 use testing::prover::{clause_list, solve, Verdict};
-use testing::reference::{Infeasibility, Instance, Objective, Refusal, Score, Summary};
+use testing::reference::{Infeasibility, Instance, Objective, Refusal, Score, Sizes, Summary};
 use testing::steps::encode_steps;
 
 fn read_of(file: &str) -> Result<Summary, Refusal> {
@@ -49,6 +51,24 @@ mod general {
                 Ok(steps.len() as u64)
             );
         }
+        // A with weight 0 has the unit as its eighth hard clause.
+        let hard = hex("01 01 00 01 00 01 00 01 03 00 01 01");
+        let proof = hex("61 09 00 05 04 02 06 08 00");
+        for bound in [0, 4_095] {
+            assert_eq!(check(&hard, bound, &proof, 1_000, 1_000, 1_000), Ok(1));
+        }
+    }
+
+    /// Decision 58: Without the tail a check asks whether any timetable keeps the hard
+    /// constraints.
+    #[test]
+    fn without_the_tail_the_cost_does_not_matter() {
+        let hard = hex("01 01 00 01 00 01 00 01 03 00 01 01");
+        let lent = [1_000; 3];
+        let proof = hex("61 09 00 05 04 02 06 08 00");
+        assert_eq!(check_hard(&hard, &proof, lent), Ok(1));
+        let proof = hex(PROOF_A);
+        assert_eq!(check_hard(&hex(FILE_A), &proof, lent), refused(15, 1));
     }
 }
 
@@ -238,6 +258,87 @@ mod timetables {
         let file = hex("02 01 01 01 01 01 01 01 01 01 06 01 01 01 00 00");
         assert_eq!(score(&file, &hex("00 01 00 01")), scored(0, 0));
         assert_eq!(score(&file, &hex("01 00 01 00")), scored(0, 1));
+    }
+}
+
+mod preferred_times {
+    use super::*;
+
+    /// Decision 68: A subevent that starts outside counts with all of its times, one
+    /// that starts inside with none.
+    #[test]
+    fn a_subevent_is_charged_by_its_start() {
+        let file = hex("02 01 00 02 00 01 01 02 01 03 01 01 01");
+        assert_eq!(score(&file, &[1, 1, 1, 0]), scored(0, 2));
+        let file = hex("02 01 00 02 00 01 01 01 01 03 01 01 01");
+        assert_eq!(score(&file, &[1, 1, 1, 0]), scored(0, 0));
+        assert_eq!(score(&file, &[1, 1, 1, 1]), scored(0, 1));
+    }
+
+    /// Decision 69: The list has the times that a subevent that starts outside can hold.
+    #[test]
+    fn the_list_follows_from_duration_and_group() {
+        let sizes_of = |file: &str| {
+            let sizes = sizes(&hex(file), None).unwrap();
+            let Sizes {
+                variables,
+                clauses,
+                words,
+                soft,
+                top,
+            } = sizes;
+            [variables, clauses, words, soft, top]
+        };
+        // All three times in the group; then the second and third, for durations 1 to 3.
+        let all = "03 01 00 01 00 01 03 01 02 03 01 03 01 01 01";
+        assert_eq!(sizes_of(all), [12, 26, 59, 0, 1]);
+        let two = |duration| format!("03 01 00 {duration} 00 01 02 02 03 01 03 01 01 01");
+        assert_eq!(sizes_of(&two("01")), [13, 28, 63, 1, 2]);
+        assert_eq!(sizes_of(&two("02")), [21, 53, 123, 2, 3]);
+        assert_eq!(sizes_of(&two("03")), [28, 75, 179, 3, 4]);
+    }
+
+    /// Decision 70: No list of kind 3 earns 4 or 5, the empty one and the longest neither.
+    #[test]
+    fn no_list_is_refused() {
+        assert!(read_of("03 01 00 01 00 01 03 01 02 03 01 03 01 01 01").is_ok());
+        for duration in [1, 2, 125] {
+            let file = numbers(&[125, 1, 0, duration, 0, 1, 0, 1, 3, 1, 1, 1]);
+            assert_eq!(sizes(&file, None).unwrap().soft, 125);
+        }
+    }
+
+    /// Decision 71: M, C and D are gates of their own, each time only those that it needs.
+    #[test]
+    fn a_time_has_up_to_three_gates() {
+        // Four times and duration 2; a hard list has a counter of one column.
+        let gates = |group: &[u32], members: u64| {
+            let count = group.len() as u32;
+            let start = [&[4, 1, 0, 2, 0, 1, count], group].concat();
+            let variables = |rest: &[u32]| {
+                let file = numbers(&[&start, rest].concat());
+                sizes(&file, None).unwrap().variables
+            };
+            variables(&[1, 3, 0, 1, 1]) - variables(&[0]) - members
+        };
+        assert_eq!(gates(&[1, 2, 3, 4], 0), 0);
+        assert_eq!(gates(&[1, 2, 3], 1), 0);
+        assert_eq!(gates(&[1, 3, 4], 2), 2);
+        assert_eq!(gates(&[1, 4], 3), 3 + 2);
+        assert_eq!(gates(&[], 4), 3 * 3);
+    }
+
+    /// Decision 72: A's list is S(1), so its proof needs clause 2 before clause 6.
+    #[test]
+    fn the_list_of_a_is_its_start() {
+        let all = clauses(&hex(FILE_A), Some(3));
+        assert_eq!(all[5..7], [[-2, 4], [2, -4]]);
+        assert_eq!(all.len(), 16);
+        let sizes = sizes(&hex(FILE_A), Some(3)).unwrap();
+        assert_eq!((sizes.variables, sizes.words), (8, 30));
+        assert_eq!(check_a(PROOF_A), Ok(1));
+        assert_eq!(check_a("61 11 00 05 04 06 0E 10 00"), refused(16, 1));
+        assert_eq!(score(&hex(FILE_A), &[1, 1]), scored(0, 4));
     }
 }
 
@@ -464,17 +565,20 @@ mod sizing {
     /// Decision 30: Only proof checks count the tail for 8; 8,000,000 variables pass.
     #[test]
     fn the_tail_counts_for_proof_checks_alone() {
-        // 503 events of duration 124 and one of 115 make 63,999 × 125
-        // variables; a hard preferred time adds 123, a soft one 1 and its unit.
+        // 503 events of duration 124 and one of 115 make 63,999 × 125 variables. Of
+        // preferred times with the last time outside, a hard one adds 1, the soft one 1
+        // and its unit.
         let mut values = vec![125, 504, 0];
         for _ in 0..503 {
             values.extend([124, 0]);
         }
-        values.extend([115, 0, 2, 2]);
-        values.extend(1..=2);
-        values.push(124);
+        values.extend([115, 0, 1, 124]);
         values.extend(1..=124);
-        values.extend([2, 3, 0, 1, 1, 3, 1, 1, 2]);
+        values.push(124);
+        for _ in 0..123 {
+            values.extend([3, 0, 1, 1]);
+        }
+        values.extend([3, 1, 1, 1]);
         let file = numbers(&values);
         assert_eq!(sizes(&file, None).unwrap().variables, 7_999_999);
         assert_eq!(sizes(&file, None).unwrap().soft, 1);

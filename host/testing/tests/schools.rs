@@ -29,10 +29,10 @@ macro_rules! school {
 
 fn toy() -> School {
     let without_tail = Sizes {
-        variables: 1_246,
-        clauses: 3_971,
-        words: 9_893,
-        soft: 58,
+        variables: 1_289,
+        clauses: 4_114,
+        words: 10_250,
+        soft: 59,
         top: 0,
     };
     School {
@@ -47,27 +47,27 @@ fn toy() -> School {
             groups: 7,
             constraints: 43,
         },
-        cost: 4,
+        cost: 3,
         without_tail,
-        text: 63_786,
-        bound: 3,
+        text: 66_653,
+        bound: 2,
         with_tail: Sizes {
-            variables: 1_478,
-            clauses: 4_835,
-            words: 12_187,
+            variables: 1_466,
+            clauses: 4_759,
+            words: 11_943,
             ..without_tail
         },
-        steps: 136,
-        fits: [12_283, 4_903, 1_478],
+        steps: 81,
+        fits: [12_016, 4_809, 1_466],
     }
 }
 
 fn small() -> School {
     let without_tail = Sizes {
-        variables: 20_327,
-        clauses: 72_950,
-        words: 192_199,
-        soft: 607,
+        variables: 20_583,
+        clauses: 73_808,
+        words: 194_351,
+        soft: 609,
         top: 0,
     };
     School {
@@ -82,18 +82,18 @@ fn small() -> School {
             groups: 12,
             constraints: 181,
         },
-        cost: 11,
+        cost: 8,
         without_tail,
-        text: 1_538_300,
-        bound: 10,
+        text: 1_561_878,
+        bound: 7,
         with_tail: Sizes {
-            variables: 27_004,
-            clauses: 98_994,
-            words: 262_988,
+            variables: 25_455,
+            clauses: 92_635,
+            words: 245_297,
             ..without_tail
         },
-        steps: 539,
-        fits: [263_802, 99_462, 27_004],
+        steps: 530,
+        fits: [245_982, 92_971, 25_455],
     }
 }
 

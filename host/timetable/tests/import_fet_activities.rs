@@ -129,6 +129,41 @@ fn slots_of_activities() {
     });
 }
 
+/// The cost of each placement under a wish about the double alone, by its start.
+fn costs_by_start(name: &str, fields: &str) -> Vec<u64> {
+    let fields = format!("{}{fields}", ids(&[3]));
+    let imported = import(&school(&rule(name, "95", &fields), "")).unwrap();
+    assert!(imported.remarks.is_empty(), "{:?}", imported.remarks);
+    assert_eq!(imported.divisor, 10, "one weight, reduced to 1");
+    let bytes = instance::write(&imported.school.instance);
+    let mut costs = vec![None; TIMES];
+    for starts in placements() {
+        let score = engine::score(&bytes, &timetable(&starts)).expect("a timetable");
+        assert_eq!(score.infeasibility.0 == 0, no_clash(&starts), "{starts:?}");
+        let cost = costs[starts[2]].get_or_insert(score.objective.0);
+        assert_eq!(*cost, score.objective.0, "{starts:?}");
+    }
+    costs.into_iter().flatten().collect()
+}
+
+/// Slots speak of every hour: a wish costs those outside, be it that the double starts
+/// inside and runs out or starts outside and runs in. Starting times speak of the start.
+#[test]
+fn a_wish_costs_its_hours_outside_or_its_start() {
+    let at = [("Mo", 1), ("Mo", 2), ("Tu", 3), ("We", 1)];
+    // Where the double can start: at the first two hours of each day.
+    let slots = times("Preferred_Time_Slot", "Preferred_", &at);
+    assert_eq!(
+        costs_by_start("ActivityPreferredTimeSlots", &slots),
+        [0, 1, 2, 1, 1, 2]
+    );
+    let starts = times("Preferred_Starting_Time", "Preferred_Starting_", &at);
+    assert_eq!(
+        costs_by_start("ActivityPreferredStartingTimes", &starts),
+        [0, 0, 1, 1, 0, 1]
+    );
+}
+
 #[test]
 fn breaks() {
     let fields = times("Break_Time", "", &[("Mo", 2), ("Tu", 1)]);

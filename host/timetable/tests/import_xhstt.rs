@@ -172,12 +172,6 @@ fn constraints_on_events() {
     judge("SplitEventsConstraint", long, &amounts(2, 2), |table| {
         outside(table[1].len(), 2, 2)
     });
-    let early = "<TimeGroups><TimeGroup Reference=\"Early\"/></TimeGroups>\
-                 <Times><Time Reference=\"Mo3\"/></Times>";
-    judge("PreferTimesConstraint", SINGLES, early, |table| {
-        let late = |event: &&usize| ![0, 2, 3].contains(&table[**event][0].0);
-        ADA.iter().filter(late).count()
-    });
     let each = |id: &str, least, most| {
         format!(
             "<TimeGroup Reference=\"{id}\">{}</TimeGroup>",
@@ -193,6 +187,66 @@ fn constraints_on_events() {
         outside(starts(table, &[0, 1, 2], 0..3), 0, 1)
             + outside(starts(table, &[0, 1, 2], 3..6), 2, 3)
     });
+}
+
+/// The lengths of the events' parts that start at none of the times, summed.
+fn late(table: &Table, times: &[usize]) -> usize {
+    let parts = table.iter().flatten();
+    let late = parts.filter(|(start, _)| !times.contains(start));
+    late.map(|(_, length)| length).sum()
+}
+
+/// A part costs its length where it starts outside, whichever of its times lie inside.
+#[test]
+fn preferred_times() {
+    let name = "PreferTimesConstraint";
+    let early = "<TimeGroups><TimeGroup Reference=\"Early\"/></TimeGroups>\
+                 <Times><Time Reference=\"Mo3\"/></Times>";
+    judge(name, EVENTS, early, |table| late(table, &[0, 2, 3]));
+    judge_with(3, name, EVENTS, early, |table| late(table, &[0, 2, 3]));
+    judge_with(4, name, EVENTS, early, |table| late(table, &[0, 2, 3]));
+    let wish = archive(&constraint(name, false, "Linear", EVENTS, early));
+    let bytes = instance::write(&import(&wish).unwrap().school.instance);
+    let cost = |double: &[(usize, usize)]| {
+        let table = timetable(&[vec![(0, 1)], double.to_vec(), vec![(0, 1)]]);
+        engine::score(&bytes, &table)
+            .expect("a timetable")
+            .objective
+            .0
+    };
+    assert_eq!(cost(&[(0, 2)]), 0, "it starts inside and runs out");
+    assert_eq!(cost(&[(1, 2)]), 2, "it starts outside and runs in");
+    assert_eq!(cost(&[(0, 1), (1, 1)]), 1, "two parts, one of them outside");
+    assert_eq!(cost(&[(1, 1), (2, 1)]), 1, "two parts, one of them inside");
+}
+
+/// Of parts of one length: all of events of length 1, nothing of events that have none.
+#[test]
+fn preferred_times_of_one_length() {
+    let name = "PreferTimesConstraint";
+    let early = "<TimeGroups><TimeGroup Reference=\"Early\"/></TimeGroups>";
+    let of = |length: usize| format!("{early}<Duration>{length}</Duration>");
+    judge(name, SINGLES, &of(1), |table| {
+        let late = |event: &&usize| ![0, 3].contains(&table[**event][0].0);
+        ADA.iter().filter(late).count()
+    });
+    let fates = |applies: &str, length: usize| {
+        let text = archive(&constraint(name, true, "Linear", applies, &of(length)));
+        let imported = import(&text).unwrap();
+        let constraints = imported.school.instance.constraints.len();
+        let (weaker, dropped) = (Fate::Weakened, Fate::Dropped);
+        (imported.count(weaker), imported.count(dropped), constraints)
+    };
+    for length in [0, 2, 6] {
+        assert_eq!(fates(SINGLES, length), (0, 0, 0), "no part has it");
+    }
+    assert_eq!(fates(EVENTS, 1), (1, 0, 2), "the long event's are not told");
+    assert_eq!(
+        fates(LONG_EVENT, 2),
+        (0, 1, 0),
+        "it may have two of length 1"
+    );
+    assert_eq!(fates(LONG_EVENT, 3), (0, 0, 0));
 }
 
 /// The second event's parts whose length is wanted.
@@ -318,15 +372,16 @@ fn linked_events() {
 
 #[test]
 fn a_preassigned_time_is_kept() {
-    let fixed = WEEK.replace(
-        "<Duration>2</Duration>",
-        "<Duration>2</Duration><Time Reference=\"Mo2\"/>",
-    );
-    let imported = import(&fixed).unwrap();
-    let bytes = instance::write(&imported.school.instance);
-    for table in tables(LONG) {
-        let score = engine::score(&bytes, &timetable(&table)).expect("a timetable");
-        assert_eq!(score.infeasibility.0 == 0, table[1] == [(1, 2)]);
+    for long in [LONG, 3, 5] {
+        let lasts = format!("<Duration>{long}</Duration>");
+        let fixed = format!("{lasts}<Time Reference=\"Mo2\"/>");
+        let fixed = lasting(long, WEEK).replace(&lasts, &fixed);
+        let imported = import(&fixed).unwrap();
+        let bytes = instance::write(&imported.school.instance);
+        for table in tables(long) {
+            let score = engine::score(&bytes, &timetable(&table)).expect("a timetable");
+            assert_eq!(score.infeasibility.0 == 0, table[1] == [(1, long)]);
+        }
     }
 }
 
@@ -345,9 +400,6 @@ fn what_is_not_carried_is_told() {
     assert_eq!(fates(&clash("Step")), (0, 1), "linear would cost more");
     let order = constraint("OrderEventsConstraint", true, "Linear", "", "");
     assert_eq!(fates(&order), (0, 1));
-    let early = "<TimeGroups><TimeGroup Reference=\"Early\"/></TimeGroups>";
-    let soft = constraint("PreferTimesConstraint", false, "Linear", EVENTS, early);
-    assert_eq!(fates(&soft), (1, 0), "a part costs its length");
     let open = WEEK.replace(
         "<!-- open -->",
         "<Resource><Role>Room</Role><ResourceType Reference=\"Room\"/></Resource>",

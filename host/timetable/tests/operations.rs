@@ -17,8 +17,8 @@ p wcnf 4 8 5
 5 -1 3 0
 5 1 -3 0
 5 3 0
-5 -1 4 0
-5 1 -4 0
+5 -2 4 0
+5 2 -4 0
 4 -4 0
 ";
 
@@ -34,8 +34,8 @@ fn read_prints_the_counts_of_an_accepted_file() {
 
 #[test]
 fn sizes_prints_what_to_lend() {
-    let found = run(&["sizes", &school("toy.instance"), "3"]);
-    assert_eq!(found.printed, "variables 1478\nclauses 4835\nwords 12187\n");
+    let found = run(&["sizes", &school("toy.instance"), "2"]);
+    assert_eq!(found.printed, "variables 1466\nclauses 4759\nwords 11943\n");
     assert_eq!((found.said.as_str(), found.status), ("", 0));
     let found = run(&["sizes", &school("toy.instance"), "4096"]);
     assert_eq!(
@@ -61,7 +61,7 @@ fn sizes_prints_what_to_lend() {
 fn score_prints_both_amounts() {
     let toy = [school("toy.instance"), school("toy.timetable")];
     let found = run(&["score", &toy[0], &toy[1]]);
-    assert_eq!(found.printed, "infeasibility 0\nobjective 4\n");
+    assert_eq!(found.printed, "infeasibility 0\nobjective 3\n");
     assert_eq!((found.said.as_str(), found.status), ("", 0));
 }
 
@@ -98,8 +98,8 @@ fn text_prints_the_clauses() {
     assert_eq!((found.said.as_str(), found.status), ("", 0));
     // A text of more than 65,536 bytes.
     let found = run(&["text", &school("small.instance")]);
-    assert_eq!(found.printed.len(), 1_538_300);
-    assert!(found.printed.starts_with("p wcnf 20327 73557 "));
+    assert_eq!(found.printed.len(), 1_561_878);
+    assert!(found.printed.starts_with("p wcnf 20583 74417 "));
     let found = run(&["text", &file("oversized-text", &oversized())]);
     assert_eq!((found.printed.as_str(), found.status), ("refused 8 0\n", 1));
 }
@@ -108,7 +108,7 @@ fn text_prints_the_clauses() {
 fn decode_prints_the_cost_and_writes_the_timetable() {
     let toy = [school("toy.instance"), school("toy.model")];
     let found = run(&["decode", &toy[0], &toy[1]]);
-    assert_eq!(found.printed, "objective 4\nbytes 108\n");
+    assert_eq!(found.printed, "objective 3\nbytes 108\n");
     assert_eq!((found.said.as_str(), found.status), ("", 0));
     let written = folder().join("decoded");
     let with_file = run(&["decode", &toy[0], "--out", "decoded", &toy[1]]);
@@ -120,8 +120,8 @@ fn decode_prints_the_cost_and_writes_the_timetable() {
 #[test]
 fn check_says_no_timetable_for_a_refutation() {
     for (name, bound, printed) in [
-        ("toy", "3", "no timetable\nbound 3\nsteps 136\n"),
-        ("small", "10", "no timetable\nbound 10\nsteps 539\n"),
+        ("toy", "2", "no timetable\nbound 2\nsteps 81\n"),
+        ("small", "7", "no timetable\nbound 7\nsteps 530\n"),
     ] {
         let [instance, proof] = ["instance", "proof"].map(|kind| school(&format!("{name}.{kind}")));
         let found = run(&["check", &instance, bound, &proof]);
@@ -141,10 +141,10 @@ fn the_five_days_end_with_a_price_that_no_timetable_undercuts() {
     let printed = String::from_utf8(output.stdout).expect("text");
     assert!(output.status.success(), "{printed}");
     for line in [
-        "    objective 11\n",
-        "    no timetable\n    bound 10\n    steps 539\n",
-        "    refused 14 539\n",
-        "costs 11, and every other that keeps the hard constraints costs 11 or more.\n",
+        "    objective 8\n",
+        "    no timetable\n    bound 7\n    steps 530\n",
+        "    refused 14 530\n",
+        "costs 8, and every other that keeps the hard constraints costs 8 or more.\n",
     ] {
         assert!(printed.contains(line), "{printed}");
     }
@@ -156,7 +156,7 @@ const HARD_A: &str = "01 01 00 01 00 01 00 01 03 00 01 01";
 #[test]
 fn check_at_none_says_that_there_is_no_timetable_at_all() {
     let hard = file("hard", &hex(HARD_A));
-    let proof = file("proof-without-tail", &hex("61 09 00 05 04 06 08 00"));
+    let proof = file("proof-without-tail", &hex("61 09 00 05 04 02 06 08 00"));
     let found = run(&["check", &hard, "none", &proof]);
     assert_eq!(found.printed, "no timetable at all\nsteps 1\n");
     assert_eq!((found.said.as_str(), found.status), ("", 0));
@@ -176,8 +176,8 @@ fn check_at_none_says_that_there_is_no_timetable_at_all() {
 #[test]
 fn best_says_that_nothing_costs_less_than_a_model() {
     for (name, printed) in [
-        ("toy", "best\nobjective 4\nsteps 136\n"),
-        ("small", "best\nobjective 11\nsteps 539\n"),
+        ("toy", "best\nobjective 3\nsteps 81\n"),
+        ("small", "best\nobjective 8\nsteps 530\n"),
     ] {
         let [instance, model, proof] =
             ["instance", "model", "proof"].map(|kind| school(&format!("{name}.{kind}")));

@@ -262,6 +262,48 @@ fn a_false_clause_is_told_by_its_constraint() {
     );
 }
 
+/// Each variable of a preferred time, and the count, told in words where it is wrong.
+#[test]
+fn a_false_clause_of_preferred_times_is_told() {
+    // Hard, in three times, an event of duration 2, with the group of time 1.
+    let file_of = hex("03 01 00 02 00 01 01 01 01 03 00 01 01");
+    let school = file("preferred", &file_of);
+    // A double at times 2 and 3: Y, S and the duration's counter of three rows and columns;
+    // M(3), C(3), D(3); then the counter of two rows over S(2), D(3).
+    let right = [0, 1, 1, 0, 1, 0, 0, 0, 0, 1, 0, 0, 1, 1, 0, 1, 1, 1, 1, 1];
+    for (variable, reason) in [
+        (
+            16,
+            "the variable for a subevent that goes on at time 3 has a wrong value",
+        ),
+        (
+            17,
+            "the variable for a subevent that starts outside the group and goes on at time 3 \
+             has a wrong value",
+        ),
+        (
+            18,
+            "the variable for a subevent that starts outside the group and holds time 3 has a \
+             wrong value",
+        ),
+        (20, "its counter, in row 2, column 1, has a wrong value"),
+        (
+            0,
+            "the number of the event's times in subevents that start outside the group is above 0",
+        ),
+    ] {
+        let mut model = right;
+        if variable > 0 {
+            model[variable - 1] ^= 1;
+        }
+        let name = file(&format!("preferred-{variable}"), &model);
+        let found = run(&["decode", &school, &name]);
+        let said = format!("block 4, constraint 1, kind preferred-times: {reason}");
+        assert_eq!(below(&found.said), [said]);
+        assert!(found.printed.starts_with("refused 13 "));
+    }
+}
+
 #[test]
 fn a_refused_model_writes_no_timetable() {
     let a = file("a-to-decode", &hex(FILE_A));
@@ -348,16 +390,23 @@ fn refused_steps_are_told_with_what_is_wrong() {
         ),
         (
             "4",
-            "61 13 00 05 04 06 0E 10 00",
+            "61 13 00 05 04 02 06 0E 10 00",
             "refused 16 1\n",
-            "hint 5 of 5, clause 16 (the tail), is true already, by 4",
+            "hint 6 of 6, clause 16 (the tail), is true already, by 4",
         ),
         (
             "3",
-            "61 11 00 05 04 06 00",
+            "61 11 00 05 04 02 06 00",
             "refused 16 1\n",
-            "hint 3 of 3, clause 6 (block 4, constraint 1, kind preferred-times), has 1 open \
+            "hint 4 of 4, clause 6 (block 4, constraint 1, kind preferred-times), has 1 open \
              literal; the last must be false",
+        ),
+        (
+            "3",
+            "61 11 00 05 04 06 0E 10 00",
+            "refused 16 1\n",
+            "hint 3 of 5, clause 6 (block 4, constraint 1, kind preferred-times), has 2 open \
+             literals; 1 is wanted",
         ),
         (
             "3",

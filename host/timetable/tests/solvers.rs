@@ -10,7 +10,7 @@ use timetable::number::write_number;
 #[test]
 fn dimacs_writes_the_clauses_with_the_tail() {
     let a = file("a", &hex(FILE_A));
-    let hard = "1 -2 0\n-1 2 0\n-1 3 0\n1 -3 0\n3 0\n-1 4 0\n1 -4 0\n";
+    let hard = "1 -2 0\n-1 2 0\n-1 3 0\n1 -3 0\n3 0\n-2 4 0\n2 -4 0\n";
     let found = run(&["dimacs", &a]);
     assert_eq!(found.printed, format!("p cnf 4 7\n{hard}"));
     let tail = "-4 5 0\n4 -5 0\n-4 6 0\n4 -6 0\n-4 7 0\n4 -7 0\n-4 8 0\n4 -8 0\n-8 0\n";
@@ -46,29 +46,29 @@ fn dimacs_has_the_sizes_that_the_engine_gives() {
 fn every_recorded_model_is_decoded() {
     for name in [
         "clasp.out",
-        "cadical-4.out",
-        "picosat-4.out",
-        "minisat-4.out",
-        "z3-4.out",
+        "cadical-3.out",
+        "picosat-3.out",
+        "minisat-3.out",
+        "z3-3.out",
         "z3.out",
-        "cryptominisat-4.out",
+        "cryptominisat-3.out",
     ] {
         let model = format!("{name}.model");
         let toy = school("toy.instance");
         let found = run(&["model", &toy, &recorded(name), "--out", &model]);
         assert_eq!((found.printed.as_str(), found.status), ("", 0), "{name}");
         let found = run(&["decode", &toy, &model]);
-        assert_eq!(found.printed, "objective 4\nbytes 108\n", "{name}");
+        assert_eq!(found.printed, "objective 3\nbytes 108\n", "{name}");
     }
 }
 
 #[test]
 fn an_output_without_a_model_is_told() {
     for name in [
-        "clasp-3.out",
-        "cadical-3.out",
-        "picosat-3.out",
-        "minisat-3.out",
+        "clasp-2.out",
+        "cadical-2.out",
+        "picosat-2.out",
+        "minisat-2.out",
     ] {
         let found = run(&["model", &school("toy.instance"), &recorded(name)]);
         assert_eq!((found.printed.as_str(), found.status), ("", 1), "{name}");
@@ -82,14 +82,14 @@ fn an_output_without_a_model_is_told() {
 
 #[test]
 fn every_recorded_proof_is_turned_and_accepted() {
-    for name in ["cadical-3.drat", "cadical-3.text.drat", "picosat-3.rup"] {
+    for name in ["cadical-2.drat", "cadical-2.text.drat", "picosat-2.rup"] {
         let toy = school("toy.instance");
         let steps = format!("{name}.proof");
-        let found = run(&["steps", &toy, "3", &recorded(name), "-o", &steps]);
+        let found = run(&["steps", &toy, "2", &recorded(name), "-o", &steps]);
         assert_eq!((found.printed.as_str(), found.status), ("", 0), "{name}");
-        let found = run(&["check", &toy, "3", &steps]);
+        let found = run(&["check", &toy, "2", &steps]);
         assert!(
-            found.printed.starts_with("no timetable\nbound 3\n"),
+            found.printed.starts_with("no timetable\nbound 2\n"),
             "{name}"
         );
         let bytes = fs::read(folder().join(&steps)).expect("the steps");
@@ -127,8 +127,8 @@ fn a_recorded_proof_against_the_hard_clauses_shows_none_at_all() {
 
 #[test]
 fn a_proof_at_another_bound_is_rejected() {
-    for name in ["cadical-3.drat", "picosat-3.rup"] {
-        let found = run(&["steps", &school("toy.instance"), "4", &recorded(name)]);
+    for name in ["cadical-2.drat", "picosat-2.rup"] {
+        let found = run(&["steps", &school("toy.instance"), "3", &recorded(name)]);
         assert_eq!((found.printed.as_str(), found.status), ("", 1), "{name}");
         assert!(
             found.said.contains("another file or bound"),
@@ -152,7 +152,7 @@ fn a_proof_that_is_no_solvers_is_rejected() {
     let found = run(&["steps", &a, "3", &words]);
     assert_eq!(found.status, 1);
     assert!(found.said.contains("'this'"), "{}", found.said);
-    let found = run(&["steps", &school("toy.instance"), "3", &file("empty", b"")]);
+    let found = run(&["steps", &school("toy.instance"), "2", &file("empty", b"")]);
     assert_eq!(found.status, 1);
     assert!(found.said.contains("no conflict"), "{}", found.said);
 }

@@ -92,7 +92,7 @@ fn who_closes_the_pipe_early_is_told_nothing() {
     // The text is longer than a pipe holds, so the second write finds it closed.
     let script = "{ \"$TIMETABLE\" text \"$INSTANCE\"; echo status $? >&2; } | head -n 1";
     let (printed, said, status) = by_shell(script);
-    assert_eq!(printed, "p wcnf 20327 73557 645\n");
+    assert_eq!(printed, "p wcnf 20583 74417 648\n");
     assert_eq!((said.as_str(), status), ("status 0\n", 0));
 }
 
@@ -126,7 +126,7 @@ fn every_spelling_of_the_option_for_the_file_writes_it() {
         vec!["--out=spelt-4"],
     ] {
         let found = run(&[&["decode", &toy[0], &toy[1]], &words[..]].concat());
-        assert_eq!(found.printed, "objective 4\nbytes 108\n");
+        assert_eq!(found.printed, "objective 3\nbytes 108\n");
         let word = words.last().expect("a word");
         let name = &word[word.find("spelt").expect("the file's name")..];
         assert_eq!(fs::read(folder().join(name)).expect("a file"), table);
@@ -139,7 +139,7 @@ fn a_product_on_standard_output_sends_the_report_to_standard_error() {
     let table = fs::read(school("toy.timetable")).expect("a timetable");
     let found = run(&["decode", &toy[0], &toy[1], "--out", "-"]);
     assert_eq!(found.printed.as_bytes(), table);
-    assert_eq!(found.said, "objective 4\nbytes 108\n");
+    assert_eq!(found.said, "objective 3\nbytes 108\n");
     assert_eq!(found.status, 0);
     let text = run(&["text", &toy[0]]);
     assert_eq!(run(&["text", &toy[0], "-o", "-"]), text);

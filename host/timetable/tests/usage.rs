@@ -234,18 +234,18 @@ fn answers_and_refusals_can_be_had_as_json() {
             0,
         ),
         (
-            vec!["sizes", instance, "3"],
-            "{\"variables\":1478,\"clauses\":4835,\"words\":12187}\n",
+            vec!["sizes", instance, "2"],
+            "{\"variables\":1466,\"clauses\":4759,\"words\":11943}\n",
             0,
         ),
         (
             vec!["decode", instance, model],
-            "{\"objective\":4,\"bytes\":108}\n",
+            "{\"objective\":3,\"bytes\":108}\n",
             0,
         ),
         (
             vec!["score", instance, table],
-            "{\"infeasibility\":0,\"objective\":4}\n",
+            "{\"infeasibility\":0,\"objective\":3}\n",
             0,
         ),
         (
@@ -254,8 +254,8 @@ fn answers_and_refusals_can_be_had_as_json() {
             0,
         ),
         (
-            vec!["check", instance, "3", proof],
-            "{\"answer\":\"no timetable\",\"bound\":3,\"steps\":136}\n",
+            vec!["check", instance, "2", proof],
+            "{\"answer\":\"no timetable\",\"bound\":2,\"steps\":81}\n",
             0,
         ),
     ] {

@@ -11,16 +11,16 @@ use std::thread;
 use std::time::{Duration, Instant};
 use support::{command, file, folder, hex, recorded, run, school, stand_ins, Run};
 
-/// clasp with its two models of the toy school.
+/// clasp with its models of the toy school.
 const CLASP: (&str, &str) = ("clasp", "cat \"$R/clasp.out\"");
-/// cadical with its answers at the bounds 4, 3 and 2; it is called with -t, a
+/// cadical with its answers at the bounds 3, 2 and 1; it is called with -t, a
 /// limit, -q, the clauses and the proof.
 const CADICAL: (&str, &str) = (
     "cadical",
     "case $4 in
+     *bound-1.cnf) cp \"$R/cadical-1.drat\" \"$5\"; cat \"$R/cadical-1.out\" ;;
      *bound-2.cnf) cp \"$R/cadical-2.drat\" \"$5\"; cat \"$R/cadical-2.out\" ;;
-     *bound-3.cnf) cp \"$R/cadical-3.drat\" \"$5\"; cat \"$R/cadical-3.out\" ;;
-     *) cat \"$R/cadical-4.out\" ;;
+     *) cat \"$R/cadical-3.out\" ;;
      esac",
 );
 
@@ -46,29 +46,29 @@ fn a_week_ends_with_the_engines_answers() {
     let found = solve(&solvers, "both-out", &["--time", "18446744073709551615"]);
     assert_eq!(
         found.printed,
-        "costs 4; none at 3 or less, checked\n\
+        "costs 3; none at 2 or less, checked\n\
          model both-out/best.model\n\
          timetable both-out/best.timetable\n\
-         proof both-out/bound-3.proof\n"
+         proof both-out/bound-2.proof\n"
     );
     assert_eq!(found.status, 0);
     assert!(found.said.contains("best cost"), "{}", found.said);
     let toy = school("toy.instance");
     let decoded = run(&["decode", &toy, "both-out/best.model"]);
-    assert_eq!(decoded.printed, "objective 4\nbytes 108\n");
+    assert_eq!(decoded.printed, "objective 3\nbytes 108\n");
     let scored = run(&["score", &toy, "both-out/best.timetable"]);
-    assert_eq!(scored.printed, "infeasibility 0\nobjective 4\n");
-    let checked = run(&["check", &toy, "3", "both-out/bound-3.proof"]);
+    assert_eq!(scored.printed, "infeasibility 0\nobjective 3\n");
+    let checked = run(&["check", &toy, "2", "both-out/bound-2.proof"]);
     assert!(checked.printed.starts_with("no timetable\n"));
 }
 
 #[test]
 fn a_week_without_an_optimiser_asks_for_less_and_less() {
     let solvers = stand_ins("alone", &[CADICAL]);
-    // First the middle of what is open, 2, and then 3.
+    // First the middle of what is open, 1, and then 2.
     let found = solve(&solvers, "alone-out", &["--json"]);
     assert!(
-        found.printed.contains("\"cost\":4,\"refuted\":3,"),
+        found.printed.contains("\"cost\":3,\"refuted\":2,"),
         "{}",
         found.printed
     );
@@ -134,7 +134,7 @@ fn without_proofs_the_gap_is_told() {
     assert!(
         found
             .printed
-            .starts_with("costs 4; nothing refuted; open from 0 to 3\n"),
+            .starts_with("costs 3; nothing refuted; open from 0 to 2\n"),
         "{}",
         found.printed
     );
@@ -157,7 +157,7 @@ fn a_solvers_word_is_not_taken() {
         ("words", "echo 'trust me' >\"$5\"; echo 's UNSATISFIABLE'"),
         (
             "other-bound",
-            "cp \"$R/picosat-3.rup\" \"$5\"; sed -i 1,900d \"$5\"; echo 's UNSATISFIABLE'",
+            "cp \"$R/picosat-2.rup\" \"$5\"; sed -i 1,900d \"$5\"; echo 's UNSATISFIABLE'",
         ),
         ("wrong-model", "echo 's SATISFIABLE'; echo 'v 1 2 3 0'"),
         ("nothing", "exit 1"),
@@ -167,7 +167,7 @@ fn a_solvers_word_is_not_taken() {
         let found = solve(&solvers, &format!("{name}-out"), &[]);
         // What propagation alone refutes, it refutes whatever the solver writes.
         assert!(
-            found.printed.starts_with("costs 4; "),
+            found.printed.starts_with("costs 3; "),
             "{name}: {}",
             found.printed
         );
@@ -192,7 +192,7 @@ fn the_time_is_kept() {
     let found = solve(&solvers, "slow-out", &["--time", "6"]);
     assert!(started.elapsed() < Duration::from_secs(60));
     assert!(
-        found.printed.starts_with("costs 4; nothing refuted;"),
+        found.printed.starts_with("costs 3; nothing refuted;"),
         "{}",
         found.printed
     );

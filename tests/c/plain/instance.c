@@ -58,7 +58,7 @@ static int read_list(struct instance *in, struct reader *r, uint32_t most, struc
     return 0;
 }
 
-/* How long a constraint's counted list is. */
+/* How long a constraint's counted list is; for kind 3, which neither 4 nor 5 can end, how long it can be. */
 static uint32_t list_length(const struct instance *in, const struct constraint *c)
 {
     uint32_t n = 0;
@@ -69,7 +69,6 @@ static uint32_t list_length(const struct instance *in, const struct constraint *
     case 6:
         return in->group[c->group - 1].count;
     case 3:
-        return in->times - in->group[c->group - 1].count;
     case 4:
     case 9:
     case 10:

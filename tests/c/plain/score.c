@@ -33,6 +33,20 @@ static uint32_t idle_times(const uint8_t *used, const uint16_t *members, uint32_
     return busy ? last - first + 1 - busy : 0;
 }
 
+/* How many times a subevent holds that starts at no member. */
+static uint32_t held(const uint8_t *y, const uint8_t *s, uint32_t times, const uint16_t *members, uint32_t count)
+{
+    uint32_t n = 0, i = 0, outside = 0;
+    for (uint32_t t = 0; t < times; t++) {
+        int member = i < count && members[i] == t + 1;
+        i += member;
+        if (s[t])
+            outside = !member;
+        n += outside & y[t];
+    }
+    return n;
+}
+
 /* How many subevents have a length from shortest to longest, or for kind 10 another. */
 static uint32_t of_length(const struct constraint *c, const uint8_t *y, const uint8_t *s, uint32_t times)
 {
@@ -67,11 +81,7 @@ static uint32_t deviation(const struct instance *in, const struct constraint *c,
             n += outside(t->uses[(c->one - 1) * times + i], 0, 1);
         return n;
     case 3:
-        for (uint32_t i = 0; i < times; i++)
-            n += t->y[(c->one - 1) * times + i];
-        for (uint32_t i = 0; i < g.count; i++)
-            n -= t->y[(c->one - 1) * times + members[i] - 1];
-        return n;
+        return held(t->y + (c->one - 1) * times, t->s + (c->one - 1) * times, times, members, g.count);
     case 4:
         for (uint32_t i = 0; i < times; i++)
             n += t->s[(c->one - 1) * times + i];

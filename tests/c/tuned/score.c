@@ -51,6 +51,23 @@ static bits pack(const uint8_t *row, uint32_t times)
     return all;
 }
 
+static uint32_t count_bits(bits all)
+{
+    return (uint32_t)(__builtin_popcountll((uint64_t)all) + __builtin_popcountll((uint64_t)(all >> 64)));
+}
+
+/*
+ * How many times a subevent holds that starts at no member. The times after a start at which it goes on are bits side
+ * by side: adding 1 at the first carries through them, so that those are held which the sum no longer has.
+ */
+static uint32_t held(const uint8_t *y, const uint8_t *s, uint32_t times, const uint16_t *members, uint32_t count)
+{
+    bits starts = pack(s, times), on = pack(y, times) & ~starts, outside = starts;
+    for (uint32_t i = 0; i < count; i++)
+        outside &= ~((bits)1 << (members[i] - 1));
+    return count_bits(outside) + count_bits(on & ~(on + (on & outside << 1)));
+}
+
 /* Of the starts those whose subevents have n times or more, by the times that go on with the one before. */
 static bits at_least(bits starts, bits on, uint32_t n)
 {
@@ -65,8 +82,7 @@ static uint32_t of_length(const struct constraint *c, const uint8_t *y, const ui
     bits starts = pack(s, times), on = pack(y, times) & ~starts;
     bits enough = at_least(starts, on, c->shortest);
     bits above = at_least(enough, on >> (c->shortest - 1), c->longest - c->shortest + 2);
-    bits counted = c->kind == 9 ? enough & ~above : above | (starts & ~enough);
-    return (uint32_t)(__builtin_popcountll((uint64_t)counted) + __builtin_popcountll((uint64_t)(counted >> 64)));
+    return count_bits(c->kind == 9 ? enough & ~above : above | (starts & ~enough));
 }
 
 struct tables {
@@ -87,11 +103,7 @@ static uint32_t deviation(const struct instance *in, const struct constraint *c,
             n += outside(t->uses[(c->one - 1) * times + i], 0, 1);
         return n;
     case 3:
-        for (uint32_t i = 0; i < times; i++)
-            n += t->y[(c->one - 1) * times + i];
-        for (uint32_t i = 0; i < g.count; i++)
-            n -= t->y[(c->one - 1) * times + members[i] - 1];
-        return n;
+        return held(t->y + (c->one - 1) * times, t->s + (c->one - 1) * times, times, members, g.count);
     case 4:
         for (uint32_t i = 0; i < times; i++)
             n += t->s[(c->one - 1) * times + i];

@@ -79,15 +79,13 @@ pub fn instance(random: &mut Random, shape: &Shape) -> Instance {
         constraints: Vec::new(),
     };
     for _ in 0..random.within(&shape.events) {
-        let duration = 1 + random.below(times);
         instance.events.push(Event {
-            duration: duration.min(1 + random.below(times)),
+            duration: duration(random, times),
             resources: random.subset(resources),
         });
     }
     for _ in 0..random.within(&shape.groups) {
-        let group = random.subset(times);
-        instance.groups.push(group);
+        instance.groups.push(group(random, times));
     }
     let table = timetable(random, &instance);
     let mut constraints = Vec::new();
@@ -96,6 +94,24 @@ pub fn instance(random: &mut Random, shape: &Shape) -> Instance {
     }
     instance.constraints = constraints;
     instance
+}
+
+/// A duration: 1, 2 and 3 more often than longer ones.
+fn duration(random: &mut Random, times: usize) -> usize {
+    let most = if random.chance(60) { 3 } else { times };
+    1 + random.below(times.min(most))
+}
+
+/// No times, times that follow each other, all but such, or any.
+fn group(random: &mut Random, times: usize) -> Vec<usize> {
+    let ends = [random.below(times + 1), random.below(times + 1)];
+    let run = ends[0].min(ends[1])..ends[0].max(ends[1]);
+    match random.below(8) {
+        0 => Vec::new(),
+        1 => run.collect(),
+        2 | 3 => (0..times).filter(|time| !run.contains(time)).collect(),
+        _ => random.subset(times),
+    }
 }
 
 /// A random constraint on `instance`, which has none; none if no try fits.

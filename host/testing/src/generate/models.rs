@@ -49,6 +49,12 @@ impl Sheet<'_> {
         times.all(|time| time > self.instance.times || self.goes_on(event, time))
     }
 
+    /// The start of the subevent that holds `time`, if one does.
+    fn start(&self, event: usize, time: usize) -> Option<usize> {
+        let last = (0..=time).rev().find(|&t| !self.goes_on(event, t));
+        last.filter(|&start| self.s(event, start))
+    }
+
     /// The length of the subevent that starts at `time`; 0 if none does.
     fn length(&self, event: usize, time: usize) -> usize {
         match self.s(event, time) {
@@ -118,8 +124,7 @@ impl Extension {
                 resource, group, ..
             } => sheet.x_in(*resource, *group),
             Kind::PreferredTimes { event, group } => {
-                let outside = times.filter(|time| !groups[*group].contains(time));
-                outside.map(|time| sheet.y(*event, time)).collect()
+                self.held_from_outside(sheet, *event, &groups[*group])
             }
             Kind::Split { event, .. } => times.map(|time| sheet.s(*event, time)).collect(),
             Kind::Spread { events, group, .. } => {
@@ -148,6 +153,25 @@ impl Extension {
             } => self.lengths(sheet, *event, *shortest, *longest),
         };
         self.counted(&list, constraint);
+    }
+
+    /// For each time that a subevent that starts outside `group` can hold, whether
+    /// one does.
+    fn held_from_outside(&mut self, sheet: &Sheet, event: usize, group: &[usize]) -> Vec<bool> {
+        let duration = sheet.instance.events[event].duration;
+        let outside = |time: usize| !group.contains(&time);
+        let mut list = Vec::new();
+        for time in 0..sheet.instance.times {
+            let held = sheet.start(event, time).is_some_and(outside);
+            let reachable = (0..time).any(|start| outside(start) && time - start < duration);
+            if reachable {
+                let goes_on = sheet.goes_on(event, time);
+                self.values.extend_from_slice(&[goes_on, held && goes_on]);
+                self.values.extend(outside(time).then_some(held));
+            }
+            list.extend((reachable || outside(time)).then_some(held));
+        }
+        list
     }
 
     /// For each group whether the resource is used in it.

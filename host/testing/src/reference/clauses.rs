@@ -203,10 +203,9 @@ impl<'a, S: Sink> Writer<'a, S> {
             | Kind::BusyLimit {
                 resource, group, ..
             } => x_in(resource, group),
-            Kind::PreferredTimes { event, group } => (0..instance.times)
-                .filter(|time| members(group).binary_search(time).is_err())
-                .map(|time| variables.y(*event, time))
-                .collect(),
+            Kind::PreferredTimes { event, group } => {
+                self.held_gates(instance, variables, *event, *group)
+            }
             Kind::Split { event, .. } => variables.starts(*event),
             Kind::Spread { events, group, .. } => {
                 let starts = |&event| members(group).iter().map(move |&t| variables.s(event, t));
@@ -278,14 +277,46 @@ impl<'a, S: Sink> Writer<'a, S> {
         self.and_gate(&[!x[member], g, h])
     }
 
+    /// Whether the subevent of the time before goes on at `time`: M(t).
+    fn going_gate(&mut self, variables: &Variables, event: usize, time: usize) -> Literal {
+        self.and_gate(&[variables.y(event, time), !variables.s(event, time)])
+    }
+
+    /// For each time that a subevent that starts outside `group` can hold, whether
+    /// one does: S where it must start there, C where it must go on, else D.
+    fn held_gates(
+        &mut self,
+        instance: &Instance,
+        variables: &Variables,
+        event: usize,
+        group: usize,
+    ) -> Vec<Literal> {
+        let mut held: Vec<Literal> = Vec::new();
+        for time in 0..instance.times {
+            let outside = instance.outside(group, time);
+            let start = variables.s(event, time);
+            if instance.reachable(event, group, time) {
+                // What reaches a time reaches the one before, or starts there.
+                let before = *held.last().expect("the time before");
+                let going = self.going_gate(variables, event, time);
+                let carried = self.and_gate(&[before, going]);
+                held.push(match outside {
+                    true => self.or_gate(&[start, carried]),
+                    false => carried,
+                });
+            } else if outside {
+                held.push(start);
+            }
+        }
+        held
+    }
+
     /// For each time but the first, and for the one after the last, whether the
     /// subevent before it goes on there: M(2), .., M(T + 1).
     fn going_gates(&mut self, variables: &Variables, event: usize) -> Vec<Literal> {
-        let mut going = Vec::with_capacity(variables.times);
-        for time in 1..variables.times {
-            let (y, s) = (variables.y(event, time), variables.s(event, time));
-            going.push(self.and_gate(&[y, !s]));
-        }
+        let mut going: Vec<Literal> = (1..variables.times)
+            .map(|time| self.going_gate(variables, event, time))
+            .collect();
         going.push(self.or_gate(&[]));
         going
     }
@@ -599,6 +630,9 @@ impl Measure {
         for constraint in &instance.constraints {
             let kind = &constraint.kind;
             match kind {
+                Kind::PreferredTimes { event, group } => {
+                    self.held_gates(instance, *event, *group);
+                }
                 Kind::Cluster { groups, .. } => {
                     for &group in groups {
                         self.gate(instance.groups[group].len() as u64);
@@ -632,6 +666,16 @@ impl Measure {
             self.gate(earlier);
             self.gate(members - 1 - earlier);
             self.gate(3);
+        }
+    }
+
+    /// The gates M and C of each time that is reachable, and D if it is outside.
+    fn held_gates(&mut self, instance: &Instance, event: usize, group: usize) {
+        let reachable = |&time: &usize| instance.reachable(event, group, time);
+        for time in (0..instance.times).filter(reachable) {
+            for _ in 0..2 + usize::from(instance.outside(group, time)) {
+                self.gate(2);
+            }
         }
     }
 

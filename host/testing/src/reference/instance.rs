@@ -50,6 +50,7 @@ pub enum Kind {
         resource: usize,
         group: usize,
     },
+    /// Times held by a subevent that starts outside the group.
     PreferredTimes {
         event: usize,
         group: usize,
@@ -157,6 +158,18 @@ impl Instance {
             .is_ok()
     }
 
+    /// Whether `time` is not in `group`.
+    pub fn outside(&self, group: usize, time: usize) -> bool {
+        self.groups[group].binary_search(&time).is_err()
+    }
+
+    /// Whether a subevent of `event` that starts outside `group`, before `time`,
+    /// can be long enough to hold `time`.
+    pub fn reachable(&self, event: usize, group: usize, time: usize) -> bool {
+        let first = (time + 1).saturating_sub(self.events[event].duration);
+        (first..time).any(|start| self.outside(group, start))
+    }
+
     /// The length of a counted list of `kind`. All lists of a clash are equally long.
     pub fn list_length(&self, kind: &Kind) -> usize {
         match kind {
@@ -166,7 +179,9 @@ impl Instance {
             Kind::Unavailable { group, .. } | Kind::BusyLimit { group, .. } => {
                 self.groups[*group].len()
             }
-            Kind::PreferredTimes { group, .. } => self.times - self.groups[*group].len(),
+            Kind::PreferredTimes { event, group } => (0..self.times)
+                .filter(|&time| self.outside(*group, time) || self.reachable(*event, *group, time))
+                .count(),
             Kind::Split { .. } | Kind::Distribute { .. } | Kind::Lengths { .. } => self.times,
             Kind::Spread { events, group, .. } => events.len() * self.groups[*group].len(),
             Kind::Cluster { groups, .. } => groups.len(),

@@ -99,15 +99,12 @@ impl<'a> Usage<'a> {
                 deviation(self.busy_in(*resource, *group), range)
             }
             Kind::PreferredTimes { event, group } => {
-                let members = &self.instance.groups[*group];
-                let outside = times.filter(|time| members.binary_search(time).is_err());
-                let count = outside.filter(|&time| self.sheet.takes(*event, time));
-                deviation(count.count(), range)
+                let starts = self.sheet.starts_of(*event);
+                let outside = starts.filter(|&start| self.instance.outside(*group, start));
+                let lengths = outside.map(|start| self.sheet.length_from(*event, start));
+                deviation(lengths.sum(), range)
             }
-            Kind::Split { event, .. } => {
-                let count = times.filter(|&time| self.sheet.starts(*event, time));
-                deviation(count.count(), range)
-            }
+            Kind::Split { event, .. } => deviation(self.sheet.starts_of(*event).count(), range),
             Kind::Spread { events, group, .. } => {
                 let members = &self.instance.groups[*group];
                 let starts = |&event: &usize| {

@@ -47,10 +47,15 @@ impl<'a> Sheet<'a> {
         (time + 1..self.times).find(ends).unwrap_or(self.times) - time
     }
 
+    /// The starts of the subevents of `event`, ascending.
+    pub fn starts_of(&self, event: usize) -> impl Iterator<Item = usize> + '_ {
+        (0..self.times).filter(move |&time| self.starts(event, time))
+    }
+
     /// The lengths of the subevents of `event`, by ascending start.
     pub fn lengths(&self, event: usize) -> impl Iterator<Item = usize> + '_ {
-        let starts = (0..self.times).filter(move |&time| self.starts(event, time));
-        starts.map(move |time| self.length_from(event, time))
+        self.starts_of(event)
+            .map(move |time| self.length_from(event, time))
     }
 
     /// Whether the row of `event` follows the rules of a timetable.

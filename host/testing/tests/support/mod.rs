@@ -12,7 +12,7 @@ use testing::reference::{write_number, Instance, Refusal};
 pub const FILE_A: &str = "01 01 00 01 00 01 00 01 03 04 01 01";
 
 /// Proof of the checked examples, for file A at bound 3.
-pub const PROOF_A: &str = "61 11 00 05 04 06 0E 10 00";
+pub const PROOF_A: &str = "61 11 00 05 04 02 06 0E 10 00";
 
 pub fn hex(text: &str) -> Vec<u8> {
     text.split_whitespace()

@@ -1,8 +1,82 @@
 //! All assignments of tiny instances, and the models that extend one.
 
-use super::both::score;
+use super::both::{decode, score, sizes};
+use testing::generate::{encode, model};
 use testing::prover::clause_list;
-use testing::reference::{Infeasibility, Instance, Literal};
+use testing::reference::{Constraint, Event, Infeasibility, Instance, Literal, Objective, Score};
+
+/// One event and one constraint on it.
+pub fn one_event(
+    times: usize,
+    duration: usize,
+    groups: Vec<Vec<usize>>,
+    constraint: Constraint,
+) -> Instance {
+    let event = Event {
+        duration,
+        resources: Vec::new(),
+    };
+    Instance {
+        times,
+        resources: 0,
+        events: vec![event],
+        groups,
+        constraints: vec![constraint],
+    }
+}
+
+/// The subevents of the only event, each a start and a length: each start begins
+/// one, and each other taken time makes the last one longer.
+pub fn subevents(table: &[u8]) -> Vec<(usize, usize)> {
+    let (taken, starts) = table.split_at(table.len() / 2);
+    let mut subevents: Vec<(usize, usize)> = Vec::new();
+    for (time, (&taken, &start)) in taken.iter().zip(starts).enumerate() {
+        match (taken, start) {
+            (1, 1) => subevents.push((time, 1)),
+            (1, _) => subevents.last_mut().expect("a start before it").1 += 1,
+            _ => {}
+        }
+    }
+    subevents
+}
+
+/// A timetable has one model if it keeps the only constraint or that is soft, and
+/// the model costs what the timetable does; nothing else has a model. How far a
+/// timetable deviates is said by `deviation`. Gives the number of timetables.
+pub fn models_match(instance: &Instance, deviation: impl Fn(&[u8]) -> u64) -> usize {
+    let file = encode(instance);
+    let weight = instance.constraints[0].weight;
+    let variables = sizes(&file, None).unwrap().variables as usize;
+    let models = Models::of(instance, variables);
+    let mut timetables = 0;
+    for table in assignments(instance) {
+        let found = models.extending(&table);
+        let Ok(scored) = score(&file, &table) else {
+            assert!(found.is_empty(), "{instance:?}, {table:?}");
+            continue;
+        };
+        timetables += 1;
+        let deviation = deviation(&table);
+        let (broken, cost) = match weight {
+            0 => (deviation, 0),
+            _ => (0, u64::from(weight) * deviation),
+        };
+        let expected = Score {
+            infeasibility: Infeasibility(broken),
+            objective: Objective(cost),
+        };
+        assert_eq!(scored, expected, "{instance:?}, {table:?}");
+        let extended = model(instance, &table);
+        if broken > 0 {
+            assert!(found.is_empty(), "{instance:?}, {table:?}");
+            assert_eq!(decode(&file, &extended).unwrap_err().number, 13);
+            continue;
+        }
+        assert_eq!(found, [extended], "{instance:?}, {table:?}");
+        assert_eq!(decode(&file, &found[0]), Ok((&table[..], Objective(cost))));
+    }
+    timetables
+}
 
 /// All assignments of Y and S, timetables or not.
 pub fn assignments(instance: &Instance) -> impl Iterator<Item = Vec<u8>> {

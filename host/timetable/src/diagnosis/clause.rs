@@ -37,6 +37,14 @@ impl Clause {
                 "the variable for a subevent that goes on at time {}",
                 time + 1
             )),
+            Purpose::Carried { time } => wrong(format!(
+                "the variable for a subevent that starts outside the group and goes on at time {}",
+                time + 1
+            )),
+            Purpose::Held { time } => wrong(format!(
+                "the variable for a subevent that starts outside the group and holds time {}",
+                time + 1
+            )),
             Purpose::Counted { time, .. } | Purpose::Outside { time, .. } => wrong(format!(
                 "a variable for the length of a subevent that starts at time {}",
                 time + 1
@@ -86,7 +94,9 @@ impl Clause {
             Kind::Unavailable { .. } | Kind::BusyLimit { .. } => {
                 "the number of the resource's times in the group"
             }
-            Kind::PreferredTimes { .. } => "the number of the event's times outside the group",
+            Kind::PreferredTimes { .. } => {
+                "the number of the event's times in subevents that start outside the group"
+            }
             Kind::Split { .. } => "the number of the event's starts",
             Kind::Spread { .. } => "the number of the events' starts in the group",
             Kind::Cluster { .. } => "the number of groups with the resource",

@@ -2,7 +2,7 @@
 //! many variables and clauses each has. So a clause's id can be told in words,
 //! and a formula that is too large can be counted.
 
-use crate::instance::{Constraint, Instance, Kind, Range};
+use crate::instance::{Constraint, Instance, Kind, Range, Reach};
 
 /// How much a piece brings in.
 #[derive(Clone, Copy, Debug, Default, PartialEq, Eq)]
@@ -47,8 +47,14 @@ pub enum Purpose {
     /// The three variables of one member of a group, for kind 8.
     Idle { time: usize, members: usize },
     /// The variable that says whether the subevent before goes on at this time,
-    /// for kinds 9 and 10; after the last time it has no inputs.
+    /// for kinds 3, 9 and 10; after the last time it has no inputs.
     GoesOn { time: usize, inputs: usize },
+    /// The variable that says whether a subevent that started outside of the group
+    /// goes on at this time, for kind 3.
+    Carried { time: usize },
+    /// The variable that says whether such a subevent starts or goes on at this
+    /// time, for kind 3.
+    Held { time: usize },
     /// The variable of a start at this time with a counted length, for kinds 9
     /// and 10: the AND of so many literals.
     Counted { time: usize, inputs: usize },
@@ -86,6 +92,7 @@ impl Purpose {
             Purpose::AnyOf { inputs, .. } => (1, inputs + 1),
             Purpose::Idle { members, .. } => (3, members + 5),
             Purpose::GoesOn { inputs, .. } | Purpose::Counted { inputs, .. } => (1, inputs + 1),
+            Purpose::Carried { .. } | Purpose::Held { .. } => (1, 3),
             Purpose::Outside {
                 longer, shorter, ..
             } => (3, longer + shorter + 6),
@@ -200,6 +207,11 @@ impl Outline {
                 }
                 return;
             }
+            Kind::PreferredTimes { event, group } => {
+                for reach in instance.reach(*event, *group) {
+                    self.held(owner, reach);
+                }
+            }
             Kind::BusyLimit { .. } => {
                 return self.busy_limit(owner, length, kind.range(), *weight);
             }
@@ -226,6 +238,19 @@ impl Outline {
             _ => {}
         }
         self.counted(owner, None, length, kind.range(), *weight);
+    }
+
+    /// What kind 3 brings in for a time before its counter: nothing where a subevent
+    /// can only start.
+    fn held(&mut self, owner: Owner, reach: Reach) {
+        let time = reach.time;
+        if reach.reachable {
+            self.push(owner, Purpose::GoesOn { time, inputs: 2 });
+            self.push(owner, Purpose::Carried { time });
+        }
+        if reach.reachable && reach.outside {
+            self.push(owner, Purpose::Held { time });
+        }
     }
 
     /// What kinds 9 and 10 bring in before their counter. A start of one length

@@ -22,6 +22,16 @@ impl Range {
     }
 }
 
+/// A time that a subevent that starts outside of a group can hold.
+#[derive(Clone, Copy, Debug, PartialEq, Eq)]
+pub struct Reach {
+    pub time: usize,
+    /// It can start there.
+    pub outside: bool,
+    /// It can have started before.
+    pub reachable: bool,
+}
+
 impl Kind {
     /// What the count may be, as written.
     pub fn range(&self) -> Range {
@@ -63,7 +73,7 @@ impl Instance {
                 events.filter(|&event| self.uses(event, *resource)).count()
             }
             Kind::Unavailable { group, .. } | Kind::BusyLimit { group, .. } => size(group),
-            Kind::PreferredTimes { group, .. } => self.times - size(group),
+            Kind::PreferredTimes { event, group } => self.reach(*event, *group).count(),
             Kind::Split { .. } | Kind::Distribute { .. } | Kind::Lengths { .. } => self.times,
             Kind::Spread { events, group, .. } => events.len() * size(group),
             Kind::Cluster { groups, .. } => groups.len(),
@@ -72,6 +82,27 @@ impl Instance {
                 groups.iter().map(inner).sum()
             }
         }
+    }
+
+    /// The times that a subevent of `event` that starts outside of `group` can hold,
+    /// ascending: what kind 3 counts.
+    pub fn reach(&self, event: usize, group: usize) -> impl Iterator<Item = Reach> + '_ {
+        let (duration, group) = (self.events[event].duration, &self.groups[group]);
+        // The last time before this one that is outside.
+        let mut last = None;
+        (0..self.times).filter_map(move |time| {
+            let outside = group.binary_search(&time).is_err();
+            let reachable = last.is_some_and(|start| time - start < duration);
+            if outside {
+                last = Some(time);
+            }
+            let reach = Reach {
+                time,
+                outside,
+                reachable,
+            };
+            (outside || reachable).then_some(reach)
+        })
     }
 
     /// What is wrong with a constraint once its last field is read.
@@ -89,5 +120,48 @@ impl Instance {
             return Some(crossed);
         }
         (lo > length).then_some(Reason::Unreachable(end))
+    }
+}
+
+#[cfg(test)]
+mod tests {
+    use super::*;
+    use crate::instance::Event;
+
+    /// In six times and one group: the times that are outside, that can be reached,
+    /// and that are both.
+    fn reached(duration: usize, group: &[usize]) -> [Vec<usize>; 3] {
+        let event = Event {
+            duration,
+            resources: Vec::new(),
+        };
+        let instance = Instance {
+            times: 6,
+            events: vec![event],
+            groups: vec![group.to_vec()],
+            ..Instance::default()
+        };
+        let kind = Kind::PreferredTimes { event: 0, group: 0 };
+        let count = instance.reach(0, 0).count();
+        assert_eq!(instance.counted_length(&kind), count);
+        [(true, false), (false, true), (true, true)].map(|wanted| {
+            let found = instance.reach(0, 0);
+            let found = found.filter(|found| (found.outside, found.reachable) == wanted);
+            found.map(|found| found.time).collect()
+        })
+    }
+
+    #[test]
+    fn a_subevent_from_outside_reaches_as_far_as_it_can_last() {
+        let group = [0, 1, 3];
+        assert_eq!(reached(1, &group), [vec![2, 4, 5], vec![], vec![]]);
+        assert_eq!(reached(2, &group), [vec![2, 4], vec![3], vec![5]]);
+        assert_eq!(reached(3, &group), [vec![2], vec![3], vec![4, 5]]);
+        assert_eq!(
+            reached(4, &[1, 2, 3, 4]),
+            [vec![0, 5], vec![1, 2, 3], vec![]]
+        );
+        assert_eq!(reached(6, &[]), [vec![0], vec![], vec![1, 2, 3, 4, 5]]);
+        assert_eq!(reached(6, &[0, 1, 2, 3, 4, 5]), [vec![], vec![], vec![]]);
     }
 }

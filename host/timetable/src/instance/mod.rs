@@ -13,7 +13,7 @@ mod limits;
 mod read;
 mod write;
 
-pub use counted::Range;
+pub use counted::{Range, Reach};
 pub use fault::{ConstraintEnd, Fault, Reason};
 pub use field::{Entry, Field, Part, Path};
 pub use kinds::{kind_named, FieldFacts, Kind, KindFacts, Source, Value, KINDS};

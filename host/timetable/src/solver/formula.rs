@@ -196,8 +196,8 @@ mod tests {
                 &[-1, 3],
                 &[1, -3],
                 &[3],
-                &[-1, 4],
-                &[1, -4]
+                &[-2, 4],
+                &[2, -4]
             ]
         );
         let unit = Literal::from_signed(-4).unwrap();

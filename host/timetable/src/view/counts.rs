@@ -38,7 +38,7 @@ impl<'a> Usage<'a> {
         match kind {
             Kind::Clash { resource } => self.clash(*resource, range),
             Kind::Unavailable { resource, group } => counted(self.busy_places(*resource, *group)),
-            Kind::PreferredTimes { event, group } => counted(self.outside(*event, *group)),
+            Kind::PreferredTimes { event, group } => counted(self.from_outside(*event, *group)),
             Kind::Split { event, .. } => counted(self.starts(*event, &self.all_times())),
             Kind::Spread { events, group, .. } => self.spread(events, *group, range),
             Kind::BusyLimit {
@@ -73,12 +73,12 @@ impl<'a> Usage<'a> {
         (times.map(over).sum(), places)
     }
 
-    /// Where `event` is outside of `group`.
-    fn outside(&self, event: usize, group: usize) -> Vec<Place> {
+    /// The times of the blocks of `event` that start outside of `group`.
+    fn from_outside(&self, event: usize, group: usize) -> Vec<Place> {
         let wanted = &self.instance.groups[group];
-        let times = self.sheet.times_of(event).into_iter();
-        let outside = times.filter(|time| !wanted.contains(time));
-        at(Subject::Event(event), outside)
+        let blocks = self.sheet.blocks(event).into_iter();
+        let outside = blocks.filter(|block| !wanted.contains(&block.start));
+        at(Subject::Event(event), outside.flatten())
     }
 
     fn spread(&self, events: &[usize], group: usize, range: Range) -> Deviation {

@@ -10,7 +10,7 @@ use timetable::number::write_number;
 
 /// File A of the specification's worked examples, and its proof at bound 3.
 pub const FILE_A: &str = "01 01 00 01 00 01 00 01 03 04 01 01";
-pub const PROOF_A: &str = "61 11 00 05 04 06 0E 10 00";
+pub const PROOF_A: &str = "61 11 00 05 04 02 06 0E 10 00";
 
 pub fn hex(text: &str) -> Vec<u8> {
     text.split_whitespace()

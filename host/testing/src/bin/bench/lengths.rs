@@ -1,8 +1,8 @@
 //! The operations on a school whose lessons each have a kind 9 and a kind 10.
 
-use crate::schools::{BOUND, EMPTY};
-use crate::{Bench, ALL};
-use testing::generate::{encode, model, school, timetable, Random};
+use crate::schools::operations;
+use crate::Bench;
+use testing::generate::{school, Random};
 use testing::reference::{Constraint, Instance, Kind, Range};
 
 /// Prints a row for each operation.
@@ -10,21 +10,8 @@ pub fn rows(bench: &Bench) {
     let mut random = Random::new(1);
     let lessons = bench.scale.lengths;
     let instance = wished(&mut random, lessons);
-    let table = timetable(&mut random, &instance);
-    let file = encode(&instance);
-    let model = model(&instance, &table);
-    let number = BOUND.to_string();
-    let jobs: [(&'static str, Vec<&[u8]>); 5] = [
-        ("read", vec![&file]),
-        ("score", vec![&file, &table]),
-        ("text", vec![&file]),
-        ("decode", vec![&file, &model]),
-        (EMPTY, vec![&file, number.as_bytes(), &[]]),
-    ];
-    for (job, inputs) in jobs {
-        let name = format!("{lessons} lessons, each with kinds 9 and 10");
-        println!("{}", bench.row(job, name, &inputs, &ALL).line());
-    }
+    let name = format!("{lessons} lessons, each with kinds 9 and 10");
+    operations(bench, &mut random, &name, &instance);
 }
 
 /// The lessons of a generated school, for each so many singles or doubles and the

@@ -1,7 +1,7 @@
 //! Times the engine against plain C, tuned C and the reference: schools of
-//! growing size, formulas of many ORs, lengths of subevents, proofs of many hints
-//! and with gaps in their ids, and the worst inputs that are accepted, with the
-//! memory of each.
+//! growing size, formulas of many ORs, lengths of subevents, preferred times, proofs
+//! of many hints and with gaps in their ids, and the worst inputs that are accepted,
+//! with the memory of each.
 //!
 //! `cargo run --release --offline --bin bench` prints the tables of
 //! docs/BENCHMARKS.md; with `-- --short` the same on small inputs. Each time is
@@ -16,6 +16,7 @@ mod clock;
 mod gaps;
 mod job;
 mod lengths;
+mod preferred;
 mod programs;
 mod proofs;
 mod schools;
@@ -45,6 +46,8 @@ pub struct Scale {
     ors: usize,
     /// Lessons of the school of kinds 9 and 10.
     lengths: usize,
+    /// Lessons of the school of kind 3.
+    preferred: usize,
     /// The worst inputs have one in so many of their constraints.
     part: usize,
 }
@@ -57,6 +60,7 @@ const WHOLE: Scale = Scale {
     copies: 250_000,
     ors: 200,
     lengths: 400,
+    preferred: 400,
     part: 1,
 };
 
@@ -68,6 +72,7 @@ const SHORT: Scale = Scale {
     copies: 50_000,
     ors: 20,
     lengths: 100,
+    preferred: 100,
     part: 64,
 };
 

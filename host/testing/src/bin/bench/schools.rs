@@ -1,8 +1,9 @@
 //! The operations on schools of growing size, on a formula of many ORs, on lengths
-//! of subevents and on proofs of many hints; then growth and memory from the same
-//! runs.
+//! of subevents, on preferred times and on proofs of many hints; then growth and
+//! memory from the same runs.
 
 use crate::lengths;
+use crate::preferred;
 use crate::programs::Side;
 use crate::proofs::{copies, Clauses};
 use crate::table::{grouped, head, Row, GROWTH, MEMORY, OPERATIONS};
@@ -24,7 +25,7 @@ const JOBS: [(&str, &str); 6] = [
     (EMPTY, "clause of formula"),
 ];
 /// A check of the empty proof, which takes what the formula takes.
-pub const EMPTY: &str = "check, empty proof";
+const EMPTY: &str = "check, empty proof";
 
 pub struct School {
     pub lessons: usize,
@@ -70,6 +71,7 @@ pub fn tables(bench: &Bench, learned: &[Learned]) {
     all.extend(empty_proofs(bench, &schools));
     ors(bench);
     lengths::rows(bench);
+    preferred::rows(bench);
     many_hints(bench, learned);
     growth(&all);
     memory(&all);
@@ -87,7 +89,7 @@ pub fn recorded() -> Vec<School> {
         include_bytes!("../../../../schools/small.timetable"),
         include_bytes!("../../../../schools/small.proof"),
     ];
-    [(6, 3, toy), (21, 10, small)]
+    [(6, 2, toy), (21, 7, small)]
         .map(|(lessons, bound, [file, table, proof])| School {
             lessons,
             instance: Instance::read(file).expect("an accepted file"),
@@ -221,6 +223,26 @@ fn ors(bench: &Bench) {
         bench.row("check", name(), &[&file, number.as_bytes(), &proof], &ALL),
     ];
     for row in rows {
+        println!("{}", row.line());
+    }
+}
+
+/// A row for each operation on an instance whose constraints are all soft. The
+/// check is of the empty proof.
+pub fn operations(bench: &Bench, random: &mut Random, name: &str, instance: &Instance) {
+    let table = timetable(random, instance);
+    let file = encode(instance);
+    let model = model(instance, &table);
+    let number = BOUND.to_string();
+    let jobs: [(&'static str, Vec<&[u8]>); 5] = [
+        ("read", vec![&file]),
+        ("score", vec![&file, &table]),
+        ("text", vec![&file]),
+        ("decode", vec![&file, &model]),
+        (EMPTY, vec![&file, number.as_bytes(), &[]]),
+    ];
+    for (job, inputs) in jobs {
+        let row = bench.row(job, name.to_string(), &inputs, &ALL);
         println!("{}", row.line());
     }
 }

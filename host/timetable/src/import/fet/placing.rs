@@ -125,6 +125,30 @@ impl Case<'_> {
     fn day_sets(&self) -> Vec<TimeSet> {
         self.context.school.day_sets()
     }
+
+    /// What counts the hours of an event outside of the slots. A longer event is one
+    /// block, so its start says which hours it has; a start with several of them
+    /// outside is counted as often.
+    fn hours_outside(&self, event: usize, slots: TimeSet) -> Vec<Wish> {
+        let duration = self.duration(event);
+        if duration == 1 {
+            return vec![Wish::Preferred(event, slots)];
+        }
+        let school = self.context.school;
+        let starts = school.starts_within(duration, TimeSet::below(school.times()));
+        let outside = |start: usize| {
+            let hours = start..start + duration;
+            hours.filter(|&hour| !slots.contains(hour)).count()
+        };
+        let counted = (1..=duration).map(|least| -> TimeSet {
+            let counted = starts.iter().filter(|&start| outside(start) >= least);
+            counted.collect()
+        });
+        let counted = counted.filter(|starts| !starts.is_empty());
+        counted
+            .map(|starts| Wish::Spread(vec![event], starts, 0, 0))
+            .collect()
+    }
 }
 
 fn optional_number(item: &Element, field: &str) -> Result<Option<usize>, Fault> {
@@ -224,7 +248,9 @@ fn time_slots(case: &Case) -> Outcome {
     let events = case.chosen()?.into_iter();
     if !case.hard {
         return Ok(Reading::wishes(
-            events.map(|event| Wish::Preferred(event, slots)).collect(),
+            events
+                .flat_map(|event| case.hours_outside(event, slots))
+                .collect(),
         ));
     }
     let starts = |event| {

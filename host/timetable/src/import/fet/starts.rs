@@ -59,8 +59,8 @@ impl Starts {
         wishes
     }
 
-    /// That an event starts within `times`. An event of one hour starts where it is; a
-    /// longer one starts once, so it is enough that it does not start elsewhere.
+    /// That an event starts within `times`, charged once if it does not: preferred times
+    /// charge one hour as such, and a longer event has one start to count.
     pub fn within(&self, event: usize, times: TimeSet) -> Wish {
         match self.durations[event] {
             1 => Wish::Preferred(event, times),

@@ -157,15 +157,14 @@ fn fix_times(writer: &mut Writer, archive: &Archive) -> Result<(), Fault> {
             column: None,
             message,
         };
-        let times = start..start + lesson.duration;
-        if times.end > archive.times.len() {
+        if start + lesson.duration > archive.times.len() {
             return Err(fault(format!(
                 "event '{}' does not fit its time",
                 lesson.named.id
             )));
         }
-        let times: TimeSet = times.collect();
-        let wishes = [Wish::Split(event, 1, 1), Wish::Preferred(event, times)];
+        let start: TimeSet = [start].into_iter().collect();
+        let wishes = [Wish::Split(event, 1, 1), Wish::Preferred(event, start)];
         let wishes = &wishes[usize::from(lesson.duration == 1)..];
         writer.draft.add(Weight::Hard, wishes).map_err(fault)?;
     }

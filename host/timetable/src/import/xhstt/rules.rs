@@ -214,8 +214,9 @@ fn distribute_split_events(item: &Item) -> Outcome {
     Ok(carried(wishes))
 }
 
-/// A part is to start within the times. A soft wish costs a part's length, which is
-/// carried as 1 for longer events.
+/// A part is to start within the times, or it costs its length. Where the item speaks
+/// of parts of one length alone, it says nothing of an event that has none, and all of
+/// an event of length 1.
 fn prefer_times(item: &Item) -> Outcome {
     let times = item.archive.times(item.element)?;
     let only = match item.element.child("Duration") {
@@ -224,23 +225,12 @@ fn prefer_times(item: &Item) -> Outcome {
     };
     let mut reading = Reading::default();
     for event in item.archive.events(item.element)? {
-        let duration = item.duration(event);
-        let elsewhere = item.all_times() & !times;
-        match (duration, only) {
-            (_, Some(length)) if length > duration => {}
-            (1, _) => reading.wishes.push(Wish::Preferred(event, times)),
-            (_, Some(_)) => {
+        match (item.duration(event), only) {
+            (duration, Some(length)) if !(1..=duration).contains(&length) => {}
+            (_, None) | (1, _) => reading.wishes.push(Wish::Preferred(event, times)),
+            _ => {
                 let lost = "parts of one length cannot be told apart in longer events";
                 reading.weaker = Some(lost.to_string());
-            }
-            (_, None) => {
-                reading
-                    .wishes
-                    .push(Wish::Spread(vec![event], elsewhere, 0, 0));
-                if !item.required {
-                    let lost = "a part of a longer event is charged as one time";
-                    reading.weaker = Some(lost.to_string());
-                }
             }
         }
     }
