@@ -181,15 +181,15 @@ gaps (x ∷ xs) = gapsAfter (x ∷ []) xs
 abbrev pub goesOn : ℕ → ℕ → Node
 goesOn e t = allOf (is (anAtom (Y e t)) ∷ isNot (anAtom (S e t)) ∷ [])
 
--- Kind 3: a time that a subevent that starts outside the group can hold. It can start there, since the time is outside; it can have
--- come there, since a time outside is near enough before it; or both can be
+-- Kind 3: a time that a subevent that starts outside the group can hold. It can start there, since the time is outside (started);
+-- it can have come there, since a time outside is near enough before it (carried); or both can be
 pub data Reach : Type 0 where
   started : (t : ℕ) → Reach
   carried : (t : ℕ) → Reach
   both : (t : ℕ) → Reach
 
--- those of some times, one after another, for the duration d and the group g; so many of the next ones can be reached from
--- times outside before them: after a time outside the next d − 1
+-- which of some times, one after another, are such, for the duration d and the group g: the first `near` of them can be reached
+-- from times outside before them, and from a time outside the next d − 1 can
 unfoldable pub reached : (d : ℕ) (g : List ℕ) (near : ℕ) → List ℕ → List Reach
 reached d g near [] = []
 reached d g zero (t ∷ ts) = cond (member t g) (reached d g zero ts) (started t ∷ reached d g (d - 1) ts)
@@ -215,6 +215,7 @@ reachAdded (started t) = 0
 reachAdded (carried t) = 2
 reachAdded (both t) = 3
 
+-- the nodes and the members of several, after k nodes: each takes up the reference of the one before it, the first one p
 unfoldable pub reachesNodes : (e : ℕ) → List Reach → (k : ℕ) → Ref → List Node
 reachesNodes e [] k p = []
 reachesNodes e (x ∷ xs) k p = reachNodes e x k p ++ reachesNodes e xs (k + reachAdded x) (reachRef e x k)
@@ -223,15 +224,15 @@ unfoldable pub reachesMembers : (e : ℕ) → List Reach → (k : ℕ) → List 
 reachesMembers e [] k = []
 reachesMembers e (x ∷ xs) k = reachRef e x k ∷ reachesMembers e xs (k + reachAdded x)
 
+-- a list of them; the first is one to start at, which asks for no time before it, so node 0 is never taken up there
 abbrev pub reaches : (e : ℕ) → List Reach → Listed
 reaches e xs = record { nodes = reachesNodes e xs 0 (is (aNode 0)); members = reachesMembers e xs 0 }
 
--- of T times; no time is before the first of them, which can only be one to start at
+-- of T times
 unfoldable pub fromOutside : (T e d : ℕ) (g : List ℕ) → Listed
 fromOutside T e d g = reaches e (reached d g 0 (upTo T))
 
 -- Kinds 9 and 10, for T times: M of the times 2 to T + 1 stand first in the list, M of time T + 1 never true
-
 unfoldable pub goingOn : ℕ → ℕ → List Node
 goingOn T e = map (goesOn e) (from 2 (T - 1)) ++ someOf [] ∷ []
 
