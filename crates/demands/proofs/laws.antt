@@ -1,3 +1,4 @@
 -- Laws, for other crates to use.
 pub mod Calls
 pub mod Beyond
+pub mod Drawn

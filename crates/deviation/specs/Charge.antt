@@ -8,10 +8,10 @@ use lib.Dec.{eqb, ltb}
 use Rattle.scope.specs.Kinds.{Kind, clash, unavailable, preferred, split, spread, busy, cluster, idle, distribute, lengths, upTo}
 use Rattle.scope.specs.Instance.{Counts}
 use Rattle.scope.specs.Score.{trues, any, deviation}
+use Rattle.scope.specs.Idle.{keptAfter}
 use Rattle.parsing.specs.Numbers.{Ascending}
 use Rattle.tables.specs.Rows.{rowAt, RowIn}
 use Rattle.timetable.specs.Bits.{marks}
-use Rattle.deviation.specs.Idle.{idles}
 use Rattle.deviation.specs.Sums.{total}
 use Rattle.deviation.specs.Subevents.{subeventsAt}
 use Rattle.deviation.specs.Held.{timesHeldAt, outsideOf}
@@ -41,7 +41,7 @@ unfoldable pub clusterCharge : ℕ → List ℕ → List ℕ → ℕ → List �
 clusterCharge T x gs r hs lo hi = deviation lo hi (total (λ g. cond (any (marks x ((r - 1) * T) (rowAt gs (g - 1)))) 1 0) hs)
 
 unfoldable pub idleCharge : ℕ → List ℕ → List ℕ → ℕ → List ℕ → ℕ → ℕ → ℕ
-idleCharge T x gs r hs lo hi = deviation lo hi (total (λ g. idles (marks x ((r - 1) * T) (rowAt gs (g - 1)))) hs)
+idleCharge T x gs r hs lo hi = deviation lo hi (total (λ g. keptAfter (marks x ((r - 1) * T) (rowAt gs (g - 1))) .idle) hs)
 
 unfoldable pub distributeCharge : ℕ → ℕ → List ℕ → (e n lo hi : ℕ) → ℕ
 distributeCharge c T b e n lo hi = deviation lo hi (subeventsAt T b ((e - 1) * T) (c + (e - 1) * T) (eqb n))

@@ -24,8 +24,10 @@ use Rattle.engine.proofs.check_hard.timetable_check_hard.Statement as c
 use Rattle.engine.proofs.check_hard.timetable_check_hard.Met as check-hard-met
 use Rattle.engine.proofs.best_model.timetable_best.Statement as best
 use Rattle.engine.proofs.best_model.timetable_best.Met as best-met
+use Rattle.engine.proofs.idle.timetable_idle_step.Statement as idle-step
+use Rattle.engine.proofs.idle.timetable_idle_step.Met as idle-step-met
 
--- the ten equations, one for each function
+-- the eleven equations, one for each function
 pub record Demand1 (M : Type 1) : Type 2 where
   pub timetable-read : read.statement M
   pub timetable-sizes : sizes.statement M
@@ -37,6 +39,7 @@ pub record Demand1 (M : Type 1) : Type 2 where
   pub timetable-check : check.statement M
   pub timetable-check-hard : check-hard.statement M
   pub timetable-best : best.statement M
+  pub timetable-idle-step : idle-step.statement M
 
 pub demand1 : {M : Type 1} → Demand1 M
 demand1 =
@@ -51,4 +54,5 @@ demand1 =
       timetable-check = check-met.met;
       timetable-check-hard = check-hard-met.met;
       timetable-best = best-met.met;
+      timetable-idle-step = idle-step-met.met;
     }

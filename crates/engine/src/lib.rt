@@ -1,11 +1,12 @@
 // The engine's operations as C functions, which include/timetable.h declares.
 //
-// Each answers 0 if it is accepted, and else the number of the first refusal in document 01's order. Its contract is one
-// equation: what the call leaves (the number returned, *value and every other output) is what the crates calls and
-// operation_calls say of the operation's answer by the definitions. An input is lent as `&`, so it keeps every byte. None asks
-// anything of its caller but good pointers. proofs/Demand1.antt has the ten equations together.
+// Each but the idle step, which refuses nothing, answers 0 if it is accepted, and else the number of the first refusal in document
+// 01's order. Its contract is one equation: what the call leaves (the number returned, *value and every other output) is what the
+// crates calls and operation_calls say of the operation's answer by the definitions. An input is lent as `&`, so it keeps every
+// byte. None asks anything of its caller but good pointers. proofs/Demand1.antt has the eleven equations together.
 mod best_model;
 mod check_hard;
+mod idle;
 
 pub use best_model::timetable_best;
 use calls::leave_length;
@@ -17,6 +18,7 @@ use checker::check;
 use claims::claim::Claim;
 use decode_call::leave_evaluation;
 use directory::Row;
+pub use idle::timetable_idle_step;
 use instance::read_instance;
 use many_outputs::leave_amounts;
 use many_outputs::leave_counts;

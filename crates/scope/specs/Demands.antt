@@ -1,18 +1,19 @@
--- Demands 2 and 3, what is owed for the two operations beside them, and what kinds 3, 9 and 10 count, as types over the definitions.
--- The upper crates prove them.
+-- Demands 2 and 3, what is owed for the two operations beside them, what kinds 3, 9 and 10 count, and idle times in one walk, as types
+-- over the definitions. The upper crates prove them.
 use mathlib.Core.Path.{_≡_}
 use mathlib.Core.Bool.{Bool, true, not, _||_}
 use mathlib.Core.Logic.{_↔_}
-use mathlib.Core.List.{List, [], map}
+use mathlib.Core.List.{List, [], map, foldl, sum}
 use Prim.Native.Nat.{ℕ, _+_, _-_, _*_, _≤_, _<_}
-use lib.ListN.{length, getD}
+use lib.ListN.{length, getD, take}
 use lib.Dec.{ltb, eqb}
 use Rattle.scope.specs.Parsed.{got, answered}
-use Rattle.scope.specs.Kinds.{preferred, distribute, lengths, Atom, Listed, member, eventOf, groupAt, fromOutside, ofLength, ofLengthOutside, rulesOf}
+use Rattle.scope.specs.Kinds.{preferred, idle, distribute, lengths, Atom, X, Listed, entries, usesAt, gaps, member, eventOf, groupAt, fromOutside, ofLength, ofLengthOutside, rulesOf}
 use Rattle.scope.specs.Instance.{Instance, parse}
 use Rattle.scope.specs.Cnf.{gate, hardClauses, bit, clauses}
-use Rattle.scope.specs.Score.{deviation, deviations, rules, eventRight}
+use Rattle.scope.specs.Score.{deviation, count, deviations, rules, eventRight}
 use Rattle.scope.specs.Subevents.{subevents, timesHeld, lengthsFrom}
+use Rattle.scope.specs.Idle.{idleTimes, keptAfter, yes, idleStepOf}
 use Rattle.scope.specs.Formula.{nodeGate, variables, hardOf, words, mostVariables}
 use Rattle.scope.specs.Operations.{scoreOf, decodeOf, part, falsifiedSoft, checkOf, checkHardOf, bestOf, Lent}
 use Rattle.scope.specs.Refutation.{NoTimetable, NoneAtAll}
@@ -118,3 +119,25 @@ pub record DemandPreferred : Type 0 where
   pub variables : (T e d : ℕ) (g : List ℕ) → length (fromOutside T e d g .nodes) ≤ 3 * (T - 1)
   pub members : (T e d : ℕ) (g : List ℕ) → length (fromOutside T e d g .members) ≤ T
   pub single : (T e : ℕ) (g : List ℕ) → fromOutside T e 1 g .nodes ≡ []
+
+-- whether resource r has X at each of some times
+abbrev pub usedAt : (Atom → Bool) → ℕ → List ℕ → List Bool
+usedAt τ r ts = map (λ t. τ (X r t)) ts
+
+-- what the operation has answered after a call for each of some members, the first with 0, 0 and 0
+abbrev pub keptByCalls : List ℕ → ℕ × ℕ × ℕ
+keptByCalls us = foldl {B = ℕ × ℕ × ℕ} (λ n u. idleStepOf (n .0) (n .1) (n .2) u) (0, 0, 0) us
+
+-- Idle times in one walk
+pub record DemandIdle : Type 0 where
+  -- "From the start of each group, the count kept after each member is the number of idle times in the group cut off there."
+  pub each-member : (xs : List Bool) (k : ℕ) → keptAfter (take k xs) .idle ≡ idleTimes (take k xs)
+  -- and that is kind 8's count of a group cut off there
+  pub counted : (i : Instance) (τ : Atom → Bool) (r g k : ℕ)
+      → keptAfter (take k (usedAt τ r (groupAt (i .groups) g))) .idle ≡ count τ (entries (gaps (usesAt r (take k (groupAt (i .groups) g)))))
+  -- "Every score is as before": kind 8 charges for the counts kept at the ends of its groups
+  pub charge : (i : Instance) (τ : Atom → Bool) (w r : ℕ) (hs : List ℕ) (lo hi : ℕ)
+      → deviations τ (rules i (record { weight = w; kind = idle r hs lo hi }))
+      ≡ deviation lo hi (sum _+_ 0 (map (λ g. keptAfter (usedAt τ r (groupAt (i .groups) g)) .idle) hs))
+  -- calls of the operation keep the same count, for fewer than 2^32 members
+  pub calls : (us : List ℕ) → length us ≤ 4294967295 → keptByCalls us .0 ≡ keptAfter (map yes us) .idle

@@ -1,10 +1,10 @@
--- The examples of document 01 that are marked P, file A's listing, its limits, and those of kinds 3, 9 and 10, as one table under one
--- theorem. A case is what the definitions compute and what the paper says, both as numbers.
+-- The examples of document 01 that are marked P, file A's listing, its limits, those of kinds 3, 9 and 10 and of idle times in one walk,
+-- as one table under one theorem. A case is what the definitions compute and what the paper says, both as numbers.
 use mathlib.Core.Path.{_≡_, refl}
-use mathlib.Core.Bool.{Bool, false, cond, _||_}
+use mathlib.Core.Bool.{Bool, true, false, cond, _||_}
 use mathlib.Core.List.{List, [], _∷_, _++_, map, flatMap}
 use Prim.Native.Nat.{ℕ, _+_, _/_, _%_}
-use lib.ListN.{drop, replicate}
+use lib.ListN.{take, drop, replicate}
 use lib.Dec.{eqb, ltb}
 use Rattle.scope.specs.Parsed.{Parsed, got, refused, Answer, answered, refusal, repeat}
 use Rattle.scope.specs.Number.{group, front, within, number, limited, reference, references, listed}
@@ -13,6 +13,7 @@ use Rattle.scope.specs.Instance.{eventAt, fieldsRead, fieldsTable, ended
 use Rattle.scope.specs.Cnf.{pos, Item, gate, bit, lit, clause, clauses, hasTrue, withoutFalse, tidy, pairs, gateClauses, hardClauses, softUnits, falsified}
 use Rattle.scope.specs.Score.{layoutAt, varAt, trues, any, all, deviation, charged, valuesAfter, count, deviations, truth, eventRight, firstWrong, infeasibilityOf, objectiveOf, firstAbove}
 use Rattle.scope.specs.Subevents.{before, subevents, heldFrom, timesHeld, lengthsFrom}
+use Rattle.scope.specs.Idle.{idleTimes, keptAfter, numbersOf, idleStepOf}
 use Rattle.scope.specs.Formula.{refLiteral, nodeGate, noRow, ones, row, counter, lastRow, lowUnits, highUnits, shortUnits, boundItems, countInto, ruleItems, rulesItems, starts, uses, durationRules, constraintRules, formula, variables, hardOf, softOf, tail, bounded, boundedVariables, boundedHard, words}
 use Rattle.scope.specs.Text.{digits, literalText, line, sumWeights, top, headerLine, text}
 use Rattle.scope.specs.Steps.{numbers, stepAt, literalsOk, wellFormed, hintsShow, deleted}
@@ -188,6 +189,13 @@ threeStarts (Y e t) = ltb 0 t
 threeStarts (S e t) = eqb t 1 || eqb t 3 || eqb t 4
 threeStarts (X r t) = false
 
+-- a row of six members, with X at the second and the fifth, and the three numbers
+drawn : List Bool
+drawn = false ∷ true ∷ false ∷ false ∷ true ∷ false ∷ []
+
+keptSaid : ℕ × ℕ × ℕ → List ℕ
+keptSaid n = n .0 ∷ n .1 ∷ n .2 ∷ []
+
 pub record Case : Type 0 where
   pub computed : List ℕ
   pub expected : List ℕ
@@ -305,9 +313,19 @@ cases =
     -- the clauses of M and K in three times for length 2; of M, Q, W and K in two times for 2 to 2
     ∷ shows (nodeListing 3 16 (ofLength 3 1 2)) nineListing
     ∷ shows (nodeListing 2 10 (ofLengthOutside 2 1 2 2)) tenListing
+    -- idle after each member of a row with X at the second and the fifth of six, walked and by the meaning of idle
+    ∷ shows (map (λ k. keptAfter (take k drawn) .idle) (upTo 6)) (0 ∷ 0 ∷ 0 ∷ 0 ∷ 2 ∷ 2 ∷ [])
+    ∷ shows (map (λ k. idleTimes (take k drawn)) (upTo 6)) (0 ∷ 0 ∷ 0 ∷ 0 ∷ 2 ∷ 2 ∷ [])
+    -- the three numbers after each
+    ∷ shows
+    (flatMap (λ k. keptSaid (numbersOf (keptAfter (take k drawn)))) (upTo 6))
+    (0 ∷ 0 ∷ 0 ∷ 0 ∷ 0 ∷ 1 ∷ 0 ∷ 1 ∷ 1 ∷ 0 ∷ 2 ∷ 1 ∷ 2 ∷ 0 ∷ 1 ∷ 2 ∷ 1 ∷ 1 ∷ [])
+    -- any value for yes; what does not fit is given as the largest number
+    ∷ shows (keptSaid (idleStepOf 7 3 9 0) ++ keptSaid (idleStepOf 7 3 9 5)) (7 ∷ 4 ∷ 1 ∷ 10 ∷ 0 ∷ 1 ∷ [])
+    ∷ shows (keptSaid (idleStepOf 4294967295 1 1 1) ++ keptSaid (idleStepOf 5 4294967295 1 0)) (4294967295 ∷ 0 ∷ 1 ∷ 5 ∷ 4294967295 ∷ 1 ∷ [])
     ∷ []
 
 -- the definitions compute what the paper says
 pub examples : map (λ c. c .computed) cases ≡ map (λ c. c .expected) cases
-unfolding repeat group front within number limited reference references listed from member usersFrom outside gapsAfter gaps reached reachesNodes reachesMembers fromOutside goingOn span timeByTime ofLength ofLengthOutside entriesNodes entriesMembers countedOf longest eventAt fieldsRead fieldsTable ended constraintAt sizesAt groupsAt constraintsAt parse bit lit clause clauses hasTrue withoutFalse tidy pairs gateClauses hardClauses softUnits falsified trues any all deviation charged valuesAfter count deviations truth eventRight firstWrong infeasibilityOf objectiveOf firstAbove row counter lastRow lowUnits highUnits shortUnits boundItems countInto ruleItems rulesItems starts uses durationRules constraintRules formula variables hardOf softOf tail bounded boundedVariables boundedHard words digits literalText line sumWeights top headerLine text numbers stepAt literalsOk wellFormed hintsShow deleted perform run start plainRun readOf scoreOf sameBytes sameSheetOf sizesOf textSizeOf textOf programPrints lowestFalse decodeOf formulaFits checkOf checkHardOf bestOf fileA fileHardA fileFree proofA listingA numberSaid stepsSaid scoreSaid decodeSaid bestSaid sizeSaid ample checkA roomA bestA busyTimes startAt1 counter3 holds3 timesFile spelt listFile six idleSix before subevents heldFrom timesHeld lengthsFrom lengthFile preferredFile chainListing bothListing membersOf doubles softNine readNine readTen nodeListing nineListing tenListing threeStarts cases flatMap
+unfolding repeat group front within number limited reference references listed from member usersFrom outside gapsAfter gaps reached reachesNodes reachesMembers fromOutside goingOn span timeByTime ofLength ofLengthOutside entriesNodes entriesMembers countedOf longest eventAt fieldsRead fieldsTable ended constraintAt sizesAt groupsAt constraintsAt parse bit lit clause clauses hasTrue withoutFalse tidy pairs gateClauses hardClauses softUnits falsified trues any all deviation charged valuesAfter count deviations truth eventRight firstWrong infeasibilityOf objectiveOf firstAbove row counter lastRow lowUnits highUnits shortUnits boundItems countInto ruleItems rulesItems starts uses durationRules constraintRules formula variables hardOf softOf tail bounded boundedVariables boundedHard words digits literalText line sumWeights top headerLine text numbers stepAt literalsOk wellFormed hintsShow deleted perform run start plainRun readOf scoreOf sameBytes sameSheetOf sizesOf textSizeOf textOf programPrints lowestFalse decodeOf formulaFits checkOf checkHardOf bestOf fileA fileHardA fileFree proofA listingA numberSaid stepsSaid scoreSaid decodeSaid bestSaid sizeSaid ample checkA roomA bestA busyTimes startAt1 counter3 holds3 timesFile spelt listFile six idleSix before subevents heldFrom timesHeld lengthsFrom idleTimes keptAfter drawn keptSaid lengthFile preferredFile chainListing bothListing membersOf doubles softNine readNine readTen nodeListing nineListing tenListing threeStarts cases flatMap
 examples = refl

@@ -5,6 +5,7 @@ pub mod Instance
 pub mod Cnf
 pub mod Score
 pub mod Subevents
+pub mod Idle
 pub mod Formula
 pub mod Text
 pub mod Steps

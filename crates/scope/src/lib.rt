@@ -83,3 +83,11 @@ pub enum BestAnswer {
     Best(Objective, u64),
     Refused(Refusal),
 }
+
+// What a walk over a group's members keeps from one to the next: how many are idle so far, how many without X have come since the
+// last with X, and whether one had X.
+pub struct Kept {
+    pub idle: u64,
+    pub since: u64,
+    pub seen: bool,
+}

@@ -21,6 +21,7 @@ pub mod Runs
 pub mod StartNodes
 pub mod Subevents
 pub mod Held
+pub mod IdleWalk
 pub mod Words
 pub mod LengthLists
 pub mod Rules

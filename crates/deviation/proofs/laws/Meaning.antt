@@ -17,6 +17,7 @@ use Rattle.theory.proofs.laws.Entries.{entryTrue}
 use Rattle.theory.proofs.laws.Lowered.{deviation-zero}
 use Rattle.theory.proofs.laws.Subevents.{distribute-counts, lengths-counts}
 use Rattle.theory.proofs.laws.Held.{times-charged}
+use Rattle.theory.proofs.laws.IdleWalk.{gaps-kept}
 use Rattle.parsing.specs.Numbers.{Ascending, none, more}
 use Rattle.tables.specs.Rows.{rowAt, rows, eventsOf}
 use Rattle.tables.proofs.laws.Laws.{group-row}
@@ -32,7 +33,7 @@ use Rattle.deviation.specs.Subevents.{alone, subeventsAt}
 use Rattle.deviation.specs.Held.{timesHeldAt, outsideOf}
 use Rattle.deviation.proofs.laws.Subevents.{subevents-same}
 use Rattle.deviation.proofs.laws.Held.{times-held-same}
-use Rattle.deviation.proofs.laws.Counting.{map-map, trues-total, trues-flat, deviation-one, one-list, one-limit, many-lists, gaps-idle}
+use Rattle.deviation.proofs.laws.Counting.{map-map, trues-total, trues-flat, deviation-one, one-list, one-limit, many-lists}
 use Rattle.deviation.specs.Charge.{chargeOf, clashCharge, unavailableCharge, preferredCharge, splitCharge, spreadCharge, busyCharge, clusterCharge, idleCharge, distributeCharge, lengthsCharge}
 
 -- the table of uses and the table of X say of an instance's timetable what the definitions say
@@ -167,7 +168,7 @@ module _ (i : Instance) (b u x gs : List ℕ) (G : ℕ) (seen : Seen i b u x) (t
       sym (one-list (truth i b) lo hi (flatMap (λ g. gaps (usesAt r (groupAt (i .groups) g))) hs)
       ∙ ap (deviation lo hi)
       (trues-flat (entryTrue (truth i b)) (λ g. gaps (usesAt r (groupAt (i .groups) g))) hs
-      ∙ total-listed _ _ G a (λ g o. gaps-idle (truth i b) (usesAt r (groupAt (i .groups) g)) ∙ rw (group-used r g p q o))))
+      ∙ total-listed _ _ G a (λ g o. gaps-kept (truth i b) (usesAt r (groupAt (i .groups) g)) ∙ rw (group-used r g p q o))))
 
   -- the subevents of an event, told from its bytes alone
   event-alone : (e : ℕ) (such : ℕ → Bool)

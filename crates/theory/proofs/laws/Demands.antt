@@ -1,5 +1,7 @@
--- Demands 2 and 3 of the definitions, what the two operations beside them owe, and what kinds 3, 9 and 10 count.
-use Rattle.scope.specs.Demands.{Demand2, Demand3, DemandHard, DemandBest, DemandLengths, DemandPreferred}
+-- Demands 2 and 3 of the definitions, what the two operations beside them owe, what kinds 3, 9 and 10 count, and idle times in one walk.
+use lib.ListN.{take}
+use Rattle.scope.specs.Kinds.{groupAt}
+use Rattle.scope.specs.Demands.{Demand2, Demand3, DemandHard, DemandBest, DemandLengths, DemandPreferred, DemandIdle}
 use Rattle.theory.proofs.laws.Match as match
 use Rattle.theory.proofs.laws.Bounded.{bounded-model}
 use Rattle.theory.proofs.laws.Never as bound
@@ -7,6 +9,7 @@ use Rattle.theory.proofs.laws.Subevents.{distribute-counts, lengths-cou
 use Rattle.theory.proofs.laws.LengthLists.{of-length-listed, outside-listed}
 use Rattle.theory.proofs.laws.ReachLists.{length-from-outside, few-nodes, single-nodes}
 use Rattle.theory.proofs.laws.Held.{times-charged, lengths-charged}
+use Rattle.theory.proofs.laws.IdleWalk.{kept-idle, kept-counted, idle-charged, kept-by-calls}
 
 pub demand2 : Demand2
 demand2 = match.demand2
@@ -27,3 +30,12 @@ demandLengths =
 pub demandPreferred : DemandPreferred
 demandPreferred =
     record { times = times-charged; lengths = lengths-charged; variables = few-nodes; members = length-from-outside; single = single-nodes }
+
+pub demandIdle : DemandIdle
+demandIdle =
+    record {
+      each-member = λ xs k. kept-idle (take k xs);
+      counted = λ i τ r g k. kept-counted τ r k (groupAt (i .groups) g);
+      charge = idle-charged;
+      calls = kept-by-calls;
+    }

@@ -1,9 +1,10 @@
 -- The entries of kinds 1 to 8, valued in a timetable: their nodes and members count the same.
 use mathlib.Core.Path.{_≡_, refl, sym, ap, ap₂, _∙_}
-use mathlib.Core.Bool.{Bool, true, false, not, _&&_, and-true, and-assoc}
+use mathlib.Core.Bool.{Bool, true, false, not, cond, _&&_, and-true, and-assoc}
 use mathlib.Core.List.{List, [], _∷_, _++_, map}
 use Prim.Native.Nat.{ℕ, _+_}
 use native.Mathlib.Omega.{arith}
+use native.Mathlib.Nat.{zero-add, add-assoc}
 use lib.ListN.{length, getD, List·getD-append}
 use Rattle.scope.specs.Kinds.{Atom, Entry, atom, anyOf, gap, Node, atoms, entryNodes, entryMember, added, entriesNodes, entriesMembers, entries}
 use Rattle.scope.specs.Score.{any, all, trues, refTrue, valuesAfter, count}
@@ -15,6 +16,11 @@ unfoldable pub entryTrue : (Atom → Bool) → Entry → Bool
 entryTrue τ (atom a) = τ a
 entryTrue τ (anyOf xs) = any (map τ xs)
 entryTrue τ (gap earlier here later) = not (τ here) && any (map τ earlier) && any (map τ later)
+
+pub trues-append : (xs ys : List Bool) → trues (xs ++ ys) ≡ trues xs + trues ys
+unfolding trues
+trues-append [] ys = sym (zero-add (trues ys))
+trues-append (x ∷ xs) ys = rw (trues-append xs ys) (sym (add-assoc (cond x 1 0) (trues xs) (trues ys)))
 
 module _ (τ : Atom → Bool) where
   atoms-true : (vs : List Bool) (xs : List Atom) → map (refTrue τ vs) (atoms xs) ≡ map τ xs

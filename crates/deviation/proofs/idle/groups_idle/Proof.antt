@@ -5,17 +5,17 @@ use native.Mathlib.Omega.{arith}
 use native.Mathlib.Nat.{zero-add}
 use borrow.Author.Needs.{needs}
 use lib.ListN.{drop}
+use Rattle.scope.specs.Idle.{keptAfter}
 use Rattle.number.specs.Lists.{leading}
 use Rattle.tables.specs.Rows.{rowAt}
 use Rattle.timetable.specs.Bits.{marks}
-use Rattle.deviation.specs.Idle.{idles}
 use Rattle.deviation.specs.Sums.{total}
 use Rattle.deviation.proofs.laws.Sums.{sum-more, sum-end}
 use Rattle.deviation.proofs.idle.groups_idle.Statement.{statement}
 use Rattle.deviation.proofs.idle.groups_idle.Tie as tie
 
 abbrev Inv-loop : tie.InvT-loop
-Inv-loop bytes base groups list n sum₀ k₀ sum k = (k ≤ n) × (sum ≤ 125 * k) × (sum + total (λ g. idles (marks bytes base (rowAt groups (g - 1)))) (drop k (leading n list)) ≡ total (λ g. idles (marks bytes base (rowAt groups (g - 1)))) (leading n list))
+Inv-loop bytes base groups list n sum₀ k₀ sum k = (k ≤ n) × (sum ≤ 125 * k) × (sum + total (λ g. keptAfter (marks bytes base (rowAt groups (g - 1))) .idle) (drop k (leading n list)) ≡ total (λ g. keptAfter (marks bytes base (rowAt groups (g - 1))) .idle) (leading n list))
 
 abbrev μ-loop : tie.MeasureT-loop
 μ-loop bytes base groups list n sum₀ k₀ sum k = n - k
