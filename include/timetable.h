@@ -7,7 +7,8 @@
  * never runs on, keeps nothing between calls and allocates nothing.
  * timetable.hpp has the same operations for C++.
  *
- * What every function answers. The result is 0 if the call is accepted, and
+ * What every function answers, but for timetable_idle_step, which refuses
+ * nothing and returns nothing. The result is 0 if the call is accepted, and
  * else the number of the first refusal below, in the order in which the
  * function's comment lists them. On a refusal *value is what the refusal
  * gives, and no other output changes. Inputs, which are const, never change.
@@ -131,6 +132,32 @@ uint32_t timetable_score(const uint8_t *file, size_t file_length,
                          const uint8_t *table, size_t table_length,
                          uint64_t *infeasibility, uint64_t *objective,
                          uint64_t *value);
+
+/*
+ * Counts idle times (kind 8) while a row is drawn from left to right: a step
+ * for each member of a group. used is whether that member has X, which is that
+ * some event with the resource takes it. Three numbers are kept from step to
+ * step, all 0 at the start of each group:
+ *   idle   how many members so far are idle
+ *   since  how many members came after the last with X, 0 while none had X
+ *   seen   whether some member had X, 0 or 1
+ * After each member *next_idle is the number of idle times in the group cut
+ * off there: free times at the end of what is drawn are not idle yet. Members
+ * with X 0 1 0 0 1 0 keep 0 0 0 0 2 2. Kind 8's count is the sum over its
+ * groups of what is kept at their ends.
+ * No value is refused: seen and used are no if 0, and else yes. All three
+ * outputs are always written; *next_idle, *next_since and *next_seen are
+ *   idle + since, 0, 1   if used,
+ *   idle, since + 1, 1   if seen and not used,
+ *   idle, since, 0       if neither.
+ * A sum above 4294967295 is given as 4294967295; a walk of fewer than 2^32
+ * members from 0, 0, 0 has none. The outputs may be the variables whose values
+ * are given:
+ * timetable_idle_step(idle, since, seen, used, &idle, &since, &seen).
+ */
+void timetable_idle_step(uint32_t idle, uint32_t since, uint32_t seen,
+                         uint32_t used, uint32_t *next_idle,
+                         uint32_t *next_since, uint32_t *next_seen);
 
 /*
  * Whether two timetables are the same sheet: whether their bytes "taken" agree.

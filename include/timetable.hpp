@@ -70,6 +70,16 @@ struct amounts {
     std::uint64_t infeasibility, objective;
 };
 
+/* What is kept of a group so far; all 0 at its start. */
+struct kept {
+    /* How many members are idle. */
+    std::uint32_t idle = 0;
+    /* How many members came after the last with X, 0 while none had X. */
+    std::uint32_t since = 0;
+    /* Whether some member had X, 0 or 1. */
+    std::uint32_t seen = 0;
+};
+
 struct decoded {
     /* The timetable is this many bytes of the model, from its first. */
     std::size_t timetable;
@@ -122,6 +132,14 @@ inline result<amounts> score(slice file, slice table)
         timetable_score(file.data(), file.size(), table.data(), table.size(),
                         &found.infeasibility, &found.objective, &value);
     return detail::answered(number, value, found);
+}
+
+/* What is kept after one more member of the group, which has X or not; nothing is refused. */
+inline kept idle_step(kept row, bool used)
+{
+    timetable_idle_step(row.idle, row.since, row.seen, used ? 1 : 0, &row.idle, &row.since,
+                        &row.seen);
+    return row;
 }
 
 inline result<bool> same_sheet(slice file, slice first, slice second)

@@ -114,6 +114,86 @@ static void score_refused(void)
     expect("objective, no timetable", objective, kept);
 }
 
+/* idle, since and seen before a step, and after it. */
+struct step {
+    uint32_t before[3], used, after[3];
+};
+
+static void expect_kept(const char *what, const uint32_t found[3], const uint32_t wanted[3])
+{
+    int i;
+    for (i = 0; i < 3; i++)
+        expect(what, found[i], wanted[i]);
+}
+
+/* Takes the step with outputs of its own, then with the numbers that it is given. */
+static void stepped(const struct step *step)
+{
+    uint32_t next[5] = {77, 77, 77, 77, 77};
+    uint32_t own[3];
+    memcpy(own, step->before, sizeof own);
+    timetable_idle_step(own[0], own[1], own[2], step->used, &next[1], &next[2], &next[3]);
+    expect_kept("idle step", &next[1], step->after);
+    expect("before the outputs of a step", next[0], 77);
+    expect("after the outputs of a step", next[4], 77);
+    expect_kept("numbers of an idle step", own, step->before);
+    timetable_idle_step(own[0], own[1], own[2], step->used, &own[0], &own[1], &own[2]);
+    expect_kept("idle step in place", own, step->after);
+}
+
+/* Members with X 0 1 0 0 1 0. */
+static const struct step members[] = {
+    {{0, 0, 0}, 0, {0, 0, 0}}, {{0, 0, 0}, 1, {0, 0, 1}}, {{0, 0, 1}, 0, {0, 1, 1}},
+    {{0, 1, 1}, 0, {0, 2, 1}}, {{0, 2, 1}, 1, {2, 0, 1}}, {{2, 0, 1}, 0, {2, 1, 1}},
+};
+
+static void drawn(void)
+{
+    size_t i;
+    for (i = 0; i < sizeof members / sizeof *members; i++)
+        stepped(&members[i]);
+}
+
+/* The same, with three numbers that each step writes over. */
+static void drawn_in_place(void)
+{
+    uint32_t idle = 0, since = 0, seen = 0;
+    size_t i;
+    for (i = 0; i < sizeof members / sizeof *members; i++) {
+        timetable_idle_step(idle, since, seen, members[i].used, &idle, &since, &seen);
+        expect("idle, drawn", idle, members[i].after[0]);
+        expect("since, drawn", since, members[i].after[1]);
+        expect("seen, drawn", seen, members[i].after[2]);
+    }
+}
+
+/* Numbers that no walk keeps: yes by other values than 1, and sums that do not fit. */
+static void steps_of_any_value(void)
+{
+    static const uint32_t most = 4294967295u;
+    const struct step steps[] = {
+        {{7, 3, 9}, 0, {7, 4, 1}},
+        {{7, 3, 9}, 1, {10, 0, 1}},
+        {{7, 3, 256}, 0, {7, 4, 1}},
+        {{7, 3, most}, 1, {10, 0, 1}},
+        {{7, 3, 1}, 256, {10, 0, 1}},
+        {{7, 3, 0}, most, {10, 0, 1}},
+        {{0, 5, 0}, 0, {0, 5, 0}},
+        {{0, 5, 0}, 1, {5, 0, 1}},
+        {{most - 1, 1, 1}, 1, {most, 0, 1}},
+        {{most, 1, 1}, 1, {most, 0, 1}},
+        {{most, most, 0}, 2, {most, 0, 1}},
+        {{5, most - 4, 0}, 1, {most, 0, 1}},
+        {{5, most - 1, 2}, 0, {5, most, 1}},
+        {{5, most, 1}, 0, {5, most, 1}},
+        {{5, most, 0}, 0, {5, most, 0}},
+        {{most, 0, 1}, 0, {most, 1, 1}},
+    };
+    size_t i;
+    for (i = 0; i < sizeof steps / sizeof *steps; i++)
+        stepped(&steps[i]);
+}
+
 static void same_sheet(void)
 {
     uint64_t value = kept;
@@ -303,6 +383,9 @@ int main(void)
     sizes_refused();
     scored();
     score_refused();
+    drawn();
+    drawn_in_place();
+    steps_of_any_value();
     same_sheet();
     text_sized();
     written();

@@ -72,6 +72,32 @@ static void operations()
             6);
 }
 
+/* What is kept is idle, since and seen. */
+static void keeps(const char *what, const timetable::kept &found, std::uint32_t idle,
+                  std::uint32_t since, std::uint32_t seen)
+{
+    expect(what, found.idle == idle && found.since == since && found.seen == seen);
+}
+
+/* Members with X 0 1 0 0 1 0; then a step from numbers that no walk keeps. */
+static void idle_times()
+{
+    timetable::kept row;
+    keeps("the start of a group", row, 0, 0, 0);
+    keeps("idle, 1st member", row = timetable::idle_step(row, false), 0, 0, 0);
+    keeps("idle, 2nd member", row = timetable::idle_step(row, true), 0, 0, 1);
+    keeps("idle, 3rd member", row = timetable::idle_step(row, false), 0, 1, 1);
+    keeps("idle, 4th member", row = timetable::idle_step(row, false), 0, 2, 1);
+    keeps("idle, 5th member", row = timetable::idle_step(row, true), 2, 0, 1);
+    keeps("idle, 6th member", row = timetable::idle_step(row, false), 2, 1, 1);
+    row.idle = 7;
+    row.since = 3;
+    row.seen = 9;
+    keeps("idle, without X", timetable::idle_step(row, false), 7, 4, 1);
+    keeps("idle, with X", timetable::idle_step(row, true), 10, 0, 1);
+    keeps("what was given", row, 7, 3, 9);
+}
+
 /* Empty vectors, whose pointers may be null. */
 static void empty_slices()
 {
@@ -94,6 +120,7 @@ static void empty_slices()
 int main()
 {
     operations();
+    idle_times();
     empty_slices();
     if (failures == 0)
         std::puts("ok");

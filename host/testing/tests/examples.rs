@@ -2,11 +2,11 @@
 
 mod support;
 
-use support::both::{check, decode, read, score, sizes, text_program};
+use support::both::{check, decode, idle_step, read, score, sizes, text_program};
 use support::{clauses, first_times, hex, numbers, refused, FILE_A, PROOF_A};
 use testing::generate::model;
 use testing::reference::{
-    deviation, read_number, Infeasibility, Instance, Objective, Range, Score,
+    deviation, read_number, Infeasibility, Instance, Kept, Objective, Range, Score,
 };
 
 fn scored<E>(infeasibility: u64, objective: u64) -> Result<Score, E> {
@@ -65,6 +65,37 @@ fn idle_times() {
         score(&file, &hex("00 01 00 00 01 00 00 01 00 00 01 00")),
         scored(0, 2)
     );
+}
+
+/// Idle, since and seen after each member of a group of six with X at members 2 and 5,
+/// then after steps from numbers that no walk keeps.
+#[test]
+fn idle_times_in_one_walk() {
+    let step = |[idle, since, seen]: [u32; 3], used| {
+        let next = idle_step(Kept { idle, since, seen }, used);
+        [next.idle, next.since, next.seen]
+    };
+    let mut last = [0; 3];
+    let walked = [0, 1, 0, 0, 1, 0].map(|used| {
+        last = step(last, used);
+        last
+    });
+    let expected = [
+        [0, 0, 0],
+        [0, 0, 1],
+        [0, 1, 1],
+        [0, 2, 1],
+        [2, 0, 1],
+        [2, 1, 1],
+    ];
+    assert_eq!(walked, expected);
+    let most = u32::MAX;
+    assert_eq!(step([7, 3, 9], 0), [7, 4, 1]);
+    assert_eq!(step([7, 3, 9], 5), [10, 0, 1]);
+    assert_eq!(step([most, 1, 1], 1), [most, 0, 1]);
+    assert_eq!(step([5, most, 1], 0), [5, most, 1]);
+    assert_eq!(step([0, 5, 0], 0), [0, 5, 0]);
+    assert_eq!(step([0, 5, 0], 1), [5, 0, 1]);
 }
 
 /// A double in two times, with a group of one of them: it costs its whole length

@@ -7,11 +7,14 @@
 mod support;
 
 use support::both::{
-    check, check_hard, decode, read, same_sheet, score, sizes, text, text_program, text_size,
+    check, check_hard, decode, idle_step, read, same_sheet, score, sizes, text, text_program,
+    text_size,
 };
 use support::{clauses, first_times, hex, numbers, oversized, refused, FILE_A, PROOF_A};
 use testing::prover::{clause_list, solve, Verdict};
-use testing::reference::{Infeasibility, Instance, Objective, Refusal, Score, Sizes, Summary};
+use testing::reference::{
+    Infeasibility, Instance, Kept, Objective, Refusal, Score, Sizes, Summary,
+};
 use testing::steps::encode_steps;
 
 fn read_of(file: &str) -> Result<Summary, Refusal> {
@@ -339,6 +342,84 @@ mod preferred_times {
         assert_eq!(check_a(PROOF_A), Ok(1));
         assert_eq!(check_a("61 11 00 05 04 06 0E 10 00"), refused(16, 1));
         assert_eq!(score(&hex(FILE_A), &[1, 1]), scored(0, 4));
+    }
+}
+
+mod idle_times {
+    use super::*;
+
+    /// Idle, since and seen after one more member.
+    fn step([idle, since, seen]: [u32; 3], used: u32) -> [u32; 3] {
+        let next = idle_step(Kept { idle, since, seen }, used);
+        [next.idle, next.since, next.seen]
+    }
+
+    /// What is kept after these members of a group.
+    fn kept_after(row: &[u32]) -> [u32; 3] {
+        row.iter().fold([0; 3], |last, &used| step(last, used))
+    }
+
+    /// The count after each member.
+    fn counts(row: &[u32]) -> Vec<u32> {
+        let cut = (1..=row.len()).map(|length| kept_after(&row[..length]));
+        cut.map(|[idle, ..]| idle).collect()
+    }
+
+    /// Decision 74: Each group is counted from 0, and kind 8 counts their sum; free
+    /// times at the end of what is drawn are not idle yet.
+    #[test]
+    fn each_group_is_counted_from_0() {
+        assert_eq!(counts(&[0, 1, 0, 0, 1, 0]), [0, 0, 0, 0, 2, 2]);
+        // Six times, X at the second and the fifth, and kind 8 over two groups.
+        let start = "06 01 01 02 01 01 02";
+        let table = [0, 1, 0, 0, 1, 0, 0, 1, 0, 0, 1, 0];
+        let over = |first: &str, second: &str| {
+            let file = format!("{start} {first} {second} 01 08 01 01 02 01 02 00 00");
+            score(&hex(&file), &table)
+        };
+        assert_eq!(over("03 01 02 03", "03 04 05 06"), scored(0, 0));
+        assert_eq!(counts(&[0, 1, 0]), [0, 0, 0]);
+        let all = "06 01 02 03 04 05 06";
+        assert_eq!(over(all, all), scored(0, 2 + 2));
+        assert_eq!(over(all, "03 02 04 05"), scored(0, 2 + 1));
+    }
+
+    /// Decision 75: The three numbers are the idle members, those since the last with
+    /// X, and whether there was one; two would not do.
+    #[test]
+    fn three_numbers_are_kept() {
+        assert_eq!(kept_after(&[0]), [0, 0, 0]);
+        assert_eq!(kept_after(&[0, 1]), [0, 0, 1]);
+        assert_eq!(kept_after(&[0, 0, 1]), [0, 0, 1]);
+        assert_eq!(kept_after(&[0, 1, 0, 1]), [1, 0, 1]);
+        assert_eq!(kept_after(&[0, 1, 0, 0, 1, 0]), [2, 1, 1]);
+    }
+
+    /// Decision 76: Any number but 0 says yes, and a sum that does not fit is the
+    /// largest number.
+    #[test]
+    fn every_number_has_an_answer() {
+        let most = u32::MAX;
+        assert_eq!(step([7, 3, 9], 0), [7, 4, 1]);
+        assert_eq!(step([7, 3, 0], 256), [10, 0, 1]);
+        assert_eq!(step([0, 5, 0], 0), [0, 5, 0]);
+        assert_eq!(step([most, 1, 1], 1), [most, 0, 1]);
+        assert_eq!(step([5, most, 1], 0), [5, most, 1]);
+    }
+
+    /// Decision 78: Kind 8 has G, H and I of each member but the first and the last,
+    /// and a counter over I, as before.
+    #[test]
+    fn the_clauses_of_kind_8_stay() {
+        let start = "04 01 01 01 01 01 01 04 01 02 03 04";
+        let sizes_with = |constraints: &str| {
+            let sizes = sizes(&hex(&format!("{start} {constraints}")), None).unwrap();
+            [sizes.variables, sizes.clauses, sizes.words, sizes.soft]
+        };
+        let before = sizes_with("00");
+        let after = sizes_with("01 08 01 01 01 01 00 00");
+        let added: Vec<u64> = after.iter().zip(before).map(|(a, b)| a - b).collect();
+        assert_eq!(added, [2 * 3 + 4, 2 * 9 + 4 + 7, 2 * 21 + 7 + 18, 2]);
     }
 }
 

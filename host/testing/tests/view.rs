@@ -1,5 +1,6 @@
 //! Grids and charges of random timetables: the charges are the reference's
 //! score, constraint by constraint, and a grid shows each lesson where it is.
+#![cfg(feature = "engine")]
 
 use testing::generate::{encode, instance, timetable, Random, Shape};
 use testing::reference;

@@ -18,4 +18,5 @@ pub mod proof;
 pub mod school;
 #[cfg(feature = "engine")]
 pub mod solver;
+#[cfg(feature = "engine")]
 pub mod view;

@@ -124,7 +124,8 @@ fn the_header_declares_what_the_engine_exports() {
     }
     exported.sort();
     // A slice is two parameters in C: its pointer and its length.
-    let mut declared = parameters_after(&header(), "uint32_t timetable_");
+    let mut declared = parameters_after(&header(), "\nuint32_t timetable_");
+    declared.extend(parameters_after(&header(), "\nvoid timetable_"));
     for (_, parameters) in &mut declared {
         let lengths: Vec<String> = parameters
             .iter()

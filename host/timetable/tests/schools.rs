@@ -160,6 +160,45 @@ fn the_charges_sum_up_to_the_cost() {
     }
 }
 
+/// Days of a teacher, one of them without a lesson, and a group without a time.
+const FREE_AND_IDLE: &str = "
+days Mon Tue Wed Thu periods 1 2 3 4 5 6
+teachers Ada
+lesson Art takes 7 with Ada
+groups by day
+group Evening is none
+idle weight 1 Ada in all groups at most 0
+";
+
+/// Marked are the free times between two lessons of a day.
+const FREE_AND_IDLE_SHOWN: &str = "\
+Teacher Ada
+
+   Mon    Tue    Wed  Thu
+-  -----  -----  ---  ---
+1                Art
+2  Art           !1
+3  !1 +4  Art    Art
+4  !1     | Art  !1
+5  Art           Art
+6
+  !1 +4  idle weight 1 Ada in Mon Tue Wed Thu Evening at most 0
+";
+
+#[test]
+fn free_times_before_the_first_and_after_the_last_use_are_not_idle() {
+    let folder = compiled("idle", "village");
+    fs::write(folder.join("b.school"), FREE_AND_IDLE).expect("a file");
+    accepted(&folder, &["compile", "b.school", "-o", "b.instance"]);
+    let day = |text: &str| text.bytes().map(|digit| digit - b'0').collect::<Vec<u8>>();
+    let taken = ["010010", "001100", "101010", "000000"].map(day).concat();
+    let starts = ["010010", "001000", "101010", "000000"].map(day).concat();
+    fs::write(folder.join("b.timetable"), [taken, starts].concat()).expect("a file");
+    let shown = accepted(&folder, &["show", "b.instance", "b.timetable"]);
+    assert!(shown.starts_with(FREE_AND_IDLE_SHOWN), "{shown}");
+    assert!(shown.ends_with("infeasibility 0\nobjective 4\n"), "{shown}");
+}
+
 #[test]
 fn pages_are_whole_and_accessible() {
     for (name, _) in EXAMPLES {

@@ -2,11 +2,13 @@
 //!
 //! Each operation is a function over byte slices. It reads the instance file
 //! itself and answers its result or the first refusal, in the order of places:
-//! instance, sizing, timetable or model, proof. The types of the answers are
-//! those of `timetable::engine`; nothing else is shared with it.
+//! instance, sizing, timetable or model, proof. Idle times alone have no file:
+//! they are counted in a row. The types of the answers are those of
+//! `timetable::engine`; nothing else is shared with it.
 
 mod best;
 mod clauses;
+mod idle;
 mod instance;
 mod model;
 mod number;
@@ -20,6 +22,7 @@ pub use best::best;
 pub use clauses::{
     sizes, walk, walk_with_tail, Literal, Sink, Sizes, LARGEST_BOUND, LARGEST_FORMULA,
 };
+pub use idle::{idle_step, idle_times, kept};
 pub use instance::{
     read, Constraint, Event, Instance, Kind, Range, LARGEST_HI, LONGEST_LIST, MOST_TIMES,
 };
@@ -29,4 +32,4 @@ pub use proof::{check, check_hard, ADD, DELETE};
 pub use score::{deviation, score};
 pub use sheet::{same_sheet, Sheet};
 pub use text::{text, text_program, text_size, TEXT_PROGRAM_BYTES};
-pub use timetable::engine::{FormulaSize, Infeasibility, Objective, Refusal, Score, Summary};
+pub use timetable::engine::{FormulaSize, Infeasibility, Kept, Objective, Refusal, Score, Summary};

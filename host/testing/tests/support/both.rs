@@ -6,7 +6,7 @@
 //! The answer is the one that both gave. Without the feature `engine` the
 //! reference answers alone.
 
-use testing::reference::{self, Objective, Refusal, Score, Sizes, Summary};
+use testing::reference::{self, Kept, Objective, Refusal, Score, Sizes, Summary};
 
 pub fn read(file: &[u8]) -> Result<Summary, Refusal> {
     let expected = reference::read(file);
@@ -29,6 +29,13 @@ pub fn score(file: &[u8], table: &[u8]) -> Result<Score, Refusal> {
     let expected = reference::score(file, table);
     #[cfg(feature = "engine")]
     engine::score(file, table, expected);
+    expected
+}
+
+pub fn idle_step(kept: Kept, used: u32) -> Kept {
+    let expected = reference::idle_step(kept, used);
+    #[cfg(feature = "engine")]
+    engine::idle_step(kept, used, expected);
     expected
 }
 
@@ -117,7 +124,8 @@ pub fn best(
 mod engine {
     use std::hint::black_box;
     use testing::generate::Random;
-    use testing::reference::{FormulaSize, Objective, Refusal, Score, Sizes, Summary};
+    use testing::reference::{FormulaSize, Kept, Objective, Refusal, Score, Sizes, Summary};
+    use timetable::engine;
     use timetable::engine::call::{self, Amounts, Counts, Row};
 
     pub fn read(file: &[u8], expected: Result<Summary, Refusal>) {
@@ -182,6 +190,21 @@ mod engine {
         value.assert_kept();
         lent[0].assert_holds(file);
         lent[1].assert_holds(table);
+    }
+
+    /// The C function, into numbers of its own and into those that it is given, and
+    /// the function over it.
+    pub fn idle_step(kept: Kept, used: u32, expected: Kept) {
+        let numbers = [kept.idle, kept.since, kept.seen, used].map(u32::to_le_bytes);
+        let mut random = dirt(&[numbers.as_flattened()]);
+        let before = Kept::draw(&mut random);
+        let mut lent = Lent::new(&mut random, &[before]);
+        call::idle_step(kept, used, &mut lent.part_mut()[0]);
+        lent.assert_holds(&[expected]);
+        let mut own = kept;
+        call::idle_step(own, used, &mut own);
+        assert_eq!(black_box(own), expected, "{kept:?}, {used}");
+        assert_eq!(engine::idle_step(kept, used != 0), expected);
     }
 
     pub fn same_sheet(file: &[u8], first: &[u8], second: &[u8], expected: Result<bool, Refusal>) {
@@ -417,6 +440,17 @@ mod engine {
                 first: draw(),
                 length: draw(),
                 live: draw(),
+            }
+        }
+    }
+
+    impl Element for Kept {
+        fn draw(random: &mut Random) -> Kept {
+            let mut draw = || random.draw() as u32;
+            Kept {
+                idle: draw(),
+                since: draw(),
+                seen: draw(),
             }
         }
     }

@@ -49,3 +49,15 @@ pub struct Score {
     pub infeasibility: Infeasibility,
     pub objective: Objective,
 }
+
+/// What is kept of a group while its idle times are counted member by member.
+/// The default is what is kept at its start.
+#[derive(Clone, Copy, Debug, Default, PartialEq, Eq)]
+pub struct Kept {
+    /// How many members so far are idle.
+    pub idle: u32,
+    /// How many members came after the last with X; 0 while none had X.
+    pub since: u32,
+    /// Whether some member had X: 0 or 1.
+    pub seen: u32,
+}

@@ -4,7 +4,7 @@
 //! aligned, it is good for as many elements as are said, and no other pointer
 //! of the call reaches what a `&mut` reaches. So every call here is sound.
 
-use super::answers::FormulaSize;
+use super::answers::{FormulaSize, Kept};
 
 /// What an accepted instance has.
 #[derive(Clone, Copy, Debug, Default, PartialEq, Eq)]
@@ -68,6 +68,23 @@ pub fn score(file: &[u8], table: &[u8], amounts: &mut Amounts, value: &mut u64) 
             &mut amounts.infeasibility,
             &mut amounts.objective,
             value,
+        )
+    }
+}
+
+/// `next` with what is kept after one more member; `used`, whether it has X, is no
+/// if 0 and else yes. No value is refused.
+pub fn idle_step(kept: Kept, used: u32, next: &mut Kept) {
+    // SAFETY: see the head of this file; the fields of `next` do not overlap.
+    unsafe {
+        c::timetable_idle_step(
+            kept.idle,
+            kept.since,
+            kept.seen,
+            used,
+            &mut next.idle,
+            &mut next.since,
+            &mut next.seen,
         )
     }
 }
@@ -265,6 +282,16 @@ mod c {
             objective: *mut u64,
             value: *mut u64,
         ) -> u32;
+
+        pub fn timetable_idle_step(
+            idle: u32,
+            since: u32,
+            seen: u32,
+            used: u32,
+            next_idle: *mut u32,
+            next_since: *mut u32,
+            next_seen: *mut u32,
+        );
 
         pub fn timetable_same_sheet(
             file: *const u8,

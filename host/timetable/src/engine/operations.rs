@@ -1,6 +1,8 @@
 //! The operations, each with the buffers that it asks for.
 
-use super::answers::{accepted, FormulaSize, Infeasibility, Objective, Refusal, Score, Summary};
+use super::answers::{
+    accepted, FormulaSize, Infeasibility, Kept, Objective, Refusal, Score, Summary,
+};
 use super::call::{self, Amounts, Counts};
 use super::limits::MOST_VARIABLES;
 use super::refusals::refusal;
@@ -40,6 +42,14 @@ pub fn score(file: &[u8], table: &[u8]) -> Result<Score, Refusal> {
         infeasibility: Infeasibility(amounts.infeasibility),
         objective: Objective(amounts.objective),
     })
+}
+
+/// What is kept after one more member of a group, which has X or not. From the
+/// default on, `idle` is the number of idle times in the group cut off there.
+pub fn idle_step(kept: Kept, used: bool) -> Kept {
+    let mut next = Kept::default();
+    call::idle_step(kept, u32::from(used), &mut next);
+    next
 }
 
 /// Whether two timetables are the same sheet, or 1 to 6, 10 to 12.

@@ -2,6 +2,7 @@
 
 use super::charges::{Place, Subject};
 use super::sheet::Sheet;
+use crate::engine::{idle_step, Kept};
 use crate::instance::{Instance, Kind, Range};
 
 /// A timetable with the number of each resource's events at each time.
@@ -52,10 +53,7 @@ impl<'a> Usage<'a> {
             } => self.cluster(*resource, groups, range),
             Kind::Idle {
                 resource, groups, ..
-            } => {
-                let idle = groups.iter().flat_map(|&group| self.idle(*resource, group));
-                counted(at(Subject::Resource(*resource), idle))
-            }
+            } => self.idle(*resource, groups, range),
             Kind::Distribute { event, length, .. } => self.distribute(*event, *length, range),
             Kind::Lengths {
                 event,
@@ -120,6 +118,28 @@ impl<'a> Usage<'a> {
         (range.deviation(busy.len()), busy.concat())
     }
 
+    fn idle(&self, resource: usize, groups: &[usize], range: Range) -> Deviation {
+        let walks = groups.iter().map(|&group| self.walk(resource, group));
+        let (counts, idle): (Vec<usize>, Vec<Vec<usize>>) = walks.unzip();
+        let places = at(Subject::Resource(resource), idle.into_iter().flatten());
+        (range.deviation(counts.iter().sum()), places)
+    }
+
+    /// The engine's walk over `group`: how many members are idle for `resource`, and which.
+    fn walk(&self, resource: usize, group: usize) -> (usize, Vec<usize>) {
+        let members = &self.instance.groups[group];
+        let mut kept = Kept::default();
+        let mut idle = Vec::new();
+        for (before, &time) in members.iter().enumerate() {
+            let next = idle_step(kept, self.events(resource, time) > 0);
+            // So many members right before this one are idle, now that one after them is busy.
+            let new = (next.idle - kept.idle) as usize;
+            idle.extend_from_slice(&members[before - new..before]);
+            kept = next;
+        }
+        (kept.idle as usize, idle)
+    }
+
     fn all_times(&self) -> Vec<usize> {
         (0..self.instance.times).collect()
     }
@@ -129,26 +149,10 @@ impl<'a> Usage<'a> {
     }
 
     /// The members of `group` at which `resource` is busy.
-    fn busy(&self, resource: usize, group: usize) -> Vec<usize> {
+    fn busy_places(&self, resource: usize, group: usize) -> Vec<Place> {
         let members = self.instance.groups[group].iter().copied();
         let busy = members.filter(|&time| self.events(resource, time) > 0);
-        busy.collect()
-    }
-
-    fn busy_places(&self, resource: usize, group: usize) -> Vec<Place> {
-        let busy = self.busy(resource, group).into_iter();
         at(Subject::Resource(resource), busy)
-    }
-
-    /// The members of `group` without `resource`, between members with it.
-    fn idle(&self, resource: usize, group: usize) -> Vec<usize> {
-        let busy = self.busy(resource, group);
-        let (Some(&first), Some(&last)) = (busy.first(), busy.last()) else {
-            return Vec::new();
-        };
-        let members = self.instance.groups[group].iter().copied();
-        let between = members.filter(|time| (first..=last).contains(time));
-        between.filter(|time| !busy.contains(time)).collect()
     }
 
     /// The starts of `event` among `times`.
@@ -161,4 +165,71 @@ impl<'a> Usage<'a> {
 
 fn at(subject: Subject, times: impl Iterator<Item = usize>) -> Vec<Place> {
     times.map(|time| Place { subject, time }).collect()
+}
+
+#[cfg(test)]
+mod tests {
+    use super::*;
+    use crate::instance::Event;
+
+    /// What is charged, and where, if the resource is busy at the times with 1 in `row`.
+    fn idle(row: &[u8], groups: &[&[usize]]) -> (u64, Vec<usize>) {
+        let instance = Instance {
+            times: row.len(),
+            resources: 1,
+            events: vec![Event {
+                duration: row.iter().filter(|&&busy| busy == 1).count(),
+                resources: vec![0],
+            }],
+            groups: groups.iter().map(|group| group.to_vec()).collect(),
+            constraints: Vec::new(),
+        };
+        let table = row.repeat(2);
+        let sheet = Sheet::over(&instance, &table).expect("a timetable");
+        let (deviation, places) = Usage::of(&instance, &sheet).deviation(&Kind::Idle {
+            resource: 0,
+            groups: (0..groups.len()).collect(),
+            lo: 0,
+            hi: 0,
+        });
+        let times = places.iter().map(|place| place.time);
+        (deviation, times.collect())
+    }
+
+    #[test]
+    fn free_times_are_idle_between_two_uses_only() {
+        let all: &[usize] = &[0, 1, 2, 3, 4, 5];
+        assert_eq!(idle(&[0, 1, 0, 0, 1, 0], &[all]), (2, vec![2, 3]));
+        assert_eq!(idle(&[0, 0, 1, 1, 0, 0], &[all]), (0, vec![]));
+        assert_eq!(idle(&[0, 0, 1, 0, 0, 0], &[all]), (0, vec![]));
+        assert_eq!(idle(&[0; 6], &[all]), (0, vec![]));
+        assert_eq!(idle(&[1, 0, 1, 0, 0, 1], &[all]), (3, vec![1, 3, 4]));
+    }
+
+    #[test]
+    fn each_group_is_walked_from_its_start() {
+        let row = &[0, 1, 0, 0, 1, 0, 0, 1];
+        assert_eq!(idle(row, &[&[0, 1, 2, 3], &[4, 5, 6, 7]]), (2, vec![5, 6]));
+        assert_eq!(idle(row, &[&[0, 1, 2], &[], &[3, 4, 5]]), (0, vec![]));
+        // A time that is idle in two groups counts twice.
+        assert_eq!(idle(row, &[&[1, 3, 4], &[1, 3, 7]]), (2, vec![3, 3]));
+        assert_eq!(idle(row, &[]), (0, vec![]));
+    }
+
+    #[test]
+    fn the_idle_times_of_every_row_of_six() {
+        let all: Vec<usize> = (0..6).collect();
+        for bits in 0..64_u8 {
+            let row: Vec<u8> = all.iter().map(|time| bits >> time & 1).collect();
+            let busy = |times: &[u8]| times.contains(&1);
+            let between =
+                |&time: &usize| row[time] == 0 && busy(&row[..time]) && busy(&row[time..]);
+            let expected: Vec<usize> = all.iter().copied().filter(between).collect();
+            assert_eq!(
+                idle(&row, &[&all]),
+                (expected.len() as u64, expected),
+                "{row:?}"
+            );
+        }
+    }
 }
