@@ -1,14 +1,13 @@
 -- Sums over a list that stands in a store.
 use Prim.Native.Nat.{ℕ, _+_, _-_, _*_, _<_, _≤_}
-use mathlib.Core.List.{List, [], _∷_}
+use mathlib.Core.List.{List, map, sum}
 use lib.ListN.{length, getD}
 use Rattle.tables.specs.Rows.{rowAt, RowIn}
 use Rattle.deviation.specs.Group.{Inside}
 
 -- the sum of f over a list
-unfoldable pub total : (ℕ → ℕ) → List ℕ → ℕ
-total f [] = 0
-total f (x ∷ xs) = f x + total f xs
+abbrev pub total : (ℕ → ℕ) → List ℕ → ℕ
+total f xs = sum _+_ 0 (map f xs)
 
 -- the first n members of a store are events whose bytes are there, and the group is there
 pub record EventsListed (b : List ℕ) (base T : ℕ) (gs : List ℕ) (g : ℕ) (l : List ℕ) (n : ℕ) : Type 0 where

@@ -8,7 +8,7 @@ use Prim.Native.Nat.{ℕ, _+_, _-_, _*_, _≤_, _<_}
 use lib.ListN.{length, getD, take}
 use lib.Dec.{ltb, eqb}
 use Rattle.scope.specs.Parsed.{got, answered}
-use Rattle.scope.specs.Kinds.{preferred, idle, distribute, lengths, Atom, X, Listed, entries, usesAt, gaps, member, eventOf, groupAt, fromOutside, ofLength, ofLengthOutside, rulesOf}
+use Rattle.scope.specs.Kinds.{preferred, idle, distribute, lengths, Atom, Listed, entries, usesAt, gaps, member, eventOf, groupAt, fromOutside, ofLength, ofLengthOutside, rulesOf}
 use Rattle.scope.specs.Instance.{Instance, parse}
 use Rattle.scope.specs.Cnf.{gate, hardClauses, bit, clauses}
 use Rattle.scope.specs.Score.{deviation, count, deviations, rules, eventRight}
@@ -122,7 +122,7 @@ pub record DemandPreferred : Type 0 where
 
 -- whether resource r has X at each of some times
 abbrev pub usedAt : (Atom → Bool) → ℕ → List ℕ → List Bool
-usedAt τ r ts = map (λ t. τ (X r t)) ts
+usedAt τ r ts = map τ (usesAt r ts)
 
 -- what the operation has answered after a call for each of some members, the first with 0, 0 and 0
 abbrev pub keptByCalls : List ℕ → ℕ × ℕ × ℕ

@@ -4,7 +4,7 @@ use mathlib.Core.Path.{_≡_, refl}
 use mathlib.Core.Bool.{Bool, true, false, cond, _||_}
 use mathlib.Core.List.{List, [], _∷_, _++_, map, flatMap}
 use Prim.Native.Nat.{ℕ, _+_, _/_, _%_}
-use lib.ListN.{take, drop, replicate}
+use lib.ListN.{take, replicate}
 use lib.Dec.{eqb, ltb}
 use Rattle.scope.specs.Parsed.{Parsed, got, refused, Answer, answered, refusal, repeat}
 use Rattle.scope.specs.Number.{group, front, within, number, limited, reference, references, listed}

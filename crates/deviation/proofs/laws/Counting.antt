@@ -2,32 +2,22 @@
 use Prim.Native.Nat.{ℕ, _-_}
 use mathlib.Core.Path.{_≡_, refl, ap, _∙_}
 use mathlib.Core.Bool.{Bool, cond}
-use mathlib.Core.List.{List, [], _∷_, map, flatMap, map-append}
+use mathlib.Core.List.{List, [], _∷_, map, sum}
 use lib.Dec.{eqb}
 use native.Mathlib.Omega.{arith}
 use native.Mathlib.Nat.{add-zero}
 use borrow.Author.Tests.{lt-ltb, le-ltb}
 use Rattle.scope.specs.Kinds.{Atom, Entry, entries, rule, between, limit}
 use Rattle.scope.specs.Score.{trues, deviation, charged, count, deviations}
-use Rattle.theory.proofs.laws.Entries.{entryTrue, trues-append, entries-count}
+use Rattle.theory.proofs.laws.Entries.{entryTrue, entries-count}
 use Rattle.theory.proofs.laws.Lowered.{by-order, charged-lowered}
 use Rattle.deviation.specs.Sums.{total}
 
-pub map-map : {A B C : Type 0} (f : B → C) (g : A → B) (xs : List A) → map f (map g xs) ≡ map (λ x. f (g x)) xs
-map-map f g [] = refl
-map-map f g (x ∷ xs) = ap (λ ys. f (g x) ∷ ys) (map-map f g xs)
-
--- a count over a list of lists is a sum of counts; a count of tests is a sum of 1s
+-- a count of tests is a sum of 1s
 pub trues-total : (f : ℕ → Bool) (xs : List ℕ) → trues (map f xs) ≡ total (λ x. cond (f x) 1 0) xs
-unfolding trues total
+unfolding trues sum
 trues-total f [] = refl
 trues-total f (x ∷ xs) = rw (trues-total f xs)
-
-pub trues-flat : {A : Type 0} (f : A → Bool) (g : ℕ → List A) (xs : List ℕ) → trues (map f (flatMap g xs)) ≡ total (λ x. trues (map f (g x))) xs
-unfolding flatMap trues total
-trues-flat f g [] = refl
-trues-flat f g (x ∷ xs) =
-    ap trues (map-append f (g x) (flatMap g xs)) ∙ trues-append (map f (g x)) (map f (flatMap g xs)) ∙ rw (trues-flat f g xs)
 
 -- a count where one is free of charge
 pub deviation-one : (c : ℕ) → deviation 0 1 c ≡ c - 1
@@ -57,6 +47,6 @@ module _ (τ : Atom → Bool) where
   pub many-lists : (lo hi : ℕ) (f : ℕ → List Entry) (xs : List ℕ)
       → deviations τ (map (rule (between lo hi [])) (map (λ x. entries (f x)) xs))
       ≡ total (λ x. deviation lo hi (trues (map (entryTrue τ) (f x)))) xs
-  unfolding deviations total
+  unfolding deviations sum
   many-lists lo hi f [] = refl
   many-lists lo hi f (x ∷ xs) = rw (between-charged lo hi (f x), many-lists lo hi f xs)

@@ -3,21 +3,21 @@
 use Prim.Native.Nat.{ℕ, zero, suc, _+_, _-_, _*_, _<_, _≤_}
 use mathlib.Core.Path.{_≡_, refl, sym, ap, ap₂, fun-ext, _∙_}
 use mathlib.Core.Bool.{Bool, true, false, cond, _||_}
-use mathlib.Core.List.{List, _∷_, map, flatMap}
+use mathlib.Core.List.{List, _∷_, map, flatMap, sum, map-map}
 use lib.ListN.{length, getD}
 use lib.Dec.{ltb, eqb}
 use native.Mathlib.Omega.{arith}
 use native.Mathlib.Nat.{add-assoc, mul-le-mul}
 use Rattle.scope.specs.Cnf.{bit}
-use Rattle.scope.specs.Kinds.{Kind, clash, unavailable, preferred, split, spread, busy, cluster, idle, distribute, lengths, Y, S, X, atom, anyOf, from, upTo, eventOf, durationOf, users, groupAt, usesAt, startsAt, gaps, countedOf, rulesOf}
+use Rattle.scope.specs.Kinds.{Kind, clash, unavailable, preferred, split, spread, busy, cluster, idle, distribute, lengths, Y, S, X, atom, anyOf, from, upTo, eventOf, durationOf, users, groupAt, usesAt, startsAt, countedOf, rulesOf}
 use Rattle.scope.specs.Instance.{Instance, Counts}
 use Rattle.scope.specs.Score.{trues, any, deviation, deviations, truth, slots, eventRight}
 use Rattle.scope.specs.Subevents.{subevents, timesHeld}
-use Rattle.theory.proofs.laws.Entries.{entryTrue}
+use Rattle.theory.proofs.laws.Entries.{entryTrue, trues-flat}
 use Rattle.theory.proofs.laws.Lowered.{deviation-zero}
 use Rattle.theory.proofs.laws.Subevents.{distribute-counts, lengths-counts}
 use Rattle.theory.proofs.laws.Held.{times-charged}
-use Rattle.theory.proofs.laws.IdleWalk.{gaps-kept}
+use Rattle.theory.proofs.laws.IdleWalk.{idle-charged}
 use Rattle.parsing.specs.Numbers.{Ascending, none, more}
 use Rattle.tables.specs.Rows.{rowAt, rows, eventsOf}
 use Rattle.tables.proofs.laws.Laws.{group-row}
@@ -33,7 +33,7 @@ use Rattle.deviation.specs.Subevents.{alone, subeventsAt}
 use Rattle.deviation.specs.Held.{timesHeldAt, outsideOf}
 use Rattle.deviation.proofs.laws.Subevents.{subevents-same}
 use Rattle.deviation.proofs.laws.Held.{times-held-same}
-use Rattle.deviation.proofs.laws.Counting.{map-map, trues-total, trues-flat, deviation-one, one-list, one-limit, many-lists}
+use Rattle.deviation.proofs.laws.Counting.{trues-total, deviation-one, one-list, one-limit, many-lists}
 use Rattle.deviation.specs.Charge.{chargeOf, clashCharge, unavailableCharge, preferredCharge, splitCharge, spreadCharge, busyCharge, clusterCharge, idleCharge, distributeCharge, lengthsCharge}
 
 -- the table of uses and the table of X say of an instance's timetable what the definitions say
@@ -74,13 +74,13 @@ tables-seen i b u x d rs n e h l a m = record { uses = count; used = mark }
 
 -- sums that agree on the numbers that they are over
 total-from : (f g : ℕ → ℕ) (s k : ℕ) → ((t : ℕ) → s ≤ t → t < s + k → f t ≡ g t) → total f (from s k) ≡ total g (from s k)
-unfolding total from
+unfolding sum from
 total-from f g s zero h = refl
 total-from f g s (suc k) h = ap₂ _+_ (h s (omega arith) (omega arith)) (total-from f g (suc s) k (λ t l m. h t (omega arith) (omega arith)))
 
 total-listed : (f g : ℕ → ℕ) (n : ℕ) {before : ℕ} {l : List ℕ} → Ascending n before l → ((t : ℕ) → OneOf n t → f t ≡ g t)
     → total f l ≡ total g l
-unfolding total
+unfolding sum
 total-listed f g n none h = refl
 total-listed f g n (more {x = y} a b r) h = ap₂ _+_ (h y (record { low = omega arith; high = b })) (total-listed f g n r h)
 
@@ -163,12 +163,10 @@ module _ (i : Instance) (b u x gs : List ℕ) (G : ℕ) (seen : Seen i b u x) (t
       ∙ ap (deviation lo hi) (some-valued r hs ∙ total-listed _ _ G a (λ g o. rw (group-used r g p q o))))
 
   idle-right : (r : ℕ) (hs : List ℕ) (lo hi : ℕ) → 1 ≤ r → r ≤ 99 → Ascending G 0 hs → Right (idle r hs lo hi)
-  unfolding idleCharge countedOf
+  unfolding idleCharge
   idle-right r hs lo hi p q a =
-      sym (one-list (truth i b) lo hi (flatMap (λ g. gaps (usesAt r (groupAt (i .groups) g))) hs)
-      ∙ ap (deviation lo hi)
-      (trues-flat (entryTrue (truth i b)) (λ g. gaps (usesAt r (groupAt (i .groups) g))) hs
-      ∙ total-listed _ _ G a (λ g o. gaps-kept (truth i b) (usesAt r (groupAt (i .groups) g)) ∙ rw (group-used r g p q o))))
+      sym (idle-charged i (truth i b) 0 r hs lo hi
+      ∙ ap (deviation lo hi) (total-listed _ _ G a (λ g o. rw (group-used r g p q o))))
 
   -- the subevents of an event, told from its bytes alone
   event-alone : (e : ℕ) (such : ℕ → Bool)

@@ -12,10 +12,6 @@ use Rattle.scope.specs.Steps.{put}
 use Rattle.theory.proofs.laws.Marked.{allOpen}
 use Rattle.marks.specs.Marks.{marksOf, putMark}
 
-cond-same : (b : Bool) (x : ℕ) → cond b x x ≡ x
-cond-same true x = refl
-cond-same false x = refl
-
 -- the byte of a variable
 pub mark-byte : (ms : List ℕ) (v : ℕ) → (v ≡ 0 → ⊥) → marksOf ms v ≡ getD ms (v - 1) 0
 mark-byte ms zero h = absurd (h refl)
@@ -49,7 +45,7 @@ mark-put ms (suc v) x h k = fun-ext go
 
 -- a variable that is open again
 pub mark-opened : (ms : List ℕ) (v u : ℕ) → marksOf (putMark ms v 0) u ≡ cond (eqb v u) 0 (marksOf ms u)
-mark-opened ms zero zero = sym (cond-same (eqb 0 0) 0)
+mark-opened ms zero zero = refl
 mark-opened ms zero (suc u) = rw (ne-eqb 0 (suc u) (λ e. omega arith))
 mark-opened ms (suc v) zero = rw (ne-eqb (suc v) 0 (λ e. omega arith))
 mark-opened ms (suc v) (suc u) = by (eqb (suc v) (suc u)) refl

@@ -1,7 +1,7 @@
 -- The entries of kinds 1 to 8, valued in a timetable: their nodes and members count the same.
 use mathlib.Core.Path.{_≡_, refl, sym, ap, ap₂, _∙_}
 use mathlib.Core.Bool.{Bool, true, false, not, cond, _&&_, and-true, and-assoc}
-use mathlib.Core.List.{List, [], _∷_, _++_, map}
+use mathlib.Core.List.{List, [], _∷_, _++_, map, flatMap, sum, map-append}
 use Prim.Native.Nat.{ℕ, _+_}
 use native.Mathlib.Omega.{arith}
 use native.Mathlib.Nat.{zero-add, add-assoc}
@@ -17,10 +17,18 @@ entryTrue τ (atom a) = τ a
 entryTrue τ (anyOf xs) = any (map τ xs)
 entryTrue τ (gap earlier here later) = not (τ here) && any (map τ earlier) && any (map τ later)
 
-pub trues-append : (xs ys : List Bool) → trues (xs ++ ys) ≡ trues xs + trues ys
+trues-append : (xs ys : List Bool) → trues (xs ++ ys) ≡ trues xs + trues ys
 unfolding trues
 trues-append [] ys = sym (zero-add (trues ys))
 trues-append (x ∷ xs) ys = rw (trues-append xs ys) (sym (add-assoc (cond x 1 0) (trues xs) (trues ys)))
+
+-- a count over a list of lists is a sum of counts
+pub trues-flat : {A : Type 0} (f : A → Bool) (g : ℕ → List A) (xs : List ℕ)
+    → trues (map f (flatMap g xs)) ≡ sum _+_ 0 (map (λ x. trues (map f (g x))) xs)
+unfolding flatMap trues sum
+trues-flat f g [] = refl
+trues-flat f g (x ∷ xs) =
+    ap trues (map-append f (g x) (flatMap g xs)) ∙ trues-append (map f (g x)) (map f (flatMap g xs)) ∙ rw (trues-flat f g xs)
 
 module _ (τ : Atom → Bool) where
   atoms-true : (vs : List Bool) (xs : List Atom) → map (refTrue τ vs) (atoms xs) ≡ map τ xs

@@ -1,8 +1,8 @@
 -- Idle times in one walk: the count kept after each member is that of the idle times so far, kind 8 charges by it, and calls of the
 -- operation keep the same numbers.
-use mathlib.Core.Path.{_≡_, refl, sym, ap, ap₂, _∙_}
+use mathlib.Core.Path.{_≡_, refl, sym, ap, ap₂, _∙_, fun-ext}
 use mathlib.Core.Bool.{Bool, true, false, cond, not, _&&_, _||_, or-assoc, or-false}
-use mathlib.Core.List.{List, [], _∷_, _++_, map, flatMap, foldl, sum, map-append}
+use mathlib.Core.List.{List, [], _∷_, _++_, map, flatMap, foldl, sum}
 use Prim.Native.Nat.{ℕ, zero, suc, _+_, _<_, _≤_}
 use native.Mathlib.Omega.{arith}
 use native.Mathlib.Nat.{zero-add}
@@ -13,11 +13,11 @@ use Rattle.scope.specs.Score.{trues, any, count, deviation, deviations, rules}
 use Rattle.scope.specs.Idle.{idleTimes, nothingKept, idleStep, keptAfter, yes, fitted, idleStepOf}
 use Rattle.scope.specs.Demands.{usedAt, keptByCalls}
 use Rattle.scope.specs.declared.Kept.{Kept}
-use Rattle.theory.proofs.laws.Entries.{entryTrue, trues-append, entries-count}
+use Rattle.theory.proofs.laws.Entries.{entryTrue, trues-flat, entries-count}
 use Rattle.theory.proofs.laws.Subevents.{one-charged}
 
 -- how many of some members are idle, where s says whether one before them has X
-unfoldable pub idleFrom : Bool → List Bool → ℕ
+unfoldable idleFrom : Bool → List Bool → ℕ
 idleFrom s [] = 0
 idleFrom s (x ∷ xs) = cond (not x && s && any xs) 1 0 + idleFrom (s || x) xs
 
@@ -40,12 +40,12 @@ idle-after s (x ∷ xs) =
     later : (k : ℕ) → idleAfter s (x ∷ xs) (suc k) ≡ idleAfter (s || x) xs k
     later k = ap (λ b. not (getD xs k false) && b && any (drop (suc k) xs)) (sym (or-assoc s x (any (take k xs))))
 
-pub idle-times : (xs : List Bool) → idleTimes xs ≡ idleFrom false xs
+idle-times : (xs : List Bool) → idleTimes xs ≡ idleFrom false xs
 unfolding idleTimes
 idle-times xs = idle-after false xs
 
 -- what a walk comes to over some members: those since the last with X are idle if one of them has X
-unfoldable pub walked : Kept → List Bool → ℕ
+unfoldable walked : Kept → List Bool → ℕ
 walked k xs = k .idle + cond (any xs) (k .since) 0 + idleFrom (k .seen) xs
 
 cond-same : (t : Bool) (n : ℕ) → cond t n n ≡ n
@@ -66,12 +66,12 @@ walked-step x k xs = by x (k .seen) refl
     by false true e = rw e (one-more (any xs) (k .idle) (k .since) (idleFrom true xs))
     by false false e = rw (e, zero-add)
 
-pub walked-idle : (k : Kept) (xs : List Bool) → foldl idleStep k xs .idle ≡ walked k xs
+walked-idle : (k : Kept) (xs : List Bool) → foldl idleStep k xs .idle ≡ walked k xs
 unfolding walked any idleFrom
 walked-idle k [] = omega arith
 walked-idle k (x ∷ xs) = walked-idle (idleStep k x) xs ∙ walked-step x k xs
 
-pub kept-from : (xs : List Bool) → keptAfter xs .idle ≡ idleFrom false xs
+kept-from : (xs : List Bool) → keptAfter xs .idle ≡ idleFrom false xs
 unfolding keptAfter walked
 kept-from xs = walked-idle nothingKept xs ∙ rw (cond-same (any xs) 0) (zero-add (idleFrom false xs))
 
@@ -105,12 +105,8 @@ module _ (τ : Atom → Bool) where
       first true = sym (zero-add (idleFrom true (map τ xs)))
       first false = sym (zero-add (idleFrom false (map τ xs)))
 
-  pub gaps-kept : (xs : List Atom) → trues (map (entryTrue τ) (gaps xs)) ≡ keptAfter (map τ xs) .idle
+  gaps-kept : (xs : List Atom) → trues (map (entryTrue τ) (gaps xs)) ≡ keptAfter (map τ xs) .idle
   gaps-kept xs = gaps-from xs ∙ sym (kept-from (map τ xs))
-
-  uses-used : (r : ℕ) (ts : List ℕ) → map τ (usesAt r ts) ≡ usedAt τ r ts
-  uses-used r [] = refl
-  uses-used r (t ∷ ts) = ap (λ bs. τ (X r t) ∷ bs) (uses-used r ts)
 
   used-cut : (r k : ℕ) (ts : List ℕ) → take k (usedAt τ r ts) ≡ usedAt τ r (take k ts)
   used-cut r zero ts = refl
@@ -119,26 +115,19 @@ module _ (τ : Atom → Bool) where
 
   pub kept-counted : (r k : ℕ) (ts : List ℕ) → keptAfter (take k (usedAt τ r ts)) .idle ≡ count τ (entries (gaps (usesAt r (take k ts))))
   kept-counted r k ts =
-      ap (λ xs. keptAfter xs .idle) (used-cut r k ts ∙ sym (uses-used r (take k ts)))
+      ap (λ xs. keptAfter xs .idle) (used-cut r k ts)
       ∙ sym (entries-count τ (gaps (usesAt r (take k ts))) ∙ gaps-kept (usesAt r (take k ts)))
-
-  groups-kept : (r : ℕ) (group : ℕ → List ℕ) (hs : List ℕ)
-      → trues (map (entryTrue τ) (flatMap (λ g. gaps (usesAt r (group g))) hs))
-      ≡ sum _+_ 0 (map (λ g. keptAfter (usedAt τ r (group g)) .idle) hs)
-  unfolding flatMap trues sum
-  groups-kept r group [] = refl
-  groups-kept r group (g ∷ hs) =
-      ap trues (map-append (entryTrue τ) (gaps (usesAt r (group g))) (flatMap (λ g. gaps (usesAt r (group g))) hs))
-      ∙ trues-append (map (entryTrue τ) (gaps (usesAt r (group g)))) (map (entryTrue τ) (flatMap (λ g. gaps (usesAt r (group g))) hs))
-      ∙ ap₂ _+_ (gaps-kept (usesAt r (group g)) ∙ ap (λ xs. keptAfter xs .idle) (uses-used r (group g))) (groups-kept r group hs)
 
 pub idle-charged : (i : Instance) (τ : Atom → Bool) (w r : ℕ) (hs : List ℕ) (lo hi : ℕ)
     → deviations τ (rules i (record { weight = w; kind = idle r hs lo hi }))
     ≡ deviation lo hi (sum _+_ 0 (map (λ g. keptAfter (usedAt τ r (groupAt (i .groups) g)) .idle) hs))
 unfolding countedOf
 idle-charged i τ w r hs lo hi =
-    let gs = flatMap (λ g. gaps (usesAt r (groupAt (i .groups) g))) hs in
-    one-charged τ lo hi (entries gs) ∙ ap (deviation lo hi) (entries-count τ gs ∙ groups-kept τ r (groupAt (i .groups)) hs)
+    let at : ℕ → List Atom = λ g. usesAt r (groupAt (i .groups) g) in
+    let gs = flatMap (λ g. gaps (at g)) hs in
+    one-charged τ lo hi (entries gs)
+    ∙ ap (deviation lo hi)
+    (entries-count τ gs ∙ trues-flat (entryTrue τ) (λ g. gaps (at g)) hs ∙ ap (λ f. sum _+_ 0 (map f hs)) (fun-ext (λ g. gaps-kept τ (at g))))
 
 -- a step adds one at most
 pub step-adds : (k : Kept) (x : Bool) → idleStep k x .idle + idleStep k x .since ≤ k .idle + k .since + 1
