@@ -33,6 +33,7 @@
  *   16   a hint, or the ending of the hints, breaks the rule   step
  *   17   a clause that is not empty does not fit the stores    step
  *   18   a proof has no empty clause, or bytes after it        steps read
+ *   19   both events of a precedence are one                   offset of the constraint's kind
  *
  * What every caller owes. A slice is a pointer and the number of its elements;
  * the pointer is good for that many elements. A pointer to an output is good
@@ -80,7 +81,8 @@ enum timetable_refusal {
     TIMETABLE_NOT_LIVE = 15,
     TIMETABLE_BAD_HINT = 16,
     TIMETABLE_CLAUSE_TOO_LONG = 17,
-    TIMETABLE_BAD_END = 18
+    TIMETABLE_BAD_END = 18,
+    TIMETABLE_SAME_EVENT = 19
 };
 
 /* The limits of an instance. */
@@ -92,6 +94,8 @@ enum timetable_refusal {
 #define TIMETABLE_LARGEST_WEIGHT 1000
 /* Of a constraint's lo and hi. */
 #define TIMETABLE_LARGEST_BOUND_OF_COUNT 255
+/* Of a precedence's lo and hi. */
+#define TIMETABLE_LARGEST_GAP 124
 #define TIMETABLE_LONGEST_LIST 255
 
 /* The limits of a check's bound and of a formula. */
@@ -100,7 +104,7 @@ enum timetable_refusal {
 
 /*
  * Reads an instance file.
- * Refusals: 1 to 6, by their places in the file.
+ * Refusals: 1 to 6 and 19, by their places in the file, 19 before 5.
  * Accepted: *times, *events, *resources, *groups and *constraints are how many
  * of each the instance has; *value is left alone.
  */
@@ -112,7 +116,7 @@ uint32_t timetable_read(const uint8_t *file, size_t file_length,
 /*
  * What a proof check needs of the caller's stores at a bound: the sizes of the
  * hard clauses and the tail for the bound.
- * Refusals: 1 to 6 for the file, then 7, then 8, the tail included.
+ * Refusals: 1 to 6 and 19 for the file, then 7, then 8, the tail included.
  * Accepted: *variables is how many variables there are, *clauses how many
  * clauses, and *words how many literals they have; *value is left alone.
  */
@@ -123,7 +127,7 @@ uint32_t timetable_sizes(const uint8_t *file, size_t file_length,
 
 /*
  * The score of a timetable: E x T bytes "taken", then E x T bytes "starts".
- * Refusals: 1 to 6 for the file, then 10 to 12 for the timetable.
+ * Refusals: 1 to 6 and 19 for the file, then 10 to 12 for the timetable.
  * Accepted: *infeasibility is the sum of the deviations of hard constraints,
  * and *objective, the cost, the sum of weight x deviation of the others;
  * *value is left alone.
@@ -161,8 +165,8 @@ void timetable_idle_step(uint32_t idle, uint32_t since, uint32_t seen,
 
 /*
  * Whether two timetables are the same sheet: whether their bytes "taken" agree.
- * Refusals: 1 to 6 for the file, then 10 to 12 for the first timetable, then
- * 10 to 12 for the second.
+ * Refusals: 1 to 6 and 19 for the file, then 10 to 12 for the first timetable,
+ * then 10 to 12 for the second.
  * Accepted: *value is 1 if they are the same sheet, and 0 if they are not.
  */
 uint32_t timetable_same_sheet(const uint8_t *file, size_t file_length,
@@ -172,7 +176,7 @@ uint32_t timetable_same_sheet(const uint8_t *file, size_t file_length,
 
 /*
  * How long the clauses are as text for solvers, in the older "p wcnf" form.
- * Refusals: 1 to 6 for the file, then 8.
+ * Refusals: 1 to 6 and 19 for the file, then 8.
  * Accepted: *bytes is the text's length; *value is left alone.
  */
 uint32_t timetable_text_size(const uint8_t *file, size_t file_length,
@@ -180,8 +184,8 @@ uint32_t timetable_text_size(const uint8_t *file, size_t file_length,
 
 /*
  * Writes the clauses as text for solvers to the front of out.
- * Refusals: 1 to 6 for the file, then 8, then 9 if out is shorter than the
- * text.
+ * Refusals: 1 to 6 and 19 for the file, then 8, then 9 if out is shorter than
+ * the text.
  * Accepted: *value is the text's length; the bytes of out after it are left
  * alone.
  */
@@ -191,7 +195,8 @@ uint32_t timetable_text(const uint8_t *file, size_t file_length, uint8_t *out,
 /*
  * Reads the timetable and its cost out of a model: a byte, 0 or 1, for each
  * variable of the clauses without the tail.
- * Refusals: 1 to 6 for the file, then 8, then 10, 11 and 13 for the model.
+ * Refusals: 1 to 6 and 19 for the file, then 8, then 10, 11 and 13 for the
+ * model.
  * Accepted: *objective is the weight of the soft clauses that the model
  * falsifies, which is the timetable's cost, and *value is how many bytes of
  * the model, from its first, are the timetable.
@@ -220,8 +225,8 @@ struct timetable_row {
  * timetable_room what the proof adds: each of its clauses that is not empty
  * needs a row, and a word for each of its literals. What the stores hold before the call does not matter; after it,
  * whatever it answers, every word, mark and field of a row is zero.
- * Refusals: 1 to 6 for the file, then 7, then 8, then 9 if a store is too short
- * for the formula, then 14 to 18 for the proof, step by step.
+ * Refusals: 1 to 6 and 19 for the file, then 7, then 8, then 9 if a store is
+ * too short for the formula, then 14 to 18 for the proof, step by step.
  * Accepted, which is the answer "no timetable": *value is the number of steps.
  */
 uint32_t timetable_check(const uint8_t *file, size_t file_length,
@@ -236,8 +241,9 @@ uint32_t timetable_check(const uint8_t *file, size_t file_length,
  * costs: one against the hard clauses alone, without the tail.
  * The stores are as for timetable_check. The hard clauses need no more than
  * timetable_sizes says at bound 0.
- * Refusals: 1 to 6 for the file, then 8 without the tail, then 9 if a store is
- * too short for the hard clauses, then 14 to 18 for the proof, step by step.
+ * Refusals: 1 to 6 and 19 for the file, then 8 without the tail, then 9 if a
+ * store is too short for the hard clauses, then 14 to 18 for the proof, step by
+ * step.
  * Accepted, which is the answer "no timetable": *value is the number of steps.
  */
 uint32_t timetable_check_hard(const uint8_t *file, size_t file_length,

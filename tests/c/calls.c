@@ -68,6 +68,21 @@ static void read_refused(void)
     expect("constraints, cut", constraints, kept);
 }
 
+/* Kind 11 of event 1 before event 1: two events that are one. */
+static void read_same_event(void)
+{
+    static const uint8_t same[] = { 1, 2, 0, 1, 0, 1, 0, 0, 1, 11, 0, 1, 1, 0, 0 };
+    uint64_t times = kept, events = kept, resources = kept, groups = kept;
+    uint64_t constraints = kept, value = kept;
+    uint32_t number = timetable_read(same, sizeof same, &times, &events, &resources,
+                                     &groups, &constraints, &value);
+    expect("read, events that are one", number, TIMETABLE_SAME_EVENT);
+    expect("number, events that are one", number, 19);
+    expect("value, events that are one", value, 9);
+    expect("times, events that are one", times, kept);
+    expect("constraints, events that are one", constraints, kept);
+}
+
 static void sized(void)
 {
     uint64_t variables = kept, clauses = kept, words = kept, value = kept;
@@ -379,6 +394,7 @@ int main(void)
 {
     read_accepted();
     read_refused();
+    read_same_event();
     sized();
     sizes_refused();
     scored();

@@ -1,2 +1,3 @@
+pub mod Gap
 pub mod Reach
 pub mod Walk

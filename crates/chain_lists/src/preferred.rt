@@ -7,6 +7,7 @@ use constraint::Preferred;
 use list_nodes::Filled;
 use list_nodes::store_words;
 use literals::member_is;
+use number::monus;
 ghost use mathlib.Core.Path.{_≡_};
 ghost use mathlib.Core.List.{[]};
 ghost use Prim.Native.Nat.{_+_, _-_, _≤_};
@@ -28,10 +29,7 @@ fn times_after(durations: &[u8], event: u32) -> u32
 {
     let at = (event - 1) as usize;
     let d = durations[at] as u32;
-    if d == 0 {
-        return 0;
-    }
-    d - 1
+    monus(d, 1)
 }
 
 // One time more, in the group where `inside` is 1; from a time outside it so many of the next can be reached.

@@ -1,4 +1,4 @@
--- What is ready before the first step of a proof: the formula that the claim is about, in the words, or a refusal from 1 to 9.
+-- What is ready before the first step of a proof: the formula that the claim is about, in the words, or a refusal, 1 to 9 or 19.
 use mathlib.Core.List.{List, _++_, flatMap}
 use Prim.Native.Nat.{ℕ}
 use lib.ListN.{drop}
@@ -21,7 +21,7 @@ asked file Claim.AnyCost l proof = checkHardOf file proof l
 abbrev pub fitting : ℕ → List (List ℕ) → Lent → Answer (ℕ × List (List ℕ))
 fitting last f l = provided (formulaFits last f l) 9 0 (answered (last, f))
 
--- the last variable and the clauses of the formula that a claim is about, or a refusal from 1 to 9
+-- the last variable and the clauses of the formula that a claim is about, or a refusal, 1 to 9 or 19
 unfoldable pub formulaFor : List ℕ → Claim → Lent → Answer (ℕ × List (List ℕ))
 formulaFor file (Claim.Bound B) l = with (parse file) (λ i. ofBound i B (fitting (boundedVariables i B) (boundedHard i B) l))
 formulaFor file Claim.AnyCost l = with (parse file) (λ i. ofSize i (fitting (variables i) (hardOf i) l))

@@ -1,4 +1,4 @@
-// What comes before a proof's first step: refusals 1 to 9, and in the lent words the formula that the claim is about.
+// What comes before a proof's first step: refusals 1 to 9 and 19, and in the lent words the formula that the claim is about.
 use crate::bounded::write_bounded;
 use crate::claim::Claim;
 use crate::rows::write_hard;

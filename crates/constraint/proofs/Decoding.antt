@@ -16,7 +16,7 @@ use Rattle.fields.proofs.Rows.{row-right}
 use Rattle.constraint.specs.Decoded.{decodedAt}
 
 pub decoded-fields : (n : Counts) (s : List ℕ) (at : ℕ) (x y : Number) (kind more weight start : ℕ) (l : List ℕ) (z : FlatRead)
-    → said x ≡ limited 1 10 s at
+    → said x ≡ limited 1 11 s at
     → x ≡ Number.Value kind more
     → said y ≡ limited 0 1000 s more
     → y ≡ Number.Value weight start
@@ -24,7 +24,7 @@ pub decoded-fields : (n : Counts) (s : List ℕ) (at : ℕ) (x y : Number) (kind
     → andThen (saidFlat kind l z) (λ k end. got (record { weight = weight; kind = k }) end) ≡ decodedAt n s at
 unfolding decodedAt
 decoded-fields n s at x y kind more weight start l z e h d i c =
-    let a : limited 1 10 s at ≡ got kind more = sym e ∙ ap said h in
+    let a : limited 1 11 s at ≡ got kind more = sym e ∙ ap said h in
     let b : limited 0 1000 s more ≡ got weight start = sym d ∙ ap said i in
-    let r = limited-got 1 10 s at a in
+    let r = limited-got 1 11 s at a in
     rw (a, b, row-right n kind (r .low) (r .high), ← c)

@@ -26,6 +26,7 @@ kindOf l (Kind.Cluster f) = kinds.cluster (f .resource) (leading (f .groups) l) 
 kindOf l (Kind.Idle f) = kinds.idle (f .resource) (leading (f .groups) l) (f .lo) (f .hi)
 kindOf l (Kind.Distribute f) = kinds.distribute (f .event) (f .length) (f .lo) (f .hi)
 kindOf l (Kind.Lengths f) = kinds.lengths (f .event) (f .shortest) (f .longest)
+kindOf l (Kind.Precedence f) = kinds.precedence (f .first) (f .second) (f .lo) (f .hi)
 
 abbrev pub constraintOf : List ℕ → Constraint → kinds.Constraint
 constraintOf l c = record { weight = c .weight; kind = kindOf l (c .kind) }

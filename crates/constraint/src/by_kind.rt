@@ -6,6 +6,7 @@ use crate::distribute::distribute_of;
 use crate::idle::idle_of;
 use crate::kinds::Kind;
 use crate::lengths::lengths_of;
+use crate::precedence::precedence_of;
 use crate::preferred::preferred_of;
 use crate::split::split_of;
 use crate::spread::spread_of;
@@ -31,6 +32,7 @@ pub fn kind_of(kind: u32, w: Flat) -> Kind
         7 => cluster_of(w),
         8 => idle_of(w),
         9 => distribute_of(w),
-        _ => lengths_of(w),
+        10 => lengths_of(w),
+        _ => precedence_of(w),
     }
 }

@@ -14,7 +14,7 @@ ghost use lib.ListN.{length};
 ghost use Rattle.constraint.specs.Answers.{saidFlatNext, countsIn};
 ghost use Rattle.constraint.specs.Decoded.{decodedAt};
 
-// The kind from 1 to 10, the weight, and the fields in the order in which they were read.
+// The kind from 1 to 11, the weight, and the fields in the order in which they were read.
 pub struct FlatConstraint {
     pub kind: u32,
     pub weight: u32,
@@ -34,7 +34,7 @@ pub fn flat_at(s: &[u8], at: usize, head: Head, list: &mut [u16]) -> FlatNext
     requires { ⌜ head .groups ≤ 2048 ⌝ }
     ensures { λ r. ⌜ saidFlatNext (now (list .exit)) r ≡ decodedAt (countsIn head) (now (s .entry)) at ⌝ }
 {
-    let x = limited(s, at, 1, 10);
+    let x = limited(s, at, 1, 11);
     let Number::Value(kind, more) = x else {
         return FlatNext::Refused(refusal_of(x));
     };

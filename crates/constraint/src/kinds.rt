@@ -5,6 +5,7 @@ use crate::clash::Clash;
 use crate::distribute::Distribute;
 use crate::lengths::Lengths;
 use crate::over_groups::OverGroups;
+use crate::precedence::Precedence;
 use crate::preferred::Preferred;
 use crate::split::Split;
 use crate::spread::Spread;
@@ -27,6 +28,7 @@ pub enum Kind {
     Idle(OverGroups),
     Distribute(Distribute),
     Lengths(Lengths),
+    Precedence(Precedence),
 }
 
 // The weight 0 means hard.
@@ -58,8 +60,8 @@ pub struct Bounds {
     pub free: bool,
 }
 
-// One table for all kinds, as the definitions have it: fixed for the kinds without lo and hi; in a busy limit a count of 0 is
-// free.
+// One table for all kinds, as the definitions have it: fixed for the kinds whose count has no lo and hi, kind 11 among them, whose
+// bounds are of a gap; in a busy limit a count of 0 is free.
 pub fn bounds_of(k: Kind) -> Bounds
     ensures { λ r. ⌜ ((l : List ℕ) → r ≡ record { lo = lowOf (kindOf l k); hi = highOf (kindOf l k); free = freeOf (kindOf l k) }) ⌝ }
 {
@@ -110,6 +112,11 @@ pub fn bounds_of(k: Kind) -> Bounds
             free: false,
         },
         Kind::Lengths(_) => Bounds {
+            lo: 0,
+            hi: 0,
+            free: false,
+        },
+        Kind::Precedence(_) => Bounds {
             lo: 0,
             hi: 0,
             free: false,

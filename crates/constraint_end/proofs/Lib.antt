@@ -1,2 +1,3 @@
 pub mod laws
 mod FlatKinds
+mod Faults

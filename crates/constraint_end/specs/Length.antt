@@ -2,7 +2,7 @@
 use Prim.Native.Nat.{ℕ, _+_, _-_, _*_}
 use mathlib.Core.List.{List, [], _∷_}
 use lib.ListN.{length}
-use Rattle.scope.specs.Kinds.{Kind, clash, unavailable, preferred, split, spread, busy, cluster, idle, distribute, lengths, groupAt}
+use Rattle.scope.specs.Kinds.{Kind, clash, unavailable, preferred, split, spread, busy, cluster, idle, distribute, lengths, precedence, groupAt}
 
 -- the members but first and last of each of some groups
 unfoldable pub innerLength : List (List ℕ) → List ℕ → ℕ
@@ -22,3 +22,4 @@ listLength T used gs (cluster r hs lo hi) = length hs
 listLength T used gs (idle r hs lo hi) = innerLength gs hs
 listLength T used gs (distribute e n lo hi) = T
 listLength T used gs (lengths e a b) = T
+listLength T used gs (precedence a b lo hi) = 1

@@ -15,7 +15,7 @@ ghost use Rattle.constraint.specs.Answers.{countsIn};
 ghost use Rattle.constraint.specs.Valid.{InRange};
 ghost use Rattle.constraint_end.specs.Ready.{Ready, lengthBy, byCounts};
 
-// loads[r] is how many events use resource r. Every check passes for kind 3, so 0 stands for its length.
+// loads[r] is how many events use resource r. Every check passes for kind 3, so 0 stands for its length. Kind 11 has one member.
 pub fn list_length(
     kind: u32,
     w: Flat,
@@ -38,6 +38,7 @@ pub fn list_length(
         7 => length_of_cluster(w.list),
         8 => length_of_idle(groups, list, w.list),
         9 => one_for_each_time(head.times),
-        _ => one_for_each_time(head.times),
+        10 => one_for_each_time(head.times),
+        _ => 1,
     }
 }

@@ -10,19 +10,21 @@ use scope::Refusal;
 use scope::refusals::BAD_BOUNDS;
 use scope::refusals::LIST_TOO_LONG;
 ghost use mathlib.Core.Path.{_≡_};
-ghost use Prim.Native.Nat.{ℕ};
-ghost use Rattle.scope.specs.Kinds.{Kind};
-ghost use Rattle.scope.specs.Instance.{ended as endedAt};
 ghost use Rattle.number.specs.Answers.{said};
+ghost use Rattle.constraint_end.specs.End.{endsAt};
 ghost use Rattle.constraint_end.specs.Ends.{ends};
 ghost use Rattle.constraint_end.specs.Ready.{Ready, checkedBy, byCounts};
 
 // A constraint whose kind stands at an offset and whose counted list has n members: where it ends.
 fn ended(at: usize, e: End, n: u32, end: usize) -> Number
-    ensures { λ r. ⌜ ((weight : ℕ) (k : Kind) → said r ≡ ends (endedAt at (e .order) (e .lo) (e .hi) n weight k end)) ⌝ }
+    ensures { λ r. ⌜ said r ≡ endsAt at e n end ⌝ }
 {
     let long = Refusal {
         number: LIST_TOO_LONG,
+        value: at as u64,
+    };
+    let wrong = Refusal {
+        number: e.fault,
         value: at as u64,
     };
     let bad = Refusal {
@@ -32,8 +34,8 @@ fn ended(at: usize, e: End, n: u32, end: usize) -> Number
     if 255 < n {
         return Number::Refused(long);
     }
-    if !e.order {
-        return Number::Refused(bad);
+    if e.fault != 0 {
+        return Number::Refused(wrong);
     }
     if e.hi < e.lo {
         return Number::Refused(bad);

@@ -15,10 +15,3 @@ pub fn group_size(groups: &[u8], group: u32) -> u32
     let n = row_len(groups, row);
     n as u32
 }
-
-// x without y, at least 0.
-pub fn monus(x: u32, y: u32) -> u32
-    ensures { λ r. ⌜ r ≡ x - y ⌝ }
-{
-    if x < y { 0 } else { x - y }
-}

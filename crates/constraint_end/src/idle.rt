@@ -1,6 +1,6 @@
 // Kind 8: the list has the members but first and last of each group of a list.
 use crate::group::group_size;
-use crate::group::monus;
+use number::monus;
 ghost use mathlib.Core.Path.{_≡_};
 ghost use Prim.Native.Nat.{_≤_};
 ghost use lib.ListN.{length};

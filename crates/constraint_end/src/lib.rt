@@ -1,5 +1,5 @@
-// A constraint as it stands in the file, checked at its end: the length of its counted list (4), its bounds and the order of
-// its lengths (5).
+// A constraint as it stands in the file, checked at its end: the length of its counted list (4), whether its two events are one (19),
+// its bounds and the order of its lengths or of its gap's bounds (5).
 mod busy;
 mod by_kind;
 mod check;
@@ -7,6 +7,7 @@ mod clash;
 mod cluster;
 mod end;
 mod every_time;
+mod fault;
 mod group;
 mod idle;
 mod spread;

@@ -4,6 +4,7 @@ pub mod Idle
 pub mod Sums
 pub mod Subevents
 pub mod Held
+pub mod Gap
 pub mod Charge
 pub mod Counting
 pub mod Meaning

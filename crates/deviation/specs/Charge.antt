@@ -5,16 +5,18 @@ use mathlib.Core.Bool.{cond, _||_}
 use mathlib.Core.List.{List}
 use lib.ListN.{length, getD}
 use lib.Dec.{eqb, ltb}
-use Rattle.scope.specs.Kinds.{Kind, clash, unavailable, preferred, split, spread, busy, cluster, idle, distribute, lengths, upTo}
+use Rattle.scope.specs.Kinds.{Kind, clash, unavailable, preferred, split, spread, busy, cluster, idle, distribute, lengths, precedence, upTo}
 use Rattle.scope.specs.Instance.{Counts}
 use Rattle.scope.specs.Score.{trues, any, deviation}
 use Rattle.scope.specs.Idle.{keptAfter}
+use Rattle.scope.specs.Gap.{gapWithin}
 use Rattle.parsing.specs.Numbers.{Ascending}
 use Rattle.tables.specs.Rows.{rowAt, RowIn}
 use Rattle.timetable.specs.Bits.{marks}
 use Rattle.deviation.specs.Sums.{total}
 use Rattle.deviation.specs.Subevents.{subeventsAt}
 use Rattle.deviation.specs.Held.{timesHeldAt, outsideOf}
+use Rattle.deviation.specs.Gap.{takenIn}
 
 -- the charge of each kind, where T is the number of times and c the number of cells
 unfoldable pub clashCharge : ℕ → List ℕ → ℕ → ℕ
@@ -49,6 +51,9 @@ distributeCharge c T b e n lo hi = deviation lo hi (subeventsAt T b ((e - 1) * T
 unfoldable pub lengthsCharge : ℕ → ℕ → List ℕ → (e shortest longest : ℕ) → ℕ
 lengthsCharge c T b e shortest longest = subeventsAt T b ((e - 1) * T) (c + (e - 1) * T) (λ n. ltb n shortest || ltb longest n)
 
+unfoldable pub precedenceCharge : ℕ → List ℕ → (first second lo hi : ℕ) → ℕ
+precedenceCharge T b first second lo hi = cond (gapWithin T (takenIn T b) first second lo hi) 0 1
+
 abbrev pub chargeOf : ℕ → ℕ → List ℕ → List ℕ → List ℕ → List ℕ → Kind → ℕ
 chargeOf c T b u x gs (clash r) = clashCharge T u r
 chargeOf c T b u x gs (unavailable r g) = unavailableCharge T x gs r g
@@ -60,6 +65,7 @@ chargeOf c T b u x gs (cluster r hs lo hi) = clusterCharge T x gs r hs lo hi
 chargeOf c T b u x gs (idle r hs lo hi) = idleCharge T x gs r hs lo hi
 chargeOf c T b u x gs (distribute e n lo hi) = distributeCharge c T b e n lo hi
 chargeOf c T b u x gs (lengths e shortest longest) = lengthsCharge c T b e shortest longest
+chargeOf c T b u x gs (precedence first second lo hi) = precedenceCharge T b first second lo hi
 
 -- the sizes of an accepted instance; a table of 99 rows of up to 125 times; the bytes of a timetable; the rows of groups; a store
 -- with a list

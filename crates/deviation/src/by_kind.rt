@@ -5,6 +5,7 @@ use crate::cluster::of_cluster;
 use crate::distribute::of_distribute;
 use crate::idle::of_idle;
 use crate::lengths::of_lengths;
+use crate::precedence::of_precedence;
 use crate::preferred::of_preferred;
 use crate::split::of_split;
 use crate::spread::of_spread;
@@ -44,5 +45,6 @@ pub fn deviation_of(
         Kind::Idle(f) => of_idle(f, head, used, groups, list),
         Kind::Distribute(f) => of_distribute(f, head, bytes),
         Kind::Lengths(f) => of_lengths(f, head, bytes),
+        Kind::Precedence(f) => of_precedence(f, head, bytes),
     }
 }

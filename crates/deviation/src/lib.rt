@@ -9,6 +9,7 @@ mod distribute;
 mod group;
 mod idle;
 mod lengths;
+mod precedence;
 mod preferred;
 mod rows;
 mod split;

@@ -3,7 +3,7 @@ use Prim.Native.Nat.{ℕ}
 use mathlib.Core.Bool.{cond}
 use mathlib.Core.List.{List}
 use lib.Dec.{eqb}
-use Rattle.scope.specs.Kinds.{Kind, clash, unavailable, preferred, split, spread, busy, cluster, idle, distribute, lengths}
+use Rattle.scope.specs.Kinds.{Kind, clash, unavailable, preferred, split, spread, busy, cluster, idle, distribute, lengths, precedence}
 use Rattle.fields.specs.declared.flat.Flat.{Flat}
 
 unfoldable pub kindFrom : ℕ → Flat → List ℕ → Kind
@@ -16,4 +16,5 @@ kindFrom k w l =
     (cond (eqb k 6) (busy (w .a) (w .b) (w .c) (w .d))
     (cond (eqb k 7) (cluster (w .b) l (w .c) (w .d))
     (cond (eqb k 8) (idle (w .b) l (w .c) (w .d))
-    (cond (eqb k 9) (distribute (w .a) (w .b) (w .c) (w .d)) (lengths (w .b) (w .c) (w .d))))))))))
+    (cond (eqb k 9) (distribute (w .a) (w .b) (w .c) (w .d))
+    (cond (eqb k 10) (lengths (w .b) (w .c) (w .d)) (precedence (w .a) (w .b) (w .c) (w .d)))))))))))

@@ -21,22 +21,26 @@ firstOf n k = cond (eqb k 5) (toMany (n .events)) (toOne (thingsOf n k))
 
 unfoldable pub secondOf : Totals → ℕ → Field
 secondOf n k =
-    cond (ltb 8 k) (within 1 (n .times)) (cond (ltb 6 k) (toMany (n .groups)) (cond (eqb k 4) (within 0 255) (toOne (n .groups))))
+    cond (ltb 8 k) (cond (eqb k 11) (toOne (n .events)) (within 1 (n .times)))
+    (cond (ltb 6 k) (toMany (n .groups)) (cond (eqb k 4) (within 0 255) (toOne (n .groups))))
 
 -- whether the second field is a list
 unfoldable pub secondListed : ℕ → Bool
 secondListed k = cond (ltb 8 k) false (ltb 6 k)
 
 unfoldable pub thirdOf : Totals → ℕ → Field
-thirdOf n k = cond (eqb k 10) (within 1 (n .times)) (within 0 255)
+thirdOf n k = cond (ltb 9 k) (cond (eqb k 10) (within 1 (n .times)) (within 0 124)) (within 0 255)
+
+unfoldable pub fourthOf : ℕ → Field
+fourthOf k = cond (ltb 9 k) (within 0 124) (within 0 255)
 
 -- the field after i others
 unfoldable pub fieldAt : Totals → ℕ → ℕ → Field
-fieldAt n k i = cond (eqb i 0) (firstOf n k) (cond (eqb i 1) (secondOf n k) (cond (eqb i 2) (thirdOf n k) (within 0 255)))
+fieldAt n k i = cond (eqb i 0) (firstOf n k) (cond (eqb i 1) (secondOf n k) (cond (eqb i 2) (thirdOf n k) (fourthOf k)))
 
 -- how many fields a kind has
 unfoldable pub countOf : ℕ → ℕ
-countOf k = cond (eqb k 1) 1 (cond (eqb k 2) 2 (cond (eqb k 3) 2 (cond (eqb k 4) 3 (cond (eqb k 10) 3 4))))
+countOf k = cond (ltb k 2) 1 (cond (ltb k 4) 2 (cond (eqb k 4) 3 (cond (eqb k 10) 3 4)))
 
 -- j fields, after i others
 unfoldable pub fieldsFrom : Totals → (k i j : ℕ) → List Field

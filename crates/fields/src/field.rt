@@ -7,7 +7,7 @@ use number::Number;
 use number::limited;
 use number::reference;
 ghost use mathlib.Core.Path.{_≡_};
-ghost use Prim.Native.Nat.{_≤_};
+ghost use Prim.Native.Nat.{_≤_, _<_};
 ghost use lib.ListN.{length};
 ghost use Rattle.fields.specs.Flat.{FieldRead, NumberRead};
 ghost use Rattle.fields.specs.Table.{firstOf, secondOf, thirdOf};
@@ -25,13 +25,16 @@ pub fn first_at(s: &[u8], at: usize, kind: u32, t: Totals, list: &mut [u16]) -> 
     reference(s, at, 0, n)
 }
 
-// The second: a length in kinds 9 and 10, the groups in 7 and 8, a bound in 4, else a group.
+// The second: an event in kind 11, a length in 9 and 10, the groups in 7 and 8, a bound in 4, else a group.
 pub fn second_at(s: &[u8], at: usize, kind: u32, t: Totals, list: &mut [u16]) -> Number
     requires { ⌜ length (now list) ≡ 2048 ⌝ }
     requires { ⌜ t .groups ≤ 2048 ⌝ }
     ensures { λ r. ⌜ FieldRead (secondOf t kind) (now (list .entry)) (now (list .exit)) (now (s .entry)) at r ⌝ }
 {
     if 8 < kind {
+        if kind == 11 {
+            return reference(s, at, 0, t.events);
+        }
         return limited(s, at, 1, t.times);
     }
     if 6 < kind {
@@ -43,12 +46,13 @@ pub fn second_at(s: &[u8], at: usize, kind: u32, t: Totals, list: &mut [u16]) ->
     reference(s, at, 0, t.groups)
 }
 
-// The third: kind 10's longest, else a bound.
+// The third of kinds 10 and 11: the longest length, a gap's lo.
 pub fn third_at(s: &[u8], at: usize, kind: u32, t: Totals) -> Number
+    requires { ⌜ 9 < kind ⌝ }
     ensures { λ r. ⌜ NumberRead (thirdOf t kind) (now (s .entry)) at r ⌝ }
 {
     if kind == 10 {
         return limited(s, at, 1, t.times);
     }
-    limited(s, at, 0, 255)
+    limited(s, at, 0, 124)
 }

@@ -1,6 +1,6 @@
-// How many things there are to refer to, and how many fields each kind has.
+// How many things there are to refer to, which of them the first field refers to, and whether the second is a list.
 ghost use mathlib.Core.Path.{_≡_};
-ghost use Rattle.fields.specs.Table.{countOf, thingsOf, secondListed};
+ghost use Rattle.fields.specs.Table.{thingsOf, secondListed};
 
 // How many things there are to refer to.
 pub struct Totals {
@@ -10,7 +10,7 @@ pub struct Totals {
     pub groups: u32,
 }
 
-// The things that the first field refers to: events in kinds 3 to 5, 9 and 10, else resources.
+// The things that the first field refers to: events in kinds 3 to 5 and 9 to 11, else resources.
 pub fn things_of(kind: u32, t: Totals) -> u32
     ensures { λ r. ⌜ r ≡ thingsOf t kind ⌝ }
 {
@@ -34,18 +34,4 @@ pub fn second_listed(kind: u32) -> bool
         return false;
     }
     6 < kind
-}
-
-// How many fields a kind has.
-pub fn count_of(kind: u32) -> u32
-    ensures { λ r. ⌜ r ≡ countOf kind ⌝ }
-{
-    match kind {
-        1 => 1,
-        2 => 2,
-        3 => 2,
-        4 => 3,
-        10 => 3,
-        _ => 4,
-    }
 }

@@ -1,12 +1,13 @@
--- The lists of a kind: at most 125 of them, and at most 128 inputs for each of their nodes.
-use mathlib.Core.Path.{_≡_}
+-- The lists of a kind: at most 125 of them, and on average at most 128 inputs for each of their nodes.
+use mathlib.Core.Path.{_≡_, refl, _∙_}
 use mathlib.Core.List.{List, [], _∷_, _++_, map, flatMap}
-use Prim.Native.Nat.{ℕ, _+_, _-_, _*_, _≤_, min}
+use Prim.Native.Nat.{ℕ, zero, suc, _+_, _-_, _*_, _≤_, min}
 use native.Mathlib.Omega.{arith}
 use lib.ListN.{length, length-append, length-map}
 use Rattle.laws.specs.Lists.{All, All-append}
-use Rattle.scope.specs.Kinds.{Kind, clash, unavailable, preferred, split, spread, busy, cluster, idle, distribute, lengths, Atom, X, Y, S, Ref, is, anAtom, aNode, atoms, Node, someOf, Entry, atom, anyOf, gap, entryNodes, added, entriesNodes, Listed, entries, Counted, from, upTo, usesAt, startsAt, gapsAfter, gaps, Reach, started, carried, both, reached, reachRef, reachNodes, reachAdded, reachesNodes, fromOutside, goesOn, goingOn, onAt, notOnAt, span, startOf, startAbove, startOutside, timeByTime, ofLength, ofLengthOutside, countedOf}
+use Rattle.scope.specs.Kinds.{Kind, clash, unavailable, preferred, split, spread, busy, cluster, idle, distribute, lengths, precedence, Atom, X, Y, S, Ref, is, isNot, anAtom, aNode, atoms, Node, someOf, allOf, Entry, atom, anyOf, gap, entryNodes, added, entriesNodes, Listed, entries, Counted, from, upTo, usesAt, startsAt, gapsAfter, gaps, Reach, started, carried, both, reached, reachRef, reachNodes, reachAdded, reachesNodes, fromOutside, goesOn, goingOn, onAt, notOnAt, span, startOf, startAbove, startOutside, timeByTime, ofLength, ofLengthOutside, takingAt, orMore, orChain, down, early, late, begun, tooSoon, beforeG, beforeQ, lasting, tooLate, eitherWay, gapOutside, countedOf}
 use Rattle.theory.proofs.laws.Ranges.{length-from}
+use Rattle.theory.proofs.laws.GapLists.{length-down, length-gap-nodes}
 use Rattle.theory.proofs.laws.TimeByTime.{outside-either}
 use Rattle.measuring.specs.NodeSizes.{inputs, allInputs}
 
@@ -89,6 +90,34 @@ reach-modest : (T e d : ℕ) (g : List ℕ) → Modest (fromOutside T e d g)
 unfolding fromOutside
 reach-modest T e d g = modest (fromOutside T e d g) (reaches-narrow e (reached d g 0 (upTo T)) 0 (is (aNode 0)))
 
+-- nodes one after the other; nodes with two inputs each; a chain after its first node
+inputs-append : (ns ms : List Node) → allInputs (ns ++ ms) ≡ allInputs ns + allInputs ms
+unfolding allInputs
+inputs-append [] ms = omega arith
+inputs-append (n ∷ ns) ms = rw (inputs-append ns ms) (omega arith)
+
+one-input : (n : Node) → allInputs (n ∷ []) ≡ inputs n
+unfolding allInputs
+one-input n = omega arith
+
+twos : (f : ℕ → Node) → ((t : ℕ) → inputs (f t) ≡ 2) → (ts : List ℕ) → allInputs (map f ts) ≡ 2 * length ts
+unfolding allInputs
+twos f h [] = refl
+twos f h (t ∷ ts) = omega (arith, h t, twos f h ts)
+
+more-inputs : (k : ℕ) (xs : List Atom) → allInputs (orMore k xs) ≡ 2 * length xs
+unfolding allInputs orMore
+more-inputs k [] = refl
+more-inputs k (x ∷ xs) = omega (arith, more-inputs (suc k) xs)
+
+-- O of kind 11, and all its nodes, where E is early and L is late
+gap-either : (T E L : ℕ) → T ≤ 125 → E ≤ T → {n : ℕ} → n ≡ T - E + (min E 1 + (E - 1 + L)) → n ≤ 125 + L
+gap-either T E L h k e = omega arith
+
+gap-sum : (E L : ℕ) {f p g q o n m : ℕ} → f ≤ 127 * E → p ≡ 2 * (E - 1) → g ≤ 127 * L → q ≡ 2 * L → o ≤ 125 + L
+    → n ≡ f + (p + (g + (q + o))) → m ≡ E + (E - 1) + L + L + 1 → n ≤ 128 * m
+gap-sum E L a b c d e x y = omega arith
+
 -- what a kind counts, where no group has more than 125 members
 pub record Few (c : Counted) : Type 0 where
   pub lists : length (c .lists) ≤ 125
@@ -131,6 +160,64 @@ module _ (T : ℕ) (h : T ≤ 125) where
       let q : List Ref = is (aNode (T + 3 * (t - 1))) ∷ [] in
       (omega (arith, span-few onAt (t + a) (t + b)), (omega (arith, length-append off q, span-few notOnAt (t + 1) (t + a - 1)), (omega arith, tt)))))
 
+  -- kind 11: two inputs for each node but the first of a chain, which has no more than there are times, and O
+  chain-inputs : (k n : ℕ) (xs ys : List Atom) → length ys ≡ n - 1 → (1 ≤ n → length xs ≤ 125) → allInputs (orChain k n xs ys) ≤ 127 * n
+  unfolding allInputs orChain
+  chain-inputs k zero xs ys l few = omega arith
+  chain-inputs k (suc n) xs ys l few = omega (arith, length-atoms xs, few (omega arith), more-inputs k ys)
+
+  taking-length : (e : ℕ) (ts : List ℕ) → length (takingAt e ts) ≡ length ts
+  taking-length e ts = length-map ts (λ t. Y e t)
+
+  begun-inputs : (b lo : ℕ) → allInputs (begun T b lo) ≤ 127 * early T lo
+  unfolding begun
+  begun-inputs b lo =
+      let more = from (lo + 2) (early T lo - 1) in
+      chain-inputs 0 (early T lo) (takingAt b (upTo (lo + 1))) (takingAt b more)
+      (taking-length b more ∙ length-from (lo + 2) (early T lo - 1))
+      (λ some. omega (arith, taking-length b (upTo (lo + 1)), length-from 1 (lo + 1)))
+
+  lasting-inputs : (a lo hi : ℕ) → allInputs (lasting T a lo hi) ≤ 127 * late T hi
+  unfolding lasting
+  lasting-inputs a lo hi =
+      let L = late T hi in
+      let after = from (L + 1) (T - L) in
+      chain-inputs (beforeG T lo) L (takingAt a after) (takingAt a (down L (L - 1)))
+      (taking-length a (down L (L - 1)) ∙ length-down L (L - 1))
+      (λ some. omega (arith, taking-length a after, length-from (L + 1) (T - L)))
+
+  either-inputs : (a lo hi : ℕ) → inputs (eitherWay T a lo hi) ≤ 125 + late T hi
+  unfolding eitherWay
+  either-inputs a lo hi =
+      let E = early T lo in
+      let after = takingAt a (from (E + 1) (T - E)) in
+      let soon = from E (E - 1) in
+      let slow = from (beforeQ T lo hi) (late T hi) in
+      let one = from 0 (min E 1) in
+      let node : ℕ → Ref = λ k. is (aNode k) in
+      gap-either T E (late T hi) h (omega arith)
+      (length-append (atoms after) (map node (one ++ (soon ++ slow)))
+      ∙ rw (length-atoms after, taking-length a (from (E + 1) (T - E)), length-from, length-map, length-append one (soon ++ slow), length-append soon slow, length-from, length-from, length-from))
+
+  gap-modest : (a b lo hi : ℕ) → Modest (gapOutside T a b lo hi)
+  unfolding gapOutside tooSoon tooLate
+  gap-modest a b lo hi =
+      let O = eitherWay T a lo hi ∷ [] in
+      let Q = tooLate T lo hi ++ O in
+      let G = lasting T a lo hi ++ Q in
+      let P = tooSoon T a lo ++ G in
+      let nodes = length-gap-nodes T a b lo hi in
+      record {
+        few = gap-sum (early T lo) (late T hi)
+            (begun-inputs b lo)
+            (twos (λ t. allOf (is (anAtom (Y a t)) ∷ is (aNode (t - 1)) ∷ [])) (λ t. refl) (from 2 (early T lo - 1)) ∙ rw length-from)
+            (lasting-inputs a lo hi)
+            (twos (λ t. allOf (isNot (aNode (t + hi - lo)) ∷ isNot (aNode (beforeQ T lo hi - t)) ∷ [])) (λ t. refl) (upTo (late T hi)) ∙ rw length-from)
+            (either-inputs a lo hi)
+            (inputs-append (begun T b lo) P ∙ rw (inputs-append (tooSoon T a lo) G, inputs-append (lasting T a lo hi) Q, inputs-append (tooLate T lo hi) O, one-input (eitherWay T a lo hi)))
+            nodes;
+      }
+
   module _ (dur : ℕ → ℕ) (us group : ℕ → List ℕ) (short : (g : ℕ) → length (group g) ≤ 125) where
     uses-short : (r g : ℕ) → length (usesAt r (group g)) ≤ 125
     uses-short r g = omega (arith, length-map (group g) (λ t. X r t), short g)
@@ -163,3 +250,4 @@ module _ (T : ℕ) (h : T ≤ 125) where
         }
     kind-few (distribute e n lo hi) = record { lists = omega arith; inputs = (of-modest e n, tt) }
     kind-few (lengths e a b) = record { lists = omega arith; inputs = (outside-modest e a b, tt) }
+    kind-few (precedence a b lo hi) = record { lists = omega arith; inputs = (gap-modest a b lo hi, tt) }

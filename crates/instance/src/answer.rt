@@ -7,7 +7,7 @@ ghost use mathlib.Core.Path.{_≡_};
 ghost use Rattle.scope.specs.Answers.{readMeans};
 ghost use Rattle.scope.specs.Operations.{readOf};
 
-// Accepted, or refusals 1 to 6. The work is linear in the file.
+// Accepted, or refusals 1 to 6 and 19. The work is linear in the file.
 pub fn read_instance(file: &[u8]) -> ReadAnswer
     ensures { λ r. ⌜ readMeans r ≡ readOf (now (file .entry)) ⌝ }
 {

@@ -31,7 +31,7 @@ pub enum SizesRead {
     Refused(Refusal),
 }
 
-// A whole file, read into the tables: 1 to 6, or what its head says.
+// A whole file, read into the tables: 1 to 6 and 19, or what its head says.
 pub enum File {
     Accepted(Head),
     Refused(Refusal),

@@ -1,5 +1,6 @@
 -- Laws, for other crates to use.
 pub mod Fillable
+pub mod GapLiterals
 pub mod LengthLiterals
 pub mod ListsOf
 pub mod Literals

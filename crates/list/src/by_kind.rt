@@ -1,4 +1,5 @@
 // A constraint's list, by its kind.
+use chain_lists::fill_precedence;
 use chain_lists::fill_preferred;
 use constraint::Head;
 use constraint::Kind;
@@ -44,6 +45,7 @@ pub fn fill(
         Kind::Idle(f) => fill_idle(f, head, groups, list, v, out),
         Kind::Distribute(f) => fill_distribute(f, head, v, out),
         Kind::Lengths(f) => fill_lengths(f, head, v, out),
+        Kind::Precedence(f) => fill_precedence(f, head, v, out),
     }
 }
 
@@ -62,5 +64,6 @@ pub fn lists(kind: Kind, times: u32) -> u32
         Kind::Idle(_) => 1,
         Kind::Distribute(_) => 1,
         Kind::Lengths(_) => 1,
+        Kind::Precedence(_) => 1,
     }
 }

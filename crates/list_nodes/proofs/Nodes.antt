@@ -36,13 +36,17 @@ or-stored out at n ys l e h k o w q =
     let f : take (at + 1) (set out at n) ≡ take at out ++ (length ys ∷ []) = rw (add-one at, take-suc-set out at n l, e) in
     holds-as (rw (f, q, or-words ys o) (simp append-assoc)) (holds-more h w k)
 
+-- where the words after those that stay end
+pub holds-place : (out : List ℕ) (at : ℕ) (ys : List ℕ) → at ≤ length out → {after : List ℕ} {last : ℕ}
+    → Holds after last (take at out ++ ys)
+    → last ≡ at + length ys
+holds-place out at ys l h = h .count ∙ length-append (take at out) ys ∙ rw (length-take-le at out l)
+
 -- where the inputs end
 pub or-place : (out : List ℕ) (at n : ℕ) (ys : List ℕ) → at < length out → {after : List ℕ} {last : ℕ}
     → Holds after last (take (at + 1) (set out at n) ++ ys)
     → last ≡ at + 1 + length ys
-or-place out at n ys l h =
-    h .count ∙ length-append (take (at + 1) (set out at n)) ys
-    ∙ rw (length-take-le (at + 1) (set out at n) (rw length-set (omega arith)))
+or-place out at n ys l h = holds-place (set out at n) (at + 1) ys (rw length-set (omega arith)) h
 
 -- an idle time's AND
 pub idling-stored : (out : List ℕ) (at x v : ℕ) → at + 5 ≤ length out
@@ -61,16 +65,27 @@ idling-stored out at x v l =
     let r : opp (pos (v + 1)) ≡ 2 * (v + 1) + 1 = omega arith in
     holds-as (rw (and-words (opp x ∷ pos v ∷ pos (v + 1) ∷ []) (v + 2), p, q, r) (simp append-assoc)) e
 
--- an OR of two variables
-pub either-stored : (out : List ℕ) (at x y o : ℕ) → at + 4 ≤ length out
-    → Holds (set (set (set (set out at 2) (at + 1) (2 * x)) (at + 2) (2 * y)) (at + 3) (2 * o + 1 + 2147483648)) (at + 4)
-    (take at out ++ nodeWords (or (pos x ∷ pos y ∷ [])) o)
-either-stored out at x y o l =
+-- two variables and a marked literal
+pub two-stored : (out : List ℕ) (at x y l : ℕ) → at + 4 ≤ length out
+    → Holds (set (set (set (set out at 2) (at + 1) (2 * x)) (at + 2) (2 * y)) (at + 3) (l + 2147483648)) (at + 4)
+    (take at out ++ (2 ∷ pos x ∷ pos y ∷ (l + 2147483648) ∷ []))
+two-stored out at x y l h =
     let a = holds-put (holds-kept out at (omega arith)) at 2 (at + 1) refl (omega arith) refl in
     let b = holds-put a (at + 1) (2 * x) (at + 2) refl (simp length-set (omega arith)) (omega arith) in
     let c = holds-put b (at + 2) (2 * y) (at + 3) refl (simp length-set (omega arith)) (omega arith) in
-    let d = holds-put c (at + 3) (2 * o + 1 + 2147483648) (at + 4) refl (simp length-set (omega arith)) (omega arith) in
-    holds-as (rw (or-words (pos x ∷ pos y ∷ []) o) (simp append-assoc)) d
+    let d = holds-put c (at + 3) (l + 2147483648) (at + 4) refl (simp length-set (omega arith)) (omega arith) in
+    holds-as (simp append-assoc) d
+
+-- an OR of two variables, and an AND of two negated ones
+module _ (before : List ℕ) (x y o : ℕ) where
+  pub either-words : before ++ (2 ∷ pos x ∷ pos y ∷ (2 * o + 1 + 2147483648) ∷ []) ≡ before ++ nodeWords (or (pos x ∷ pos y ∷ [])) o
+  either-words = rw (or-words (pos x ∷ pos y ∷ []) o)
+
+  pub neither-words : before ++ (2 ∷ pos x ∷ pos y ∷ (2 * o + 2147483648) ∷ []) ≡ before ++ nodeWords (and (neg x ∷ neg y ∷ [])) o
+  neither-words =
+      let p : opp (neg x) ≡ pos x = omega arith in
+      let q : opp (neg y) ≡ pos y = omega arith in
+      rw (and-words (neg x ∷ neg y ∷ []) o, p, q)
 
 -- the words of a row from one place up to another: those up to place k, and one more
 pub copied-none : (row : List ℕ) (from : ℕ) (out : List ℕ) (at : ℕ) → at ≤ length out → from ≤ length row → Holds out at (take at out ++ drop from (take from row))

@@ -12,7 +12,7 @@ use Rattle.literals.proofs.laws.Outputs.{every-both}
 use Rattle.literals.specs.NodeWords.{nodeWords}
 use Rattle.literals.proofs.laws.NodeWords.{or-words, and-words}
 use Rattle.list_nodes.proofs.laws.Runs.{length-every}
-use Rattle.list_nodes.proofs.Nodes.{holds-then, holds-kept, holds-put}
+use Rattle.list_nodes.proofs.Nodes.{holds-then, holds-kept, holds-put, holds-place, or-stored}
 
 -- the negated literals of a run: none, and one more
 pub negated-none : (first : ℕ) (out : List ℕ) (at : ℕ) → at ≤ length out → Holds out at (take at out ++ map opp (every 1 first 0))
@@ -32,6 +32,12 @@ negated-more before first k h l x e =
     let s : map opp (every 1 first (k + 1)) ≡ map opp xs ++ ((2 * x + 1) ∷ []) =
     rw (every-both 1 first k 1, map-append opp xs (pos (first + 1 * k) ∷ []), f) in
     holds-as (append-assoc before (map opp xs) ((2 * x + 1) ∷ []) ∙ ap (_++_ before) (sym s)) (holds-more h (2 * x + 1) l)
+
+-- the literals of a run end after it
+pub run-place : (first n : ℕ) (out : List ℕ) (at : ℕ) → at ≤ length out → {after : List ℕ} {last : ℕ}
+    → Holds after last (take at out ++ every 1 first n)
+    → last ≡ at + n
+run-place first n out at l h = holds-place out at (every 1 first n) l h ∙ rw (length-every 1 first n)
 
 -- a head word, and a head word and another, before a run
 module _ (out : List ℕ) (at : ℕ) {after : List ℕ} {last : ℕ} (ys : List ℕ) where
@@ -53,6 +59,12 @@ module _ (first n : ℕ) (out : List ℕ) (at : ℕ) {after : List ℕ} {last : 
   all-stored o q l k =
       holds-as (rw (and-words (every 1 first n) o, length-every 1 first n) (simp append-assoc))
       (holds-more (after-head out at (map opp (every 1 first n)) n q l) (2 * o + 2147483648) k)
+
+  pub some-stored : (o : ℕ) → Holds after last (take (at + 1) (set out at n) ++ every 1 first n)
+      → at < length out
+      → last < length after
+      → Holds (set after last (2 * o + 1 + 2147483648)) (last + 1) (take at out ++ nodeWords (or (every 1 first n)) o)
+  some-stored o q l k = or-stored out at n (every 1 first n) l (sym (length-every 1 first n)) q k o (2 * o + 1 + 2147483648) refl
 
   pub with-stored : (x o : ℕ) → Holds after last (take (at + 2) (set (set out at (n + 1)) (at + 1) (2 * x + 1)) ++ map opp (every 1 first n))
       → at + 1 < length out

@@ -4,7 +4,7 @@ ghost use mathlib.Core.Path.{_≡_};
 ghost use mathlib.Core.List.{_++_, _∷_, [], map};
 ghost use Prim.Native.Nat.{_+_, _-_, _≤_, _<_};
 ghost use lib.ListN.{length, take, drop};
-ghost use Rattle.scope.specs.Cnf.{pos, opp, or, and};
+ghost use Rattle.scope.specs.Cnf.{pos, neg, opp, or, and};
 ghost use Rattle.tables.specs.Rows.{rowAt};
 ghost use Rattle.literals.specs.Variables.{literalAt, GroupIn};
 ghost use Rattle.literals.specs.Words.{Holds};
@@ -66,15 +66,33 @@ pub fn store_idling(x: u32, v: u32, at: usize, out: &mut [u32]) -> usize
     at + 5
 }
 
+// Two variables' literals, after a head word, and the literal l, marked.
+fn store_two(x: u32, y: u32, l: u32, at: usize, out: &mut [u32]) -> usize
+    requires { ⌜ (at + 4 ≤ length (now out)) × ((x < 1073741824) × ((y < 1073741824) × (l < 2147483648))) ⌝ }
+    ensures { λ r. ⌜ Holds (now (out .exit)) r (take at (now (out .entry)) ++ 2 ∷ pos x ∷ pos y ∷ (l + 2147483648) ∷ []) ⌝ }
+    ensures { λ r. ⌜ r ≡ at + 4 ⌝ }
+{
+    out[at] = 2;
+    out[at + 1] = 2 * x;
+    out[at + 2] = 2 * y;
+    out[at + 3] = l + 2147483648;
+    at + 4
+}
+
 // The OR with the output o of two variables.
 pub fn store_either(x: u32, y: u32, o: u32, at: usize, out: &mut [u32]) -> usize
     requires { ⌜ (at + 4 ≤ length (now out)) × ((x < 1073741824) × ((y < 1073741824) × (o < 1073741824))) ⌝ }
     ensures { λ r. ⌜ Holds (now (out .exit)) r (take at (now (out .entry)) ++ nodeWords (or (pos x ∷ pos y ∷ [])) o) ⌝ }
     ensures { λ r. ⌜ r ≡ at + 4 ⌝ }
 {
-    out[at] = 2;
-    out[at + 1] = 2 * x;
-    out[at + 2] = 2 * y;
-    out[at + 3] = 2 * o + 1 + 2147483648;
-    at + 4
+    store_two(x, y, 2 * o + 1, at, out)
+}
+
+// The AND with the output o of two variables, each negated.
+pub fn store_neither(x: u32, y: u32, o: u32, at: usize, out: &mut [u32]) -> usize
+    requires { ⌜ (at + 4 ≤ length (now out)) × ((x < 1073741824) × ((y < 1073741824) × (o < 1073741824))) ⌝ }
+    ensures { λ r. ⌜ Holds (now (out .exit)) r (take at (now (out .entry)) ++ nodeWords (and (neg x ∷ neg y ∷ [])) o) ⌝ }
+    ensures { λ r. ⌜ r ≡ at + 4 ⌝ }
+{
+    store_two(x, y, 2 * o, at, out)
 }

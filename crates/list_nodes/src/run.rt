@@ -25,6 +25,15 @@ fn negated(first: u32, n: usize, at: usize, out: &mut [u32]) -> usize
     k
 }
 
+// The literals of n variables from the first on, as they are.
+pub fn store_run(first: u32, n: u32, at: usize, out: &mut [u32]) -> usize
+    requires { ⌜ (at + n ≤ length (now out)) × (first + n < 1073741824) ⌝ }
+    ensures { λ r. ⌜ Holds (now (out .exit)) r (take at (now (out .entry)) ++ every 1 first n) ⌝ }
+    ensures { λ r. ⌜ r ≡ at + n ⌝ }
+{
+    literals::outputs(first, 1, n as usize, at, out)
+}
+
 // The AND with the output o of the run.
 pub fn store_all(first: u32, n: usize, o: u32, at: usize, out: &mut [u32]) -> usize
     requires { ⌜ (n ≤ 126) × ((at + n + 2 ≤ length (now out)) × ((first + n < 1073741824) × (o < 1073741824))) ⌝ }
@@ -34,6 +43,18 @@ pub fn store_all(first: u32, n: usize, o: u32, at: usize, out: &mut [u32]) -> us
     out[at] = n as u32;
     let last = negated(first, n, at + 1, out);
     out[last] = 2 * o + 2147483648;
+    last + 1
+}
+
+// The OR with the output o of the run.
+pub fn store_some(first: u32, n: u32, o: u32, at: usize, out: &mut [u32]) -> usize
+    requires { ⌜ (at + n + 2 ≤ length (now out)) × ((first + n < 1073741824) × (o < 1073741824)) ⌝ }
+    ensures { λ r. ⌜ Holds (now (out .exit)) r (take at (now (out .entry)) ++ nodeWords (or (every 1 first n)) o) ⌝ }
+    ensures { λ r. ⌜ r ≡ at + n + 2 ⌝ }
+{
+    out[at] = n;
+    let last = store_run(first, n, at + 1, out);
+    out[last] = 2 * o + 1 + 2147483648;
     last + 1
 }
 

@@ -49,7 +49,7 @@ fn evaluate_read(
     }
 }
 
-// The length of the part with Y and S and the falsified soft weight, or refusals 1 to 6, 8, 10, 11 and 13. One run over the
+// The length of the part with Y and S and the falsified soft weight, or refusals 1 to 6, 8, 10, 11, 13 and 19. One run over the
 // clauses serves both; the work is linear in the formula.
 pub fn evaluate(file: &[u8], model: &[u8]) -> Evaluation
     ensures { λ r. ⌜ EvaluatedAs (now (file .entry)) (now (model .entry)) r ⌝ }

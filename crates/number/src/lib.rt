@@ -5,6 +5,7 @@ use scope::refusals::BAD_NUMBER;
 use scope::refusals::BAD_REFERENCE;
 use scope::refusals::OUTSIDE_LIMIT;
 ghost use mathlib.Core.Path.{_≡_};
+ghost use Prim.Native.Nat.{_-_};
 ghost use Rattle.scope.specs.Number.{number as numberAt, limited as limitedAt, reference as referenceAt};
 ghost use Rattle.number.specs.Answers.{said, refusalOf};
 
@@ -132,4 +133,11 @@ pub fn reference(s: &[u8], at: usize, before: u32, n: u32) -> Number
         return Number::Refused(bad);
     }
     Number::Value(v, next)
+}
+
+// x without y, at least 0.
+pub fn monus(x: u32, y: u32) -> u32
+    ensures { λ r. ⌜ r ≡ x - y ⌝ }
+{
+    if x < y { 0 } else { x - y }
 }

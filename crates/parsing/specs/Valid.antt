@@ -1,7 +1,7 @@
--- The fields of a kind within their limits: each is a reference to something, an ascending list of them, a length from 1 to T, or a
--- bound up to 255.
+-- The fields of a kind within their limits: each is a reference to something, an ascending list of them, a length from 1 to T, a bound
+-- of a count up to 255, or of a gap up to 124.
 use Prim.Native.Nat.{ℕ, _≤_}
-use Rattle.scope.specs.Kinds.{Kind, clash, unavailable, preferred, split, spread, busy, cluster, idle, distribute, lengths}
+use Rattle.scope.specs.Kinds.{Kind, clash, unavailable, preferred, split, spread, busy, cluster, idle, distribute, lengths, precedence}
 use Rattle.scope.specs.Instance.{Counts}
 use Rattle.parsing.specs.Numbers.{Ascending}
 
@@ -31,3 +31,4 @@ InRange n (cluster r hs lo hi) = OneOf (n .resources) r × Ascending (n .groups)
 InRange n (idle r hs lo hi) = OneOf (n .resources) r × Ascending (n .groups) 0 hs × BoundsIn lo hi
 InRange n (distribute e l lo hi) = OneOf (n .events) e × Within 1 (n .times) l × BoundsIn lo hi
 InRange n (lengths e a b) = OneOf (n .events) e × Within 1 (n .times) a × Within 1 (n .times) b
+InRange n (precedence a b lo hi) = OneOf (n .events) a × OneOf (n .events) b × Within 0 124 lo × Within 0 124 hi

@@ -1,25 +1,26 @@
--- Demands 2 and 3, what is owed for the two operations beside them, what kinds 3, 9 and 10 count, and idle times in one walk, as types
--- over the definitions. The upper crates prove them.
+-- Demands 2 and 3, what is owed for the two operations beside them, what kinds 3, 9, 10 and 11 count, and idle times in one walk, as
+-- types over the definitions. The upper crates prove them.
 use mathlib.Core.Path.{_≡_}
-use mathlib.Core.Bool.{Bool, true, not, _||_}
+use mathlib.Core.Bool.{Bool, true, not, _||_, cond}
 use mathlib.Core.Logic.{_↔_}
 use mathlib.Core.List.{List, [], map, foldl, sum}
 use Prim.Native.Nat.{ℕ, _+_, _-_, _*_, _≤_, _<_}
 use lib.ListN.{length, getD, take}
 use lib.Dec.{ltb, eqb}
 use Rattle.scope.specs.Parsed.{got, answered}
-use Rattle.scope.specs.Kinds.{preferred, idle, distribute, lengths, Atom, Listed, entries, usesAt, gaps, member, eventOf, groupAt, fromOutside, ofLength, ofLengthOutside, rulesOf}
+use Rattle.scope.specs.Kinds.{preferred, idle, distribute, lengths, precedence, Atom, Listed, entries, usesAt, gaps, member, eventOf, groupAt, fromOutside, ofLength, ofLengthOutside, early, late, gapOutside, rulesOf}
 use Rattle.scope.specs.Instance.{Instance, parse}
 use Rattle.scope.specs.Cnf.{gate, hardClauses, bit, clauses}
 use Rattle.scope.specs.Score.{deviation, count, deviations, rules, eventRight}
 use Rattle.scope.specs.Subevents.{subevents, timesHeld, lengthsFrom}
+use Rattle.scope.specs.Gap.{timesTaken, gapWithin}
 use Rattle.scope.specs.Idle.{idleTimes, keptAfter, yes, idleStepOf}
 use Rattle.scope.specs.Formula.{nodeGate, variables, hardOf, words, mostVariables}
 use Rattle.scope.specs.Operations.{scoreOf, decodeOf, part, falsifiedSoft, checkOf, checkHardOf, bestOf, Lent}
 use Rattle.scope.specs.Refutation.{NoTimetable, NoneAtAll}
 use Rattle.scope.specs.declared.Objective.{Objective}
 
--- "an accepted instance": the file gives none of 1 to 6
+-- "an accepted instance": the file gives none of 1 to 6 and 19
 pub record Accepted (file : List ℕ) (i : Instance) : Type 0 where
   pub end : ℕ
   pub parsed : parse file ≡ got i end
@@ -119,6 +120,21 @@ pub record DemandPreferred : Type 0 where
   pub variables : (T e d : ℕ) (g : List ℕ) → length (fromOutside T e d g .nodes) ≤ 3 * (T - 1)
   pub members : (T e d : ℕ) (g : List ℕ) → length (fromOutside T e d g .members) ≤ T
   pub single : (T e : ℕ) (g : List ℕ) → fromOutside T e 1 g .nodes ≡ []
+
+-- Kind 11
+pub record DemandPrecedence : Type 0 where
+  -- "It deviates by 1 if the gap lies outside lo..hi, a negative gap always, else by 0": of two events that each take a time
+  pub gap : (T : ℕ) (dur : ℕ → ℕ) (us group : ℕ → List ℕ) (τ : Atom → Bool) (a b lo hi : ℕ)
+      → 1 ≤ length (timesTaken T τ a) → 1 ≤ length (timesTaken T τ b)
+      → deviations τ (rulesOf T dur us group (precedence a b lo hi)) ≡ cond (gapWithin T τ a b lo hi) 0 1
+  -- as each event of an accepted instance does that keeps a timetable's rules
+  pub taken : (file : List ℕ) (i : Instance) (τ : Atom → Bool) (e : ℕ) → Accepted file i → 1 ≤ e → e ≤ length (i .events)
+      → eventRight i τ e (eventOf (i .events) e) ≡ true → 1 ≤ length (timesTaken (i .times) τ e)
+  -- the member "outside"; variables beside the counter's
+  pub member : (T a b lo hi : ℕ) → length (gapOutside T a b lo hi .members) ≡ 1
+  pub variables : (T a b lo hi : ℕ) → 1 ≤ early T lo → length (gapOutside T a b lo hi .nodes) ≡ 2 * early T lo + 2 * late T hi
+  pub alone : (T a b lo hi : ℕ) → early T lo ≡ 0 → lo ≤ hi → length (gapOutside T a b lo hi .nodes) ≡ 1
+  pub few : (T a b lo hi : ℕ) → 1 ≤ T → length (gapOutside T a b lo hi .nodes) < 4 * T
 
 -- whether resource r has X at each of some times
 abbrev pub usedAt : (Atom → Bool) → ℕ → List ℕ → List Bool

@@ -1,5 +1,5 @@
--- The examples of document 01 that are marked P, file A's listing, its limits, those of kinds 3, 9 and 10 and of idle times in one walk,
--- as one table under one theorem. A case is what the definitions compute and what the paper says, both as numbers.
+-- The examples of document 01 that are marked P, file A's listing, its limits, those of kinds 3, 9, 10 and 11 and of idle times in one
+-- walk, as one table under one theorem. A case is what the definitions compute and what the paper says, both as numbers.
 use mathlib.Core.Path.{_≡_, refl}
 use mathlib.Core.Bool.{Bool, true, false, cond, _||_}
 use mathlib.Core.List.{List, [], _∷_, _++_, map, flatMap}
@@ -8,12 +8,13 @@ use lib.ListN.{take, replicate}
 use lib.Dec.{eqb, ltb}
 use Rattle.scope.specs.Parsed.{Parsed, got, refused, Answer, answered, refusal, repeat}
 use Rattle.scope.specs.Number.{group, front, within, number, limited, reference, references, listed}
-use Rattle.scope.specs.Kinds.{Atom, Y, S, X, Rule, rule, Listed, atom, entriesNodes, entriesMembers, entries, spread, limit, upTo, usesAt, from, member, usersFrom, outside, groupAt, gapsAfter, gaps, reached, reachesNodes, reachesMembers, fromOutside, goingOn, span, timeByTime, ofLength, ofLengthOutside, countedOf, rulesOf, longest}
+use Rattle.scope.specs.Kinds.{Atom, Y, S, X, Rule, rule, Listed, atom, entriesNodes, entriesMembers, entries, spread, limit, upTo, usesAt, from, member, usersFrom, outside, groupAt, gapsAfter, gaps, reached, reachesNodes, reachesMembers, fromOutside, goingOn, span, timeByTime, ofLength, ofLengthOutside, orMore, orChain, down, begun, tooSoon, lasting, tooLate, eitherWay, gapOutside, countedOf, rulesOf, longest}
 use Rattle.scope.specs.Instance.{eventAt, fieldsRead, fieldsTable, ended, constraintAt, sizesAt, groupsAt, constraintsAt, parse}
 use Rattle.scope.specs.Cnf.{pos, Item, gate, bit, lit, clause, clauses, hasTrue, withoutFalse, tidy, pairs, gateClauses, hardClauses, softUnits, falsified}
 use Rattle.scope.specs.Score.{layoutAt, varAt, trues, any, all, deviation, charged, valuesAfter, count, deviations, truth, eventRight, firstWrong, infeasibilityOf, objectiveOf, firstAbove}
 use Rattle.scope.specs.Subevents.{before, subevents, heldFrom, timesHeld, lengthsFrom}
 use Rattle.scope.specs.Idle.{idleTimes, keptAfter, numbersOf, idleStepOf}
+use Rattle.scope.specs.Gap.{takenAmong, firstTime, lastTime, gapWithin}
 use Rattle.scope.specs.Formula.{refLiteral, nodeGate, noRow, ones, row, counter, lastRow, lowUnits, highUnits, shortUnits, boundItems, countInto, ruleItems, rulesItems, starts, uses, durationRules, constraintRules, formula, variables, hardOf, softOf, tail, bounded, boundedVariables, boundedHard, words}
 use Rattle.scope.specs.Text.{digits, literalText, line, sumWeights, top, headerLine, text}
 use Rattle.scope.specs.Steps.{numbers, stepAt, literalsOk, wellFormed, hintsShow, deleted}
@@ -196,6 +197,31 @@ drawn = false ∷ true ∷ false ∷ false ∷ true ∷ false ∷ []
 keptSaid : ℕ × ℕ × ℕ → List ℕ
 keptSaid n = n .0 ∷ n .1 ∷ n .2 ∷ []
 
+-- two events that take d and c of T times, and kind 11 of event a before event b
+gapFile : (T d c w a b lo hi : ℕ) → List ℕ
+gapFile T d c w a b lo hi = T ∷ 0x02 ∷ 0x00 ∷ d ∷ 0x00 ∷ c ∷ 0x00 ∷ 0x00 ∷ 0x01 ∷ 0x0B ∷ w ∷ a ∷ b ∷ lo ∷ hi ∷ []
+
+readEleven : (a b lo hi : ℕ) → List ℕ
+readEleven a b lo hi = sizeSaid (readOf (gapFile 1 1 1 0 a b lo hi))
+
+-- the score of event 1 before event 2 at weight 1, where each time that is taken is a start
+gapScore : (T d c lo hi : ℕ) → List ℕ → List ℕ
+gapScore T d c lo hi taken = scoreSaid (scoreOf (gapFile T d c 1 1 2 lo hi) (taken ++ taken))
+
+-- event 1 takes the times 1 and 3, event 2 those after 4
+spaced : Atom → Bool
+spaced (Y e t) = cond (eqb e 1) (eqb t 1 || eqb t 3) (ltb 4 t)
+spaced (S e t) = false
+spaced (X r t) = false
+
+gapListing : List ℕ
+gapListing =
+    11 ∷ 66 ∷ 0 ∷ 10 ∷ 67 ∷ 0 ∷ 13 ∷ 68 ∷ 0 ∷ 67 ∷ 68 ∷ 0 ∷ 12 ∷ 66 ∷ 69 ∷ 0 ∷ 15 ∷ 70 ∷ 0 ∷ 69 ∷ 70 ∷ 0 ∷ 14 ∷ 68 ∷ 71 ∷ 0
+    ∷ 4 ∷ 73 ∷ 0 ∷ 68 ∷ 73 ∷ 0 ∷ 5 ∷ 69 ∷ 72 ∷ 0 ∷ 6 ∷ 75 ∷ 0 ∷ 70 ∷ 75 ∷ 0 ∷ 7 ∷ 71 ∷ 74 ∷ 0
+    ∷ 7 ∷ 76 ∷ 0 ∷ 9 ∷ 76 ∷ 0 ∷ 6 ∷ 8 ∷ 77 ∷ 0 ∷ 5 ∷ 78 ∷ 0 ∷ 77 ∷ 78 ∷ 0 ∷ 4 ∷ 76 ∷ 79 ∷ 0
+    ∷ 69 ∷ 81 ∷ 0 ∷ 79 ∷ 81 ∷ 0 ∷ 68 ∷ 78 ∷ 80 ∷ 0 ∷ 71 ∷ 83 ∷ 0 ∷ 77 ∷ 83 ∷ 0 ∷ 70 ∷ 76 ∷ 82 ∷ 0
+    ∷ 9 ∷ 84 ∷ 0 ∷ 67 ∷ 84 ∷ 0 ∷ 73 ∷ 84 ∷ 0 ∷ 75 ∷ 84 ∷ 0 ∷ 81 ∷ 84 ∷ 0 ∷ 83 ∷ 84 ∷ 0 ∷ 8 ∷ 66 ∷ 72 ∷ 74 ∷ 80 ∷ 82 ∷ 85 ∷ 0 ∷ []
+
 pub record Case : Type 0 where
   pub computed : List ℕ
   pub expected : List ℕ
@@ -313,6 +339,34 @@ cases =
     -- the clauses of M and K in three times for length 2; of M, Q, W and K in two times for 2 to 2
     ∷ shows (nodeListing 3 16 (ofLength 3 1 2)) nineListing
     ∷ shows (nodeListing 2 10 (ofLengthOutside 2 1 2 2)) tenListing
+    -- kind 11: two events that are one give 19 at the kind, before 5 and after 1 to 3; lo above hi gives 5; 125 gives 2; 124 at T = 1,
+    -- with the second event first, is no fault
+    ∷ shows (readEleven 1 1 1 0) (19 ∷ 9 ∷ [])
+    ∷ shows (readEleven 1 1 125 0) (2 ∷ 13 ∷ [])
+    ∷ shows (readEleven 1 2 1 0) (5 ∷ 9 ∷ [])
+    ∷ shows (readEleven 1 2 0 125) (2 ∷ 14 ∷ [])
+    ∷ shows (readEleven 2 1 124 124) (0 ∷ 1 ∷ 2 ∷ 0 ∷ 0 ∷ 1 ∷ [])
+    -- 0 to 0 in three times: a gap of 0, of 1, which is one above hi, and a negative one
+    ∷ shows (gapScore 3 1 1 0 0 (1 ∷ 0 ∷ 0 ∷ 0 ∷ 1 ∷ 0 ∷ [])) (0 ∷ 0 ∷ 0 ∷ [])
+    ∷ shows (gapScore 3 1 1 0 0 (1 ∷ 0 ∷ 0 ∷ 0 ∷ 0 ∷ 1 ∷ [])) (0 ∷ 0 ∷ 1 ∷ [])
+    ∷ shows (gapScore 3 1 1 0 0 (0 ∷ 1 ∷ 0 ∷ 1 ∷ 0 ∷ 0 ∷ [])) (0 ∷ 0 ∷ 1 ∷ [])
+    -- the first event at 1 and 3, the second at 2, and at 2 and 4: a gap of −2; at 4 alone one of 0; at T = 1 it is −1
+    ∷ shows (gapScore 4 2 1 0 124 (1 ∷ 0 ∷ 1 ∷ 0 ∷ 0 ∷ 1 ∷ 0 ∷ 0 ∷ [])) (0 ∷ 0 ∷ 1 ∷ [])
+    ∷ shows (gapScore 4 2 2 0 124 (1 ∷ 0 ∷ 1 ∷ 0 ∷ 0 ∷ 1 ∷ 0 ∷ 1 ∷ [])) (0 ∷ 0 ∷ 1 ∷ [])
+    ∷ shows (gapScore 4 2 1 0 124 (1 ∷ 0 ∷ 1 ∷ 0 ∷ 0 ∷ 0 ∷ 0 ∷ 1 ∷ [])) (0 ∷ 0 ∷ 0 ∷ [])
+    ∷ shows (gapScore 1 1 1 0 124 (1 ∷ 1 ∷ [])) (0 ∷ 0 ∷ 1 ∷ [])
+    -- from the last time 3 to the first time 5 the gap is 1, by its meaning and by the list; the other way round it is negative
+    ∷ shows (lastTime 6 spaced 1 ∷ firstTime 6 spaced 2 ∷ []) (3 ∷ 5 ∷ [])
+    ∷ shows (map (λ n. cond (gapWithin 6 spaced 1 2 n n) 0 1) (from 0 4)) (1 ∷ 0 ∷ 1 ∷ 1 ∷ [])
+    ∷ shows (map (λ n. count spaced (gapOutside 6 1 2 n n)) (from 0 4)) (1 ∷ 0 ∷ 1 ∷ 1 ∷ [])
+    ∷ shows (cond (gapWithin 6 spaced 2 1 0 124) 0 1 ∷ count spaced (gapOutside 6 2 1 0 124) ∷ []) (1 ∷ 1 ∷ [])
+    -- the clauses of F, P, G, Q and O in four times for 0 to 0, with the member; of F and O in three for 1 to 1; of O alone in two
+    ∷ shows (nodeListing 4 33 (gapOutside 4 1 2 0 0)) gapListing
+    ∷ shows (membersOf 4 33 (gapOutside 4 1 2 0 0)) (84 ∷ [])
+    ∷ shows
+    (nodeListing 3 20 (gapOutside 3 1 2 1 1))
+    (9 ∷ 40 ∷ 0 ∷ 11 ∷ 40 ∷ 0 ∷ 8 ∷ 10 ∷ 41 ∷ 0 ∷ 5 ∷ 42 ∷ 0 ∷ 7 ∷ 42 ∷ 0 ∷ 41 ∷ 42 ∷ 0 ∷ 4 ∷ 6 ∷ 40 ∷ 43 ∷ 0 ∷ [])
+    ∷ shows (nodeListing 2 20 (gapOutside 2 1 2 1 1)) (3 ∷ 40 ∷ 0 ∷ 5 ∷ 40 ∷ 0 ∷ 2 ∷ 4 ∷ 41 ∷ 0 ∷ [])
     -- idle after each member of a row with X at the second and the fifth of six, walked and by the meaning of idle
     ∷ shows (map (λ k. keptAfter (take k drawn) .idle) (upTo 6)) (0 ∷ 0 ∷ 0 ∷ 0 ∷ 2 ∷ 2 ∷ [])
     ∷ shows (map (λ k. idleTimes (take k drawn)) (upTo 6)) (0 ∷ 0 ∷ 0 ∷ 0 ∷ 2 ∷ 2 ∷ [])
@@ -327,5 +381,5 @@ cases =
 
 -- the definitions compute what the paper says
 pub examples : map (λ c. c .computed) cases ≡ map (λ c. c .expected) cases
-unfolding repeat group front within number limited reference references listed from member usersFrom outside gapsAfter gaps reached reachesNodes reachesMembers fromOutside goingOn span timeByTime ofLength ofLengthOutside entriesNodes entriesMembers countedOf longest eventAt fieldsRead fieldsTable ended constraintAt sizesAt groupsAt constraintsAt parse bit lit clause clauses hasTrue withoutFalse tidy pairs gateClauses hardClauses softUnits falsified trues any all deviation charged valuesAfter count deviations truth eventRight firstWrong infeasibilityOf objectiveOf firstAbove row counter lastRow lowUnits highUnits shortUnits boundItems countInto ruleItems rulesItems starts uses durationRules constraintRules formula variables hardOf softOf tail bounded boundedVariables boundedHard words digits literalText line sumWeights top headerLine text numbers stepAt literalsOk wellFormed hintsShow deleted perform run start plainRun readOf scoreOf sameBytes sameSheetOf sizesOf textSizeOf textOf programPrints lowestFalse decodeOf formulaFits checkOf checkHardOf bestOf fileA fileHardA fileFree proofA listingA numberSaid stepsSaid scoreSaid decodeSaid bestSaid sizeSaid ample checkA roomA bestA busyTimes startAt1 counter3 holds3 timesFile spelt listFile six idleSix before subevents heldFrom timesHeld lengthsFrom idleTimes keptAfter drawn keptSaid lengthFile preferredFile chainListing bothListing membersOf doubles softNine readNine readTen nodeListing nineListing tenListing threeStarts cases flatMap
+unfolding repeat group front within number limited reference references listed from member usersFrom outside gapsAfter gaps reached reachesNodes reachesMembers fromOutside goingOn span timeByTime ofLength ofLengthOutside orMore orChain down begun tooSoon lasting tooLate eitherWay gapOutside takenAmong gapWithin entriesNodes entriesMembers countedOf longest eventAt fieldsRead fieldsTable ended constraintAt sizesAt groupsAt constraintsAt parse bit lit clause clauses hasTrue withoutFalse tidy pairs gateClauses hardClauses softUnits falsified trues any all deviation charged valuesAfter count deviations truth eventRight firstWrong infeasibilityOf objectiveOf firstAbove row counter lastRow lowUnits highUnits shortUnits boundItems countInto ruleItems rulesItems starts uses durationRules constraintRules formula variables hardOf softOf tail bounded boundedVariables boundedHard words digits literalText line sumWeights top headerLine text numbers stepAt literalsOk wellFormed hintsShow deleted perform run start plainRun readOf scoreOf sameBytes sameSheetOf sizesOf textSizeOf textOf programPrints lowestFalse decodeOf formulaFits checkOf checkHardOf bestOf fileA fileHardA fileFree proofA listingA numberSaid stepsSaid scoreSaid decodeSaid bestSaid sizeSaid ample checkA roomA bestA busyTimes startAt1 counter3 holds3 timesFile spelt listFile six idleSix before subevents heldFrom timesHeld lengthsFrom idleTimes keptAfter drawn keptSaid lengthFile preferredFile chainListing bothListing membersOf doubles softNine readNine readTen nodeListing nineListing tenListing threeStarts gapFile readEleven gapScore spaced gapListing cases flatMap
 examples = refl

@@ -1,12 +1,12 @@
--- The instance file, and refusals 1 to 6 in file order.
+-- The instance file, and refusals 1 to 6 and 19 in file order.
 use Prim.Native.Nat.{ℕ, _-_}
-use mathlib.Core.Bool.{Bool, true}
+use mathlib.Core.Bool.{Bool, true, not}
 use mathlib.Core.List.{List, [], _∷_}
 use lib.ListN.{length, getD}
-use lib.Dec.{leb}
+use lib.Dec.{leb, eqb}
 use Rattle.scope.specs.Parsed.{Parsed, got, andThen, unless, repeat}
 use Rattle.scope.specs.Number.{limited, reference, listed}
-use Rattle.scope.specs.Kinds.{Event, Kind, clash, unavailable, preferred, split, spread, busy, cluster, idle, distribute, lengths, Constraint, Counted, durationOf, users, groupAt, countedOf, longest}
+use Rattle.scope.specs.Kinds.{Event, Kind, clash, unavailable, preferred, split, spread, busy, cluster, idle, distribute, lengths, precedence, Constraint, Counted, durationOf, users, groupAt, countedOf, longest}
 
 pub record Instance : Type 0 where
   pub times : ℕ
@@ -44,11 +44,14 @@ fieldsRead (aList n f) s at = andThen (listed n s at) (λ vs next. fieldsRead (f
 fieldsRead (aNumber lo hi f) s at = andThen (limited lo hi s at) (λ v next. fieldsRead (f v) s next)
 fieldsRead (theKind k) s at = got k at
 
--- lo and hi, which end a constraint
+-- lo and hi, which end a constraint: of a count, and of a gap
 abbrev pub bounds : (ℕ → ℕ → Kind) → Fields
 bounds k = aNumber 0 255 (λ lo. aNumber 0 255 (λ hi. theKind (k lo hi)))
 
--- the fields of each kind, 1 to 10, a row for each
+abbrev pub gapBounds : (ℕ → ℕ → Kind) → Fields
+gapBounds k = aNumber 0 124 (λ lo. aNumber 0 124 (λ hi. theKind (k lo hi)))
+
+-- the fields of each kind, 1 to 11, a row for each
 unfoldable pub fieldsTable : Counts → List Fields
 fieldsTable n =
     aReference (n .resources) (λ r. theKind (clash r))
@@ -61,12 +64,13 @@ fieldsTable n =
     ∷ aReference (n .resources) (λ r. aList (n .groups) (λ hs. bounds (idle r hs)))
     ∷ aReference (n .events) (λ e. aNumber 1 (n .times) (λ l. bounds (distribute e l)))
     ∷ aReference (n .events) (λ e. aNumber 1 (n .times) (λ a. aNumber 1 (n .times) (λ b. theKind (lengths e a b))))
+    ∷ aReference (n .events) (λ a. aReference (n .events) (λ b. gapBounds (precedence a b)))
     ∷ []
 
 abbrev pub fieldsOf : Counts → ℕ → Fields
 fieldsOf n k = getD (fieldsTable n) (k - 1) (theKind (clash 0))
 
--- of kind 10: shortest is not above longest
+-- of kind 10: shortest is not above longest; of kind 11: lo is not above hi
 abbrev pub ordered : Kind → Bool
 ordered (clash r) = true
 ordered (unavailable r g) = true
@@ -78,22 +82,38 @@ ordered (cluster r hs lo hi) = true
 ordered (idle r hs lo hi) = true
 ordered (distribute e n lo hi) = true
 ordered (lengths e a b) = leb a b
+ordered (precedence a b lo hi) = leb lo hi
 
--- the checks at a constraint's end, with the offset of its kind: 4 for a counted list longer than 255, 5 for shortest above
--- longest, for lo above hi as written or above the list's length
-unfoldable pub ended : (at : ℕ) → Bool → (lo hi n weight : ℕ) → Kind → ℕ → Parsed Constraint
-ended at o lo hi n weight k end =
+-- of kind 11: the two events are not one
+abbrev pub distinct : Kind → Bool
+distinct (clash r) = true
+distinct (unavailable r g) = true
+distinct (preferred e g) = true
+distinct (split e lo hi) = true
+distinct (spread vs g lo hi) = true
+distinct (busy r g lo hi) = true
+distinct (cluster r hs lo hi) = true
+distinct (idle r hs lo hi) = true
+distinct (distribute e n lo hi) = true
+distinct (lengths e a b) = true
+distinct (precedence a b lo hi) = not (eqb a b)
+
+-- the checks at a constraint's end, with the offset of its kind: 4 for a counted list longer than 255, 19 for two events that are
+-- one, 5 for lengths or gaps that are not in order, for lo above hi as written or above the list's length
+unfoldable pub ended : (at : ℕ) (d o : Bool) (lo hi n weight : ℕ) → Kind → ℕ → Parsed Constraint
+ended at d o lo hi n weight k end =
     unless (leb n 255) 4 at
-    (unless o 5 at (unless (leb lo hi) 5 at (unless (leb lo n) 5 at (got (record { weight = weight; kind = k }) end))))
+    (unless d 19 at
+    (unless o 5 at (unless (leb lo hi) 5 at (unless (leb lo n) 5 at (got (record { weight = weight; kind = k }) end)))))
 
 -- the same, by what a kind counts
 abbrev pub endedAs : ℕ → Counted → ℕ → Kind → ℕ → Parsed Constraint
-endedAs at c weight k end = ended at (ordered k) (c .lo) (c .hi) (longest (c .lists)) weight k end
+endedAs at c weight k end = ended at (distinct k) (ordered k) (c .lo) (c .hi) (longest (c .lists)) weight k end
 
--- a constraint: kind 1..10, weight 0..1,000, its fields
+-- a constraint: kind 1..11, weight 0..1,000, its fields
 unfoldable pub constraintAt : ℕ → ℕ → List Event → List (List ℕ) → List ℕ → ℕ → Parsed Constraint
 constraintAt T R es gs s at =
-    andThen (limited 1 10 s at)
+    andThen (limited 1 11 s at)
     (λ kind next.
     andThen (limited 0 1000 s next)
     (λ weight more.

@@ -22,6 +22,7 @@ pub data Kind : Type 0 where
   idle : (resource : ℕ) (groups : List ℕ) (lo hi : ℕ) → Kind
   distribute : (event length lo hi : ℕ) → Kind
   lengths : (event shortest longest : ℕ) → Kind
+  precedence : (first second lo hi : ℕ) → Kind
 
 -- the weight 0 means hard
 pub record Constraint : Type 0 where
@@ -275,6 +276,72 @@ unfoldable pub ofLengthOutside : (T e a b : ℕ) → Listed
 ofLengthOutside T e a b =
     cond (eqb a 1) (timeByTime T e 1 (startAbove T e b)) (timeByTime T e 3 (λ t. startOutside T e a b (T + 3 * (t - 1)) t))
 
+-- Y of event e at some times
+abbrev pub takingAt : ℕ → List ℕ → List Atom
+takingAt e ts = map (λ t. Y e t) ts
+
+-- a chain of ORs after k nodes: each of one atom more and of the node before it
+unfoldable pub orMore : (k : ℕ) → List Atom → List Node
+orMore k [] = []
+orMore k (x ∷ xs) = someOf (is (anAtom x) ∷ is (aNode k) ∷ []) ∷ orMore (suc k) xs
+
+-- n nodes of such a chain, if any: the first is an OR of some atoms
+unfoldable pub orChain : (k n : ℕ) (first more : List Atom) → List Node
+orChain k zero first more = []
+orChain k (suc n) first more = someOf (atoms first) ∷ orMore k more
+
+-- k numbers from n down
+unfoldable pub down : ℕ → ℕ → List ℕ
+down n zero = []
+down n (suc k) = n ∷ down (n - 1) k
+
+-- Kind 11, for T times and the gaps from lo to hi: the last time of a first event that leaves lo times and one more after it; that
+-- leaves hi + 1 times and one more; 0 if there is none
+abbrev pub early : (T lo : ℕ) → ℕ
+early T lo = T - 1 - lo
+
+abbrev pub late : (T hi : ℕ) → ℕ
+late T hi = T - 2 - hi
+
+-- F of the times t from 1 to early: the second event b has begun by t + lo
+unfoldable pub begun : (T b lo : ℕ) → List Node
+begun T b lo = orChain 0 (early T lo) (takingAt b (upTo (lo + 1))) (takingAt b (from (lo + 2) (early T lo - 1)))
+
+-- P of the times t from 2 to early: the first event a takes t, and F
+unfoldable pub tooSoon : (T a lo : ℕ) → List Node
+tooSoon T a lo = map (λ t. allOf (is (anAtom (Y a t)) ∷ is (aNode (t - 1)) ∷ [])) (from 2 (early T lo - 1))
+
+-- so many nodes stand before G, and so many before Q
+abbrev pub beforeG : (T lo : ℕ) → ℕ
+beforeG T lo = early T lo + (early T lo - 1)
+
+abbrev pub beforeQ : (T lo hi : ℕ) → ℕ
+beforeQ T lo hi = beforeG T lo + late T hi
+
+-- G of the times t from late down to 1: the first event goes on after t
+unfoldable pub lasting : (T a lo hi : ℕ) → List Node
+lasting T a lo hi =
+    orChain (beforeG T lo) (late T hi) (takingAt a (from (late T hi + 1) (T - late T hi))) (takingAt a (down (late T hi) (late T hi - 1)))
+
+-- Q of the times t from 1 to late: the second event has not begun by t + hi + 1, and the first does not go on after t
+unfoldable pub tooLate : (T lo hi : ℕ) → List Node
+tooLate T lo hi = map (λ t. allOf (isNot (aNode (t + hi - lo)) ∷ isNot (aNode (beforeQ T lo hi - t)) ∷ [])) (upTo (late T hi))
+
+-- O: the first event takes a time after early; or F of time 1, some P or some Q is true
+unfoldable pub eitherWay : (T a lo hi : ℕ) → Node
+eitherWay T a lo hi =
+    someOf
+    (atoms (takingAt a (from (early T lo + 1) (T - early T lo)))
+    ++ map (λ k. is (aNode k)) (from 0 (min (early T lo) 1) ++ (from (early T lo) (early T lo - 1) ++ from (beforeQ T lo hi) (late T hi))))
+
+-- one member: the gap lies outside
+unfoldable pub gapOutside : (T a b lo hi : ℕ) → Listed
+gapOutside T a b lo hi =
+    record {
+      nodes = begun T b lo ++ (tooSoon T a lo ++ (lasting T a lo hi ++ (tooLate T lo hi ++ eitherWay T a lo hi ∷ [])));
+      members = is (aNode (beforeQ T lo hi + late T hi)) ∷ [];
+    }
+
 -- The table of kinds, for T times, the durations of events, the users of a resource and the times of a group
 module _ (T : ℕ) (dur : ℕ → ℕ) (us group : ℕ → List ℕ) where
   unfoldable pub countedOf : Kind → Counted
@@ -288,6 +355,7 @@ module _ (T : ℕ) (dur : ℕ → ℕ) (us group : ℕ → List ℕ) where
   countedOf (idle r hs lo hi) = between lo hi (entries (flatMap (λ g. gaps (usesAt r (group g))) hs) ∷ [])
   countedOf (distribute e n lo hi) = between lo hi (ofLength T e n ∷ [])
   countedOf (lengths e a b) = between 0 0 (ofLengthOutside T e a b ∷ [])
+  countedOf (precedence a b lo hi) = between 0 0 (gapOutside T a b lo hi ∷ [])
 
   abbrev pub rulesOf : Kind → List Rule
   rulesOf k = map (rule (countedOf k)) (countedOf k .lists)

@@ -6,6 +6,7 @@ pub mod Cnf
 pub mod Score
 pub mod Subevents
 pub mod Idle
+pub mod Gap
 pub mod Formula
 pub mod Text
 pub mod Steps

@@ -10,7 +10,7 @@ pub const BAD_REFERENCE: u8 = 3;
 // "a counted list is longer than 255"
 pub const LIST_TOO_LONG: u8 = 4;
 // "lo > hi as written, or lo above the list's length"
-// kind 10: shortest above longest
+// kind 10: shortest above longest; kind 11: lo > hi alone
 pub const BAD_BOUNDS: u8 = 5;
 // "bytes left over"
 pub const BYTES_LEFT: u8 = 6;
@@ -38,3 +38,5 @@ pub const BAD_HINT: u8 = 16;
 pub const CLAUSE_TOO_LONG: u8 = 17;
 // "no empty clause, or bytes after it"
 pub const BAD_END: u8 = 18;
+// "if both events are one", of kind 11 (order 4); at a constraint's end, before 5
+pub const SAME_EVENT: u8 = 19;

@@ -9,7 +9,7 @@ ghost use mathlib.Core.Path.{_≡_};
 ghost use Rattle.scope.specs.Operations.{scoreOf, sameSheetOf};
 ghost use Rattle.scope.specs.Answers.{scoreMeans, sheetMeans};
 
-// Infeasibility and objective of a timetable, or refusals 1 to 6 and 10 to 12. The work is linear in file and timetable, beside one
+// Infeasibility and objective of a timetable, or refusals 1 to 6, 10 to 12 and 19. The work is linear in file and timetable, beside one
 // turn for each resource, event and time that meet and for each time that a constraint counts.
 pub fn score(file: &[u8], table: &[u8]) -> ScoreAnswer
     ensures { λ r. ⌜ scoreMeans r ≡ scoreOf (now (file .entry)) (now (table .entry)) ⌝ }
@@ -33,7 +33,7 @@ pub fn score(file: &[u8], table: &[u8]) -> ScoreAnswer
     }
 }
 
-// Whether two timetables are the same sheet, or refusals 1 to 6 and 10 to 12.
+// Whether two timetables are the same sheet, or refusals 1 to 6, 10 to 12 and 19.
 pub fn same_sheet(file: &[u8], first: &[u8], second: &[u8]) -> SheetAnswer
     ensures { λ r. ⌜ sheetMeans r ≡ sameSheetOf (now (file .entry)) (now (first .entry)) (now (second .entry)) ⌝ }
 {

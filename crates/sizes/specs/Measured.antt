@@ -23,7 +23,7 @@ use Rattle.sizes.specs.declared.sized.Measured.{Measured}
 use Rattle.sizes.specs.declared.sized.Bounded.{Bounded}
 use Rattle.sizes.specs.Whole.{Numbers}
 
--- the instance of a file, or refusals 1 to 6 and 8; with a bound, 1 to 8
+-- the instance of a file, or refusals 1 to 6, 8 and 19; with a bound 7 too
 unfoldable pub sizedOf : List ℕ → Answer Instance
 sizedOf s = with (parse s) (λ i. ofSize i (answered i))
 

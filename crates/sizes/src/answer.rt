@@ -6,7 +6,7 @@ ghost use mathlib.Core.Path.{_≡_};
 ghost use Rattle.scope.specs.Answers.{sizesMeans};
 ghost use Rattle.scope.specs.Operations.{sizesOf};
 
-// What stores the hard clauses and the tail need, or refusals 1 to 8. One list of each constraint is filled, and no clause is written.
+// What stores the hard clauses and the tail need, or refusals 1 to 8 and 19. One list of each constraint is filled, and no clause is written.
 pub fn sizes(file: &[u8], bound: u64) -> SizesAnswer
     ensures { λ r. ⌜ sizesMeans r ≡ sizesOf (now (file .entry)) bound ⌝ }
 {

@@ -18,13 +18,13 @@ ghost use Rattle.instance.specs.Stores.{Stores};
 ghost use Rattle.sizing.specs.Sums.{sum, Fits64};
 ghost use Rattle.sizes.specs.Measured.{judgedSize, judgedTotal, measuredAs, boundedAs};
 
-// The formula's size without its tail, or refusals 1 to 6 and 8.
+// The formula's size without its tail, or refusals 1 to 6, 8 and 19.
 pub enum Measured {
     Sized(Head, Size),
     Refused(Refusal),
 }
 
-// The formula's size without its tail, and with the tail for a bound; or refusals 1 to 8.
+// The formula's size without its tail, and with the tail for a bound; or refusals 1 to 8 and 19.
 pub enum Bounded {
     Sized(Head, Size, FormulaSize),
     Refused(Refusal),

@@ -46,7 +46,7 @@ pub fn text_length(
     header_size(z.variables, clauses, top) + lines
 }
 
-// How many bytes the text takes, or refusals 1 to 6 and 8.
+// How many bytes the text takes, or refusals 1 to 6, 8 and 19.
 pub fn text_size(file: &[u8]) -> TextAnswer
     ensures { λ r. ⌜ textMeans r ≡ textSizeOf (now (file .entry)) ⌝ }
 {

@@ -91,7 +91,7 @@ fn fit_text(
     })
 }
 
-// The text in the first bytes of the output, or refusals 1 to 6, 8 and 9, with no byte changed.
+// The text in the first bytes of the output, or refusals 1 to 6, 8, 9 and 19, with no byte changed.
 pub fn text(file: &[u8], out: &mut [u8]) -> TextAnswer
     ensures { λ r. ⌜ (textMeans r, now (out .exit)) ≡ written (textOf (now (file .entry)) (length (now (out .entry)))) (now (out .entry)) ⌝ }
 {

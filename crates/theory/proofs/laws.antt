@@ -14,13 +14,17 @@ pub mod Bounds
 pub mod Nodes
 pub mod TimeByTime
 pub mod ReachLists
+pub mod GapLists
 pub mod Values
+pub mod Chains
 pub mod Entries
 pub mod Lowered
 pub mod Runs
 pub mod StartNodes
 pub mod Subevents
 pub mod Held
+pub mod FirstLast
+pub mod Gap
 pub mod IdleWalk
 pub mod Words
 pub mod LengthLists

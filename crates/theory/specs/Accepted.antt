@@ -6,7 +6,7 @@ use Prim.Native.Nat.{ℕ, _-_, _≤_}
 use lib.ListN.{length}
 use Rattle.laws.specs.Lists.{All}
 use Rattle.scope.specs.Kinds.{Event, Kind, Constraint, Counted, durationOf, users, groupAt, countedOf, longest}
-use Rattle.scope.specs.Instance.{Instance, countsOf, ordered}
+use Rattle.scope.specs.Instance.{Instance, countsOf, distinct, ordered}
 use Rattle.parsing.specs.Numbers.{Ascending}
 pub use Rattle.parsing.specs.Valid.{Within, InRange}
 
@@ -21,7 +21,8 @@ counted T es gs k = countedOf T (durationOf es) (λ r. users r es) (groupAt gs) 
 pub record ValidConstraint (T R : ℕ) (es : List Event) (gs : List (List ℕ)) (c : Constraint) : Type 0 where
   pub weight : Within 0 1000 (c .weight)
   pub fields : InRange (countsOf T R es gs) (c .kind)
-  -- of kind 10: its shortest length is at most its longest
+  -- of kind 11: its events are two; of kind 10: its shortest length is at most its longest; of kind 11: its lo is at most its hi
+  pub distinct : distinct (c .kind) ≡ true
   pub ordered : ordered (c .kind) ≡ true
   -- its counted lists have up to 255 members, its lo is at most its hi as written and at most their length
   pub lists : longest (counted T es gs (c .kind) .lists) ≤ 255

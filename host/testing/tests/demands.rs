@@ -4,7 +4,7 @@
 mod support;
 
 use support::both::{check, decode, score, sizes};
-use support::models::{assignments, feasible_cost, Models};
+use support::models::{assignments, feasible_cost, timetables, Models};
 use testing::forgeries::forgeries;
 use testing::generate::{
     damaged_bytes, damaged_numbers, encode, instance, model, model_with_tail, proof, Random, Shape,
@@ -67,41 +67,9 @@ fn drawn(seed: u64, shapes: &[Shape]) -> (Random, Instance) {
     (random, instance)
 }
 
-/// All timetables: the products of each event's rows.
-fn timetables(instance: &Instance) -> Vec<Vec<u8>> {
-    let times = instance.times;
-    let rows = |duration: usize| -> Vec<(u32, u32)> {
-        let mut rows = Vec::new();
-        for taken in (0..1u32 << times).filter(|y| y.count_ones() as usize == duration) {
-            let begins = taken & !(taken << 1);
-            let starts = (0..1u32 << times).filter(|s| s & !taken == 0 && begins & !s == 0);
-            rows.extend(starts.map(|starts| (taken, starts)));
-        }
-        rows
-    };
-    let mut sheets: Vec<Vec<(u32, u32)>> = vec![Vec::new()];
-    for event in &instance.events {
-        let rows = rows(event.duration);
-        let longer = |sheet: &Vec<(u32, u32)>| -> Vec<Vec<(u32, u32)>> {
-            let longer = rows.iter().map(|&row| [&sheet[..], &[row]].concat());
-            longer.collect()
-        };
-        sheets = sheets.iter().flat_map(longer).collect();
-    }
-    let bits = |row: u32| (0..times).map(move |time| (row >> time & 1) as u8);
-    sheets
-        .iter()
-        .map(|sheet| {
-            let taken = sheet.iter().flat_map(|&(taken, _)| bits(taken));
-            let starts = sheet.iter().flat_map(|&(_, starts)| bits(starts));
-            taken.chain(starts).collect()
-        })
-        .collect()
-}
-
 /// For each kind, hard then soft, how often it was drawn.
 #[derive(Default)]
-struct Drawn([[usize; 2]; 10]);
+struct Drawn([[usize; 2]; 11]);
 
 impl Drawn {
     fn count(&mut self, instance: &Instance) {
@@ -117,6 +85,7 @@ impl Drawn {
                 Kind::Idle { .. } => 7,
                 Kind::Distribute { .. } => 8,
                 Kind::Lengths { .. } => 9,
+                Kind::Precedence { .. } => 10,
             };
             self.0[kind][usize::from(constraint.weight > 0)] += 1;
         }

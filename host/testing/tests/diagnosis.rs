@@ -92,7 +92,7 @@ fn of_instances() {
         engine::text(&large),
         &inputs(&large, None, &large, Sort::Instance),
     );
-    met.all(&[1, 2, 3, 4, 5, 6, 8]);
+    met.all(&[1, 2, 3, 4, 5, 6, 8, 19]);
 }
 
 #[test]

@@ -14,11 +14,11 @@ use std::time::{Duration, Instant};
 use support::both::{
     best, check, check_hard, decode, read, same_sheet, score, sizes, text, text_size,
 };
-use support::{long_list, oversized};
+use support::{long_list, oversized, same_event};
 use testing::forgeries::forgeries;
 use testing::generate::{
     damaged_bytes, damaged_instance, damaged_numbers, damaged_table, encode, instance, lent, model,
-    proof, school_with_lengths, timetable, Random, Shape,
+    proof, school_of_every_kind, timetable, Random, Shape,
 };
 use testing::prover::{clause_list, solve, Verdict};
 use testing::reference::{self, Instance, Refusal, Sizes};
@@ -37,7 +37,7 @@ fn files_are_read_alike() {
         let file = any_file(random);
         number_of(read(&file))
     });
-    assert_eq!(seen, [0, 1, 2, 3, 4, 5, 6]);
+    assert_eq!(seen, [0, 1, 2, 3, 4, 5, 6, 19]);
 }
 
 #[test]
@@ -51,7 +51,7 @@ fn formulas_are_sized_alike() {
         let bound = any_bound(random);
         number_of(sizes(&file, Some(bound)))
     });
-    assert_eq!(seen, [0, 1, 2, 3, 4, 5, 6, 7, 8]);
+    assert_eq!(seen, [0, 1, 2, 3, 4, 5, 6, 7, 8, 19]);
 }
 
 #[test]
@@ -61,7 +61,7 @@ fn timetables_are_scored_alike() {
         let table = any_table(random, &instance);
         number_of(score(&file, &table))
     });
-    assert_eq!(seen, [0, 1, 2, 3, 4, 5, 6, 10, 11, 12]);
+    assert_eq!(seen, [0, 1, 2, 3, 4, 5, 6, 10, 11, 12, 19]);
 }
 
 #[test]
@@ -76,7 +76,7 @@ fn timetables_are_compared_alike() {
         };
         number_of(same_sheet(&file, &first, &second))
     });
-    assert_eq!(seen, [0, 1, 2, 3, 4, 5, 6, 10, 11, 12]);
+    assert_eq!(seen, [0, 1, 2, 3, 4, 5, 6, 10, 11, 12, 19]);
 }
 
 #[test]
@@ -92,7 +92,7 @@ fn texts_are_written_alike() {
         }
         number_of(answer)
     });
-    assert_eq!(seen, [0, 1, 2, 3, 4, 5, 6, 8, 9]);
+    assert_eq!(seen, [0, 1, 2, 3, 4, 5, 6, 8, 9, 19]);
 }
 
 #[test]
@@ -108,7 +108,7 @@ fn models_are_decoded_alike() {
         assert_eq!(engine::decode(&file, &model), answer);
         number_of(answer)
     });
-    assert_eq!(seen, [0, 1, 2, 3, 4, 5, 6, 8, 10, 11, 13]);
+    assert_eq!(seen, [0, 1, 2, 3, 4, 5, 6, 8, 10, 11, 13, 19]);
 }
 
 #[test]
@@ -122,7 +122,8 @@ fn proofs_are_checked_alike() {
         let file = match random.below(100) {
             0 => oversized(),
             1 => long_list(),
-            2..=5 => any_file(random),
+            2 => same_event(),
+            3..=6 => any_file(random),
             _ => any_file_of(random, &instance),
         };
         let Ok(sizes) = Sizes::of(&instance, Some(bound)) else {
@@ -141,7 +142,7 @@ fn proofs_are_checked_alike() {
         let [words, rows, bytes] = scant_for(random, sizes, &proof);
         number_of(check(&file, bound, &proof, words, rows, bytes))
     });
-    assert_eq!(seen, [0, 1, 2, 3, 4, 5, 6, 7, 8, 9, 14, 15, 16, 17, 18]);
+    assert_eq!(seen, [0, 1, 2, 3, 4, 5, 6, 7, 8, 9, 14, 15, 16, 17, 18, 19]);
 }
 
 #[test]
@@ -158,7 +159,8 @@ fn proofs_without_the_tail_are_checked_alike() {
         let file = match random.below(100) {
             0 => oversized(),
             1 => long_list(),
-            2..=5 => any_file(random),
+            2 => same_event(),
+            3..=6 => any_file(random),
             _ => any_file_of(random, &instance),
         };
         let sizes = Sizes::of(&instance, None).expect("a small formula");
@@ -172,7 +174,7 @@ fn proofs_without_the_tail_are_checked_alike() {
             _ => number_of(check_hard(&file, &proof, scant_for(random, sizes, &proof))),
         }
     });
-    assert_eq!(seen, [0, 1, 2, 3, 4, 5, 6, 8, 9, 14, 15, 16, 17, 18]);
+    assert_eq!(seen, [0, 1, 2, 3, 4, 5, 6, 8, 9, 14, 15, 16, 17, 18, 19]);
 }
 
 #[test]
@@ -191,7 +193,8 @@ fn best_models_are_found_alike() {
         let file = match random.below(100) {
             0 => oversized(),
             1 => long_list(),
-            2..=5 => any_file(random),
+            2 => same_event(),
+            3..=6 => any_file(random),
             _ => any_file_of(random, &instance),
         };
         let model = model(&instance, &timetable(random, &instance));
@@ -225,7 +228,7 @@ fn best_models_are_found_alike() {
     });
     assert_eq!(
         seen,
-        [0, 1, 2, 3, 4, 5, 6, 7, 8, 9, 10, 11, 13, 14, 15, 16, 17, 18]
+        [0, 1, 2, 3, 4, 5, 6, 7, 8, 9, 10, 11, 13, 14, 15, 16, 17, 18, 19]
     );
 }
 
@@ -233,7 +236,7 @@ fn best_models_are_found_alike() {
 fn large_timetables_are_scored_alike() {
     for events in [400, 1_024] {
         let mut random = Random::new(first_seed());
-        let instance = school_with_lengths(&mut random, events);
+        let instance = school_of_every_kind(&mut random, events);
         let file = encode(&instance);
         for _ in 0..20 {
             let table = timetable(&mut random, &instance);
@@ -426,6 +429,7 @@ fn any_formula(random: &mut Random) -> (Vec<u8>, Instance) {
     let file = match random.below(100) {
         0 => oversized(),
         1 => long_list(),
+        2 => same_event(),
         _ => any_file_of(random, &instance),
     };
     (file, instance)

@@ -211,6 +211,109 @@ fn clauses_of_doubles() {
     assert_eq!(all[all.len() - 2..], [vec![26], vec![-27]]);
 }
 
+/// "A theory lesson comes before its laboratory", at weight 1: a gap of 0 to 0 in three
+/// times, then 0 to 124 in four where the first event has two times.
+#[test]
+fn one_lesson_before_another() {
+    let file = numbers(&[3, 2, 0, 1, 0, 1, 0, 0, 1, 11, 1, 1, 2, 0, 0]);
+    let at = |taken: &str| score(&file, &hex(&format!("{taken} {taken}")));
+    assert_eq!(at("01 00 00 00 01 00"), scored(0, 0));
+    assert_eq!(at("01 00 00 00 00 01"), scored(0, 1));
+    assert_eq!(at("00 01 00 01 00 00"), scored(0, 1));
+    let file = numbers(&[4, 2, 0, 2, 0, 1, 0, 0, 1, 11, 1, 1, 2, 0, 124]);
+    let at = |taken: &str| score(&file, &hex(&format!("{taken} {taken}")));
+    assert_eq!(at("01 00 01 00 00 01 00 00"), scored(0, 1));
+    assert_eq!(at("01 00 01 00 00 00 00 01"), scored(0, 0));
+}
+
+/// A precedence of the events 1 and 2 at one time.
+#[test]
+fn refusals_of_precedence() {
+    let with = |fields: [u32; 4]| {
+        let start = [1, 2, 0, 1, 0, 1, 0, 0, 1, 11, 0];
+        read(&numbers(&[&start[..], &fields].concat())).map(|_| ())
+    };
+    assert_eq!(with([1, 1, 1, 0]), refused(19, 9));
+    assert_eq!(with([1, 1, 125, 0]), refused(2, 13));
+    assert_eq!(with([1, 2, 1, 0]), refused(5, 9));
+    assert_eq!(with([1, 2, 0, 125]), refused(2, 14));
+    assert_eq!(with([2, 1, 124, 124]), Ok(()));
+}
+
+/// The clauses that a hard kind 11 adds where both events have duration 1: in four times
+/// for 0 to 0, in three for 1 to 1, in two for 1 to 1. Y of the first event comes first.
+#[test]
+fn clauses_of_precedence() {
+    let added = |times: u32, lo: u32, hi: u32| {
+        let start = [times, 2, 0, 1, 0, 1, 0, 0];
+        let constraint = [1, 11, 0, 1, 2, lo, hi];
+        let all = clauses(&numbers(&[&start[..], &constraint].concat()), None);
+        let without = clauses(&numbers(&[&start[..], &[0]].concat()), None);
+        all[without.len()..].to_vec()
+    };
+    let all_gates: [&[i64]; 36] = [
+        &[-5, 33],
+        &[5, -33],
+        &[-6, 34],
+        &[-33, 34],
+        &[6, 33, -34],
+        &[-7, 35],
+        &[-34, 35],
+        &[7, 34, -35],
+        &[2, -36],
+        &[34, -36],
+        &[-2, -34, 36],
+        &[3, -37],
+        &[35, -37],
+        &[-3, -35, 37],
+        &[-3, 38],
+        &[-4, 38],
+        &[3, 4, -38],
+        &[-2, 39],
+        &[-38, 39],
+        &[2, 38, -39],
+        &[-34, -40],
+        &[-39, -40],
+        &[34, 39, 40],
+        &[-35, -41],
+        &[-38, -41],
+        &[35, 38, 41],
+        &[-4, 42],
+        &[-33, 42],
+        &[-36, 42],
+        &[-37, 42],
+        &[-40, 42],
+        &[-41, 42],
+        &[4, 33, 36, 37, 40, 41, -42],
+        &[-42, 43],
+        &[42, -43],
+        &[-43],
+    ];
+    assert_eq!(added(4, 0, 0), all_gates);
+    let one_start: [&[i64]; 10] = [
+        &[-4, 25],
+        &[-5, 25],
+        &[4, 5, -25],
+        &[-2, 26],
+        &[-3, 26],
+        &[-25, 26],
+        &[2, 3, 25, -26],
+        &[-26, 27],
+        &[26, -27],
+        &[-27],
+    ];
+    assert_eq!(added(3, 1, 1), one_start);
+    let no_start: [&[i64]; 6] = [
+        &[-1, 17],
+        &[-2, 17],
+        &[1, 2, -17],
+        &[-17, 18],
+        &[17, -18],
+        &[-18],
+    ];
+    assert_eq!(added(2, 1, 1), no_start);
+}
+
 /// A soft split counts the starts 1, 0, 1.
 #[test]
 fn last_row_of_a_counter() {

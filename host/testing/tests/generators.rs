@@ -9,7 +9,9 @@ use testing::generate::{
     damaged_instance, damaged_numbers, damaged_table, encode, instance, lent, model, number_starts,
     proof, timetable, Random, Shape,
 };
-use testing::reference::{Constraint, Infeasibility, Instance, Kind, Refusal, Sheet};
+use testing::reference::{
+    Constraint, Infeasibility, Instance, Kind, Range, Refusal, Sheet, LARGEST_GAP,
+};
 
 /// How often each refusal was given; 0 stands for acceptance.
 #[derive(Default, Debug)]
@@ -170,7 +172,7 @@ fn crossings(instance: &Instance, event: usize, group: usize, table: &[u8]) -> V
 fn preferred_times_of_every_sort_are_drawn() {
     let mut lists: BTreeMap<(usize, &str, bool), usize> = BTreeMap::new();
     let mut seen: BTreeMap<&str, usize> = BTreeMap::new();
-    for seed in 0..6_000 {
+    for seed in 0..8_000 {
         let mut random = Random::new(seed);
         let instance = instance(&mut random, &shape(seed));
         let table = timetable(&mut random, &instance);
@@ -197,7 +199,7 @@ fn preferred_times_of_every_sort_are_drawn() {
             }
         }
     }
-    println!("seeds 0..6_000: {lists:?}, {seen:?}");
+    println!("seeds 0..8_000: {lists:?}, {seen:?}");
     assert_eq!((lists.len(), seen.len()), (4 * 4 * 2, 7));
     let mut counts = lists.values().chain(seen.values());
     assert!(counts.all(|&count| count >= 20));
@@ -233,6 +235,130 @@ fn damaged_lengths_are_refused() {
     }
 }
 
+/// How many of the gates F or G a gap has.
+fn none_one_or_more(gates: usize) -> &'static str {
+    match gates {
+        0 => "none",
+        1 => "one",
+        _ => "more",
+    }
+}
+
+/// What a timetable says of two events, and what their fields are.
+fn cases_of_gaps(
+    instance: &Instance,
+    [first, second]: [usize; 2],
+    gap: Range,
+    table: &[u8],
+) -> Vec<&'static str> {
+    let sheet = Sheet::read(instance, table).expect("a timetable");
+    let between = sheet.gap(first, second);
+    let mut cases = vec![match between {
+        ..=-2 => "negative, by more than 1",
+        -1 => "negative, by 1",
+        _ if between < i64::from(gap.lo) => "below lo",
+        _ if between > i64::from(gap.hi) => "above hi",
+        _ => "inside",
+    }];
+    cases.extend((gap.lo == gap.hi).then_some("lo is hi"));
+    cases.extend((gap.hi == LARGEST_GAP).then_some("the largest hi"));
+    cases.extend((gap.lo == LARGEST_GAP).then_some("the largest lo"));
+    cases.extend((instance.times == 1).then_some("T = 1"));
+    // The end of one subevent of the first event, or the start of one of the second,
+    // would say something else.
+    let several = |event| sheet.starts_of(event).count() > 1;
+    cases.extend(several(first).then_some("several subevents first"));
+    cases.extend(several(second).then_some("several subevents second"));
+    let allowed = i64::from(gap.lo)..=i64::from(gap.hi);
+    let ends = sheet.starts_of(first);
+    let ends = ends.map(|start| (start + sheet.length_from(first, start)) as i64);
+    let starts: Vec<i64> = sheet.starts_of(second).map(|start| start as i64).collect();
+    let other = ends.flat_map(|end| starts.iter().map(move |start| start - end));
+    let differs = |gap: i64| allowed.contains(&gap) != allowed.contains(&between);
+    cases.extend(other.into_iter().any(differs).then_some("another subevent"));
+    cases
+}
+
+/// Kind 11, hard and soft, in both orders of the events, with none, one and more of F
+/// and of G; what can be asked of gaps, and each sort of gap.
+#[test]
+fn gaps_of_every_sort_are_drawn() {
+    let mut lists: BTreeMap<(&str, &str, bool, bool), usize> = BTreeMap::new();
+    let mut seen: BTreeMap<&str, usize> = BTreeMap::new();
+    for seed in 0..6_000 {
+        let mut random = Random::new(seed);
+        let instance = instance(&mut random, &shape(seed));
+        let table = timetable(&mut random, &instance);
+        for constraint in &instance.constraints {
+            let Kind::Precedence { first, second, gap } = constraint.kind else {
+                continue;
+            };
+            let early = instance.times.saturating_sub(1 + gap.lo as usize);
+            let late = instance.times.saturating_sub(2 + gap.hi as usize);
+            let list = (
+                none_one_or_more(early),
+                none_one_or_more(late),
+                first < second,
+                constraint.weight == 0,
+            );
+            *lists.entry(list).or_default() += 1;
+            for case in cases_of_gaps(&instance, [first, second], gap, &table) {
+                *seen.entry(case).or_default() += 1;
+            }
+        }
+    }
+    println!("seeds 0..6_000: {lists:?}, {seen:?}");
+    // Without F there is no G, and with one F neither.
+    assert_eq!((lists.len(), seen.len()), (5 * 2 * 2, 12));
+    let mut counts = lists.values().chain(seen.values());
+    assert!(counts.all(|&count| count >= 20));
+}
+
+/// The refusals of damaged fields of kind 11: two events that are one are 19, with lo
+/// above hi too, but 2 where a bound is above its limit.
+#[test]
+fn damaged_gaps_are_refused() {
+    let mut seen: BTreeMap<(u32, &str), usize> = BTreeMap::new();
+    for seed in 0..20_000 {
+        let mut random = Random::new(seed);
+        let mut whole = instance(&mut random, &shape(seed));
+        let of_gaps = |constraint: &Constraint| matches!(constraint.kind, Kind::Precedence { .. });
+        whole.constraints.retain(of_gaps);
+        let damaged = damaged_instance(&mut random, &whole);
+        let mut changed = whole.constraints.iter().zip(&damaged.constraints);
+        let Some((_, now)) = changed.find(|(was, is)| was != is) else {
+            continue;
+        };
+        let Kind::Precedence { first, second, gap } = now.kind else {
+            continue;
+        };
+        let fields = match (first == second, gap.lo > gap.hi) {
+            (true, true) => "one event, lo above hi",
+            (true, false) => "one event",
+            (false, true) => "lo above hi",
+            (false, false) => "other",
+        };
+        if let Err(refusal) = read(&encode(&damaged)) {
+            *seen.entry((refusal.number, fields)).or_default() += 1;
+        }
+    }
+    println!("seeds 0..20_000: {seen:?}");
+    for case in [
+        (2, "one event, lo above hi"),
+        (2, "other"),
+        (3, "other"),
+        (5, "lo above hi"),
+        (19, "one event"),
+        (19, "one event, lo above hi"),
+    ] {
+        assert!(
+            seen.get(&case).is_some_and(|&count| count >= 20),
+            "{case:?}"
+        );
+    }
+    assert!(!seen.contains_key(&(5, "one event, lo above hi")));
+}
+
 #[test]
 fn timetables_are_accepted_and_models_decode_to_their_score() {
     let mut kept = 0;
@@ -264,7 +390,7 @@ fn timetables_are_accepted_and_models_decode_to_their_score() {
 }
 
 #[test]
-fn damaged_files_reach_refusals_1_to_6() {
+fn damaged_files_reach_refusals_1_to_6_and_19() {
     let mut seen = Seen::default();
     let long_lists = Shape {
         times: 100..=125,
@@ -303,7 +429,7 @@ fn damaged_files_reach_refusals_1_to_6() {
         }
     }
     println!("seeds 0..2_000: {seen:?}");
-    for number in 0..=6 {
+    for number in (0..=6).chain([19]) {
         assert!(seen.times(number) >= 20, "refusal {number}");
     }
 }

@@ -44,8 +44,16 @@ fn event_of(kind: &Kind) -> usize {
     }
 }
 
+/// The first and the second event of a constraint of kind 11.
+fn pair_of(kind: &Kind) -> [usize; 2] {
+    match *kind {
+        Kind::Precedence { first, second, .. } => [first, second],
+        _ => panic!("no other kind has a gap"),
+    }
+}
+
 /// The variables of the clauses that are easy to name: those of starts, uses,
-/// times that go on or are held, lengths, and the last column of a counter.
+/// times that go on or are held, lengths, gaps, and the last column of a counter.
 #[test]
 fn its_clauses_are_those_of_the_formula() {
     let mut named = 0;
@@ -94,6 +102,24 @@ fn its_clauses_are_those_of_the_formula() {
                     },
                 ) if found.place == (longer + shorter) as u64 + 3 => {
                     y(events + event_of(&typed.constraints[index].kind), time)
+                }
+                (Owner::Constraint { index }, Purpose::Begun { time, inputs })
+                    if found.place == inputs as u64 =>
+                {
+                    y(pair_of(&typed.constraints[index].kind)[1], time)
+                }
+                (Owner::Constraint { index }, Purpose::TooSoon { time }) if found.place != 1 => {
+                    y(pair_of(&typed.constraints[index].kind)[0], time)
+                }
+                (Owner::Constraint { index }, Purpose::Lasting { time, inputs })
+                    if found.place == inputs as u64 =>
+                {
+                    y(pair_of(&typed.constraints[index].kind)[0], time + 1)
+                }
+                (Owner::Constraint { index }, Purpose::GapOutside { inputs })
+                    if found.place == inputs as u64 =>
+                {
+                    y(pair_of(&typed.constraints[index].kind)[0], times - 1)
                 }
                 (_, Purpose::AtLeast { .. } | Purpose::AtMost { .. }) => {
                     assert_eq!(variables.len(), 1, "a bound is a unit");
@@ -200,6 +226,42 @@ fn the_clauses_of_lengths_are_told() {
         } else {
             says("the number of the event's subevents of a length outside is above 0");
         }
+    }
+    assert_eq!(said, wanted);
+}
+
+/// Kind 11, hard: four times, two events of duration 1, a gap of 0 to 0, then one of 1
+/// to 124 with the second event first.
+#[test]
+fn the_clauses_of_gaps_are_told() {
+    let said = told("04 02 00 01 00 01 00 00 02 0B 00 01 02 00 00 0B 00 02 01 01 7C");
+    let mut wanted = Vec::new();
+    for (number, begun, soon, ended) in [(1, 1..4, 2..4, 1..3), (2, 2..4, 2..3, 1..1)] {
+        let start = format!("block 4, constraint {number}, kind precedence:");
+        let mut wrong = |words: String| wanted.push(format!("{start} {words} has a wrong value"));
+        for time in begun {
+            wrong(format!(
+                "the variable for a second event that has begun by time {time}"
+            ));
+        }
+        for time in soon {
+            wrong(format!(
+                "the variable for a second event too soon after time {time} of the first"
+            ));
+        }
+        for time in ended.clone().rev() {
+            wrong(format!(
+                "the variable for a first event that goes on after time {time}"
+            ));
+        }
+        for time in ended {
+            wrong(format!(
+                "the variable for a second event too late after a first that ends by time {time}"
+            ));
+        }
+        wrong("the variable for a gap outside".to_string());
+        let above = "the number of gaps outside between the two events is above 0";
+        wanted.push(format!("{start} {above}"));
     }
     assert_eq!(said, wanted);
 }

@@ -198,8 +198,8 @@ mod reader {
         assert_eq!(read_of("01 80"), refused(1, 1));
         assert_eq!(read_of("80 80 80 80 10"), refused(1, 0));
         assert_eq!(read_of("FF FF FF FF 0F"), refused(2, 0));
-        // kind 11 before the weight is asked for
-        assert_eq!(read_of("01 01 00 01 00 00 01 0B"), refused(2, 7));
+        // kind 12 before the weight is asked for
+        assert_eq!(read_of("01 01 00 01 00 00 01 0C"), refused(2, 7));
     }
 
     /// Decision 11: Empty groups and lists, equal groups and equal constraints are accepted.
@@ -496,6 +496,120 @@ mod lengths {
         assert_eq!(gates("09 00 01 02 00 00"), 4);
         assert_eq!(gates("0A 00 01 01 01"), 4);
         assert_eq!(gates("0A 00 01 02 02"), 8);
+    }
+}
+
+mod precedence {
+    use super::*;
+
+    /// One time and two events of duration 1, before a constraint.
+    const START: &str = "01 02 00 01 00 01 00 00 01";
+
+    fn read_with(constraint: &str) -> Result<Summary, Refusal> {
+        read_of(&format!("{START} {constraint}"))
+    }
+
+    /// Decision 79: Two events that are one are 19 at the constraint's end: after 1, 2
+    /// and 3 of all four fields, before 5.
+    #[test]
+    fn one_event_twice_is_19_with_the_kind() {
+        assert_eq!(read_with("0B 00 01 01 01 00"), refused(19, 9));
+        assert_eq!(read_with("0B 00 01 01 00 00"), refused(19, 9));
+        assert_eq!(read_with("0B 00 01 01 7D 00"), refused(2, 13));
+        assert_eq!(read_with("0B 00 01 01 00 7D"), refused(2, 14));
+        assert_eq!(read_with("0B 00 01 01 00"), refused(1, 14));
+        assert_eq!(read_with("0B 00 01 03 00 00"), refused(3, 12));
+        assert_eq!(read_with("0B 00 01 01 00 00 00"), refused(19, 9));
+    }
+
+    /// Decision 80: 5 is given for lo above hi as written alone, hi is not lowered.
+    #[test]
+    fn only_crossed_bounds_are_5() {
+        assert_eq!(read_with("0B 00 01 02 01 00"), refused(5, 9));
+        assert!(read_with("0B 00 02 01 7C 7C").is_ok());
+        assert!(read_with("0B 00 01 02 02 02").is_ok());
+        assert!(read_with("0B 00 01 02 00 7C").is_ok());
+        // Five times, a gap of 3, 0 to 3, then 0 to 2.
+        let file = |hi| format!("05 02 00 01 00 01 00 00 01 0B 01 01 02 00 {hi}");
+        let table = hex("01 00 00 00 00 00 00 00 00 01 01 00 00 00 00 00 00 00 00 01");
+        assert_eq!(score(&hex(&file("03")), &table), scored(0, 0));
+        assert_eq!(score(&hex(&file("02")), &table), scored(0, 1));
+    }
+
+    /// Decision 81: First and last time are those of the whole events.
+    #[test]
+    fn a_gap_is_between_whole_events() {
+        let file = hex("04 02 00 02 00 01 00 00 01 0B 01 01 02 00 7C");
+        let at_2 = hex("01 00 01 00 00 01 00 00 01 00 01 00 00 01 00 00");
+        assert_eq!(score(&file, &at_2), scored(0, 1));
+        let at_4 = hex("01 00 01 00 00 00 00 01 01 00 01 00 00 00 00 01");
+        assert_eq!(score(&file, &at_4), scored(0, 0));
+        // The other way round the second event has two subevents: 1 and 3, then 2 and 4,
+        // after an event at 2, then at 1.
+        let file = hex("04 02 00 02 00 01 00 00 01 0B 01 02 01 00 7C");
+        assert_eq!(score(&file, &at_2), scored(0, 1));
+        let at_1 = hex("00 01 00 01 01 00 00 00 00 01 00 01 01 00 00 00");
+        assert_eq!(score(&file, &at_1), scored(0, 0));
+    }
+
+    /// Decision 82: It deviates by 1 at most, however far the gap is outside, and always
+    /// if it is negative; the events stand in any order.
+    #[test]
+    fn a_gap_deviates_by_1_at_most() {
+        let file = hex(&format!("{START} 0B 01 01 02 00 7C"));
+        assert_eq!(score(&file, &[1, 1, 1, 1]), scored(0, 1));
+        // Four times, the events at 1 and 4: the gap is 2, and -4 the other way round.
+        let table = hex("01 00 00 00 00 00 00 01 01 00 00 00 00 00 00 01");
+        let with = |constraint: &str| {
+            let file = format!("04 02 00 01 00 01 00 00 01 {constraint}");
+            score(&hex(&file), &table)
+        };
+        assert_eq!(with("0B 05 01 02 02 02"), scored(0, 0));
+        assert_eq!(with("0B 05 01 02 00 00"), scored(0, 5));
+        assert_eq!(with("0B 05 01 02 7C 7C"), scored(0, 5));
+        assert_eq!(with("0B 05 02 01 00 7C"), scored(0, 5));
+        assert_eq!(with("0B 00 02 01 00 7C"), scored(1, 0));
+    }
+
+    /// Decision 83: The list has one member, 0 to 0: a counter of one cell, one unit.
+    #[test]
+    fn the_list_has_one_member() {
+        let sizes_with = |rest: &str| {
+            let file = hex(&format!("01 02 00 01 00 01 00 00 {rest}"));
+            let sizes = sizes(&file, None).unwrap();
+            [sizes.variables, sizes.clauses, sizes.words, sizes.soft]
+        };
+        let before = sizes_with("00");
+        let added = |rest| {
+            let after = sizes_with(rest);
+            [0, 1, 2, 3].map(|at| after[at] - before[at])
+        };
+        // At one time O is the OR of Y alone.
+        assert_eq!(added("01 0B 00 01 02 00 7C"), [1 + 1, 2 + 3, 4 + 5, 0]);
+        assert_eq!(added("01 0B 07 01 02 00 7C"), [1 + 1, 2 + 2, 4 + 4, 1]);
+    }
+
+    /// Decision 84: O is the OR of all Y of the first event where no last time of it
+    /// leaves room; the gates F, P, G and Q are there only where they can be true or false.
+    #[test]
+    fn gates_follow_from_the_bounds() {
+        let gates = |times, lo, hi| {
+            let start = [times, 2, 0, 1, 0, 1, 0, 0];
+            let variables = |rest: &[u32]| {
+                let file = numbers(&[&start[..], rest].concat());
+                sizes(&file, None).unwrap().variables
+            };
+            variables(&[1, 11, 0, 1, 2, lo, hi]) - variables(&[0]) - 1
+        };
+        assert_eq!(gates(1, 0, 0), 1);
+        assert_eq!(gates(4, 3, 3), 1);
+        assert_eq!(gates(4, 124, 124), 1);
+        assert_eq!(gates(4, 2, 2), 2);
+        assert_eq!(gates(4, 0, 2), 2 * 3);
+        assert_eq!(gates(4, 0, 1), 2 * 3 + 2);
+        assert_eq!(gates(4, 0, 0), 2 * 3 + 2 * 2);
+        assert_eq!(gates(125, 0, 0), 2 * 124 + 2 * 123);
+        assert_eq!(gates(125, 0, 124), 2 * 124);
     }
 }
 

@@ -2,7 +2,7 @@
 //! same bytes and names, whatever the names are.
 
 use std::collections::HashSet;
-use testing::generate::{encode, instance, school_with_lengths, Random, Shape};
+use testing::generate::{encode, instance, school_of_every_kind, Random, Shape};
 use timetable::instance::{read, write, Counts};
 use timetable::school::{
     parse, print, read_names, write_names, Day, Names, Resource, ResourceSort, School,
@@ -29,7 +29,7 @@ fn comes_back(file: &[u8], names: Option<Names>, case: &str) {
 
 fn file(random: &mut Random) -> Vec<u8> {
     match random.below(20) {
-        0 => encode(&school_with_lengths(random, 40)),
+        0 => encode(&school_of_every_kind(random, 40)),
         1 => encode(&instance(random, &Shape::school())),
         2..=10 => encode(&instance(random, &Shape::tiny())),
         _ => encode(&instance(random, &Shape::small())),

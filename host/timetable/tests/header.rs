@@ -100,6 +100,7 @@ fn the_macros_are_the_limits() {
             "LARGEST_BOUND_OF_COUNT",
             u64::from(instance::LARGEST_BOUND_OF_COUNT),
         ),
+        ("LARGEST_GAP", u64::from(instance::LARGEST_GAP)),
         ("LONGEST_LIST", instance::LONGEST_LIST as u64),
         ("LARGEST_BOUND", LARGEST_BOUND),
         ("MOST_VARIABLES", MOST_VARIABLES),

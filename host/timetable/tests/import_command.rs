@@ -10,9 +10,11 @@ const WEEK_FET: &str = include_str!("import/week.fet");
 const WEEK_XML: &str = include_str!("import/week.xml");
 
 /// A rule without a counterpart.
-const ORDER: &str = "<ConstraintTwoActivitiesOrdered><Weight_Percentage>100</Weight_Percentage>\
+const ORDER: &str = "<ConstraintTwoActivitiesOrderedIfSameDay>\
+                     <Weight_Percentage>100</Weight_Percentage>\
                      <First_Activity_Id>1</First_Activity_Id>\
-                     <Second_Activity_Id>2</Second_Activity_Id></ConstraintTwoActivitiesOrdered>";
+                     <Second_Activity_Id>2</Second_Activity_Id>\
+                     </ConstraintTwoActivitiesOrderedIfSameDay>";
 
 #[test]
 fn a_fet_school_is_written_with_its_names() {
@@ -74,8 +76,8 @@ fn a_timetable_of_fet_is_priced() {
 fn what_has_no_counterpart_is_refused_by_default() {
     let text = WEEK_FET.replace("<!-- time rules -->", ORDER);
     let school = file("ordered.fet", text.as_bytes());
-    let told = "ordered.fet:44: dropped: ConstraintTwoActivitiesOrdered (1, 2): the engine has no \
-                counterpart for it\n";
+    let told = "ordered.fet:44: dropped: ConstraintTwoActivitiesOrderedIfSameDay (1, 2): the \
+                engine has no counterpart for it\n";
     let refused = run(&["import", "fet", &school, "-o", "never-written"]);
     assert_eq!((refused.status, refused.printed.as_str()), (1, ""));
     let first = "timetable import: 1 items have no exact counterpart; '--drop' leaves them out\n";

@@ -311,6 +311,90 @@ fn activities_together() {
     judge(&school(&wish, ""), |starts| starts[0] == starts[3], false);
 }
 
+fn pair(first: usize, second: usize) -> String {
+    format!(
+        "<First_Activity_Id>{first}</First_Activity_Id>\
+         <Second_Activity_Id>{second}</Second_Activity_Id>"
+    )
+}
+
+/// The second is later in the week, on the same day or on another.
+#[test]
+fn activities_in_order() {
+    judge_both("TwoActivitiesOrdered", &pair(3, 4), |starts| {
+        starts[2] + 1 < starts[3]
+    });
+    judge_both("TwoActivitiesOrdered", &pair(4, 3), |starts| {
+        starts[3] < starts[2]
+    });
+    judge_both("TwoActivitiesOrdered", &pair(2, 1), |starts| {
+        starts[1] < starts[0]
+    });
+    let consecutive =
+        |starts: &Starts| day_distance(starts, 2, 3) == 0 && starts[2] + 2 == starts[3];
+    let rules = rule("TwoActivitiesConsecutive", "100", &pair(3, 4));
+    judge(&school(&rules, ""), consecutive, true);
+}
+
+/// Nothing but the break lies between two activities of Monday or Tuesday.
+fn over_breaks(starts: &Starts) -> bool {
+    let [first, second] = [starts[0], starts[1]];
+    let next = |time: usize| time + 1 + usize::from([1, 4].contains(&(time + 1)));
+    first / HOURS == second / HOURS && second == next(first)
+}
+
+#[test]
+fn consecutive_activities_may_have_a_break_between_them() {
+    let breaks = times("Break_Time", "", &[("Mo", 2), ("Tu", 2)]);
+    let rules =
+        rule("BreakTimes", "100", &breaks) + &rule("TwoActivitiesConsecutive", "100", &pair(1, 2));
+    let kept = |starts: &Starts| {
+        let free = |&time: &usize| on_at(starts, &[0, 1, 2, 3], time) == 0;
+        [1, 4].iter().all(free) && over_breaks(starts)
+    };
+    judge(&school(&rules, ""), kept, true);
+}
+
+/// As a wish it costs nothing where it is met, and as much as its weight at most.
+#[test]
+fn a_wish_for_consecutive_activities_is_a_short_gap() {
+    let breaks = times("Break_Time", "", &[("Mo", 2), ("Tu", 2)]);
+    let wish = rule("TwoActivitiesConsecutive", "50", &pair(1, 2));
+    let rules = rule("BreakTimes", "100", &breaks) + &wish;
+    let imported = import(&school(&rules, "")).unwrap();
+    assert_eq!(imported.count(Fate::Weakened), 1);
+    let bytes = instance::write(&imported.school.instance);
+    for starts in placements() {
+        let score = engine::score(&bytes, &timetable(&starts)).expect("a timetable");
+        let near = (1..=2).contains(&starts[1].wrapping_sub(starts[0]));
+        assert_eq!(score.objective.0, u64::from(!near), "{starts:?}");
+        assert!(near || !over_breaks(&starts), "{starts:?}");
+    }
+}
+
+/// An order of activities that must start together cannot be kept; one with an activity
+/// that is not active says nothing.
+#[test]
+fn an_order_of_one_event_is_dropped() {
+    let fates = |rules: &str| {
+        let imported = import(&school(rules, "")).unwrap();
+        (
+            imported.count(Fate::Weakened),
+            imported.count(Fate::Dropped),
+        )
+    };
+    let together = rule("ActivitiesSameStartingTime", "100", &ids(&[1, 4]));
+    for name in ["TwoActivitiesOrdered", "TwoActivitiesConsecutive"] {
+        let order = rule(name, "100", &pair(1, 4));
+        assert_eq!(fates(&order), (0, 0), "{name}");
+        assert_eq!(fates(&(together.clone() + &order)), (1, 1), "{name}");
+        for weight in ["50", "100"] {
+            let order = rule(name, weight, &pair(1, 5));
+            assert_eq!(fates(&order), (0, 0), "{name}");
+        }
+    }
+}
+
 /// How many of three times are occupied by activities 1, 3 and 4.
 fn occupied(starts: &Starts) -> usize {
     let on = |&&time: &&usize| on_at(starts, &[0, 2, 3], time) > 0;

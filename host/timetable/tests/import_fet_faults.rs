@@ -10,8 +10,8 @@ use timetable::import::{fet, xml};
 fn what_is_lost_is_named_with_its_line() {
     let order =
         "<First_Activity_Id>1</First_Activity_Id><Second_Activity_Id>2</Second_Activity_Id>";
-    let rules = rule("TwoActivitiesOrdered", "100", order)
-        + &rule("TwoActivitiesConsecutive", "100", order)
+    let rules = rule("TwoActivitiesOrderedIfSameDay", "100", order)
+        + &rule("TwoActivitiesConsecutive", "50", order)
         + &rule(
             "TeacherMaxDaysPerWeek",
             "0",
@@ -26,9 +26,10 @@ fn what_is_lost_is_named_with_its_line() {
     assert_eq!(
         told,
         [
-            "44: dropped: ConstraintTwoActivitiesOrdered (1, 2): the engine has no counterpart for it",
-            "45: weakened: ConstraintTwoActivitiesConsecutive (1, 2): which of the two comes first \
-             is not carried",
+            "44: dropped: ConstraintTwoActivitiesOrderedIfSameDay (1, 2): the engine has no \
+             counterpart for it",
+            "45: weakened: ConstraintTwoActivitiesConsecutive (1, 2): only a gap of 0 to 0 times \
+             is carried",
         ]
     );
 }

@@ -5,7 +5,7 @@
 
 use timetable::engine;
 use timetable::import::{xhstt, xml, Fate, Fault, Imported};
-use timetable::instance;
+use timetable::instance::{self, Kind};
 
 const WEEK: &str = include_str!("import/week.xml");
 const TIMES: usize = 6;
@@ -370,6 +370,154 @@ fn linked_events() {
     );
 }
 
+/// A pair of events, from 0, so far apart as the limits say.
+fn event_pair([first, second]: [usize; 2], limits: &str) -> String {
+    format!(
+        "<EventPair><FirstEvent Reference=\"E{}\"/><SecondEvent Reference=\"E{}\"/>{limits}\
+         </EventPair>",
+        first + 1,
+        second + 1
+    )
+}
+
+/// Formulas 24 to 26: how far the times between two events lie outside.
+fn misplaced(table: &Table, [first, second]: [usize; 2], least: usize, most: usize) -> usize {
+    let parts = table[first].iter();
+    let end = parts.map(|&(start, length)| start + length).max();
+    let begin = table[second].iter().map(|&(start, _)| start).min();
+    let between = begin.expect("a part") as isize - end.expect("a part") as isize;
+    let below = (least as isize - between).max(0);
+    (below + (between - most as isize).max(0)) as usize
+}
+
+/// Each timetable's price under an order of pairs, with what each pair deviates.
+fn ordered(
+    required: bool,
+    cost: &str,
+    pairs: &[([usize; 2], usize, usize)],
+) -> Vec<(u64, Vec<usize>)> {
+    let written = pairs.iter().map(|&(pair, least, most)| {
+        let mut limits = String::new();
+        if least > 0 {
+            limits += &format!("<MinSeparation>{least}</MinSeparation>");
+        }
+        if most < TIMES {
+            limits += &format!("<MaxSeparation>{most}</MaxSeparation>");
+        }
+        event_pair(pair, &limits)
+    });
+    let applies = format!("<EventPairs>{}</EventPairs>", written.collect::<String>());
+    let name = "OrderEventsConstraint";
+    let text = archive(&constraint(name, required, cost, &applies, ""));
+    let imported = import(&text).unwrap_or_else(|fault| panic!("{fault}\n{text}"));
+    let exact = required || ["Step", "SumSteps"].contains(&cost);
+    assert_eq!(imported.remarks.len(), usize::from(!exact), "{cost}");
+    assert_eq!(imported.count(Fate::Dropped), 0, "{cost}");
+    let bytes = instance::write(&imported.school.instance);
+    let priced = tables(LONG).into_iter().map(|table| {
+        let score = engine::score(&bytes, &timetable(&table)).expect("a timetable");
+        let each = pairs.iter();
+        let each = each.map(|&(pair, least, most)| misplaced(&table, pair, least, most));
+        (score.infeasibility.0 + score.objective.0, each.collect())
+    });
+    priced.collect()
+}
+
+/// A pair is kept or not, as a rule and as a step; other wishes are weakened to that.
+#[test]
+fn ordered_events() {
+    let most = TIMES;
+    for pair in [[0, 1], [1, 0], [2, 0]] {
+        for (least, most) in [(0, most), (0, 0), (1, most), (1, 2), (2, 2), (3, 4)] {
+            for (required, cost) in [(true, "Linear"), (false, "Step"), (false, "SumSteps")] {
+                let mut seen = [false; 2];
+                for (price, each) in ordered(required, cost, &[(pair, least, most)]) {
+                    assert_eq!(price, u64::from(each[0] > 0), "{pair:?} {least} {most}");
+                    seen[price as usize] = true;
+                }
+                assert_eq!(seen, [true, true], "{pair:?} {least} {most}");
+            }
+            for (cost, power) in [("Linear", 1), ("Quadratic", 2)] {
+                for (price, each) in ordered(false, cost, &[(pair, least, most)]) {
+                    assert!(
+                        price <= each[0].pow(power) as u64,
+                        "{pair:?} {least} {most}"
+                    );
+                    assert_eq!(price > 0, each[0] > 0, "{pair:?} {least} {most}");
+                }
+            }
+        }
+    }
+    let pairs = [([0, 1], 0, most), ([1, 2], 1, 3), ([2, 0], 0, most)];
+    for (price, each) in ordered(false, "Step", &pairs) {
+        let broken = each.iter().filter(|&&deviation| deviation > 0);
+        assert_eq!(
+            price,
+            broken.count() as u64,
+            "each pair is charged by itself"
+        );
+    }
+}
+
+/// Separations of any size, and pairs that no timetable can keep.
+#[test]
+fn limits_of_ordered_events() {
+    let applies = |pair: &str| format!("<EventPairs>{pair}</EventPairs>");
+    let order = |required, pair: &str| {
+        let name = "OrderEventsConstraint";
+        import(&archive(&constraint(
+            name,
+            required,
+            "Linear",
+            &applies(pair),
+            "",
+        )))
+    };
+    let written = |limits: &str| {
+        let imported = order(true, &event_pair([0, 1], limits)).unwrap();
+        assert!(imported.remarks.is_empty());
+        imported.school.instance.constraints[0].kind.clone()
+    };
+    let kind = |lo, hi| Kind::Precedence {
+        first: 0,
+        second: 1,
+        lo,
+        hi,
+    };
+    let limits = |least: usize, most: usize| {
+        format!("<MinSeparation>{least}</MinSeparation><MaxSeparation>{most}</MaxSeparation>")
+    };
+    assert_eq!(written(""), kind(0, 124));
+    assert_eq!(written(&limits(2, 6)), kind(2, 6));
+    assert_eq!(written(&limits(125, 4_000_000_000)), kind(124, 124));
+    let told = |pair: &str| {
+        let imported = order(true, pair).unwrap();
+        let told = imported.remarks.iter().map(ToString::to_string);
+        told.collect::<Vec<_>>().join(";")
+    };
+    let dropped = "51: dropped: OrderEventsConstraint 'x'";
+    assert_eq!(
+        told(&event_pair([0, 1], &limits(3, 2))),
+        format!("{dropped}: its least is above its most")
+    );
+    assert_eq!(
+        told(&event_pair([1, 1], "")),
+        format!("{dropped}: its two events are one")
+    );
+    assert_eq!(told(""), "", "no pair is asked for");
+    assert!(order(false, "").unwrap().remarks.is_empty());
+    let fault = |pair: &str| order(true, pair).err().map(|fault| fault.message);
+    let half = "<EventPair><FirstEvent Reference=\"E1\"/></EventPair>";
+    assert_eq!(
+        fault(half),
+        Some("EventPair has no SecondEvent".to_string())
+    );
+    assert_eq!(
+        fault(&event_pair([0, 8], "")),
+        Some("there is no event 'E9'".to_string())
+    );
+}
+
 #[test]
 fn a_preassigned_time_is_kept() {
     for long in [LONG, 3, 5] {
@@ -398,8 +546,10 @@ fn what_is_not_carried_is_told() {
     assert_eq!(fates(&clash("Linear")), (0, 0));
     assert_eq!(fates(&clash("Quadratic")), (1, 0));
     assert_eq!(fates(&clash("Step")), (0, 1), "linear would cost more");
-    let order = constraint("OrderEventsConstraint", true, "Linear", "", "");
-    assert_eq!(fates(&order), (0, 1));
+    let prefer = constraint("PreferResourcesConstraint", true, "Linear", EVENTS, "");
+    assert_eq!(fates(&prefer), (0, 1));
+    let unknown = constraint("OrderResourcesConstraint", true, "Linear", "", "");
+    assert_eq!(fates(&unknown), (0, 1));
     let open = WEEK.replace(
         "<!-- open -->",
         "<Resource><Role>Room</Role><ResourceType Reference=\"Room\"/></Resource>",

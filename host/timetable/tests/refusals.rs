@@ -76,9 +76,9 @@ fn refused_instances_are_told_by_field_value_and_limit() {
             "event 1, duration: 3 is not from 1 to 2",
         ),
         (
-            "01 01 00 01 00 00 01 0B",
+            "01 01 00 01 00 00 01 0C",
             "refused 2 7\n",
-            "constraint 1, kind: 11 is not from 1 to 10",
+            "constraint 1, kind: 12 is not from 1 to 11",
         ),
         (
             "02 01 00 01 00 00 01 09 00 01 03",
@@ -89,6 +89,16 @@ fn refused_instances_are_told_by_field_value_and_limit() {
             "02 01 00 01 00 00 01 0A 00 01 00",
             "refused 2 10\n",
             "constraint 1, kind lengths, shortest: 0 is not from 1 to 2",
+        ),
+        (
+            "01 02 00 01 00 01 00 00 01 0B 00 01 01 7D 00",
+            "refused 2 13\n",
+            "constraint 1, kind precedence, lo: 125 is not from 0 to 124",
+        ),
+        (
+            "01 02 00 01 00 01 00 00 01 0B 00 01 03",
+            "refused 3 12\n",
+            "constraint 1, kind precedence, second: 3 names nothing, 1 to 2 are there",
         ),
         (
             "01 01 00 01 00 00 01 04 E9 07",
@@ -127,6 +137,16 @@ fn refused_instances_are_told_by_field_value_and_limit() {
             "refused 5 7\n",
             "constraint 1, kind lengths: shortest is 2, above longest, which is 1",
         ),
+        (
+            "01 02 00 01 00 01 00 00 01 0B 00 01 02 01 00",
+            "refused 5 9\n",
+            "constraint 1, kind precedence: the least gap is 1, above the largest, which is 0",
+        ),
+        (
+            "01 02 00 01 00 01 00 00 01 0B 00 02 02 01 00",
+            "refused 19 9\n",
+            "constraint 1, kind precedence: its first and its second event are one, event 2",
+        ),
     ]
     .into_iter()
     .enumerate()
@@ -135,6 +155,41 @@ fn refused_instances_are_told_by_field_value_and_limit() {
         let found = run(&["read", &name]);
         assert_eq!((found.printed.as_str(), found.status), (printed, 1));
         assert_eq!(below(&found.said)[0], reason, "{printed}");
+    }
+}
+
+/// Refusal 19 is the instance's, whatever else the call is given.
+#[test]
+fn events_that_are_one_are_told_of_the_instance() {
+    let one = file("one", &hex("01 02 00 01 00 01 00 00 01 0B 00 02 02 00 00"));
+    let other = file("other", &[1, 1, 1, 1]);
+    for words in [
+        vec!["read", &one],
+        vec!["sizes", &one, "3"],
+        vec!["text", &one],
+        vec!["score", &one, &other],
+        vec!["same", &one, &other, &other],
+        vec!["decode", &one, &other],
+        vec!["check", &one, "3", &other],
+        vec!["best", &one, &other, &other],
+        vec!["explain", &one],
+        vec!["show", &one, &other],
+        vec!["diff", &one, &other, &other],
+    ] {
+        let found = run(&words);
+        assert_eq!(
+            (found.printed.as_str(), found.status),
+            ("refused 19 9\n", 1),
+            "{words:?}"
+        );
+        let said = format!(
+            "timetable {}: one: refusal 19 9: both events of a precedence are one; the \
+             constraint's kind is at offset 9\n  constraint 1, kind precedence: its first and its \
+             second event are one, event 2\n  bytes from offset 1: .. 02 00 01 00 01 00 00 01 [0b] \
+             00 02 02 00 00\n",
+            words[0]
+        );
+        assert_eq!(found.said, said);
     }
 }
 
@@ -260,6 +315,59 @@ fn a_false_clause_is_told_by_its_constraint() {
           above 1"
         ]
     );
+}
+
+/// Each sort of variable of a precedence, and the count, told in words where it is wrong.
+#[test]
+fn a_false_clause_of_a_precedence_is_told() {
+    // Hard, in four times, two events of duration 1 with nothing between them.
+    let file_of = hex("04 02 00 01 00 01 00 00 01 0B 00 01 02 00 00");
+    let school = file("precedence", &file_of);
+    // The events at times 1 and 4: Y, S, and the durations' counters of four rows and two
+    // columns; F(1..3), P(2..3), G(2), G(1), Q(1..2), O; then the counter.
+    let apart = [1, 0, 0, 0, 0, 0, 0, 1];
+    let counters = [1, 0, 1, 0, 1, 0, 1, 0, 0, 0, 0, 0, 0, 0, 1, 0];
+    let gap = [0, 0, 0, 0, 0, 0, 0, 1, 1, 1, 1];
+    let right = [&apart[..], &apart, &counters, &gap].concat();
+    for (variable, reason) in [
+        (
+            35,
+            "the variable for a second event that has begun by time 3 has a wrong value",
+        ),
+        (
+            36,
+            "the variable for a second event too soon after time 2 of the first has a wrong value",
+        ),
+        (
+            38,
+            "the variable for a first event that goes on after time 2 has a wrong value",
+        ),
+        (
+            39,
+            "the variable for a first event that goes on after time 1 has a wrong value",
+        ),
+        (
+            40,
+            "the variable for a second event too late after a first that ends by time 1 has a \
+             wrong value",
+        ),
+        (42, "the variable for a gap outside has a wrong value"),
+        (43, "its counter, in row 1, column 1, has a wrong value"),
+        (
+            0,
+            "the number of gaps outside between the two events is above 0",
+        ),
+    ] {
+        let mut model = right.clone();
+        if variable > 0 {
+            model[variable - 1] ^= 1;
+        }
+        let name = file(&format!("precedence-{variable}"), &model);
+        let found = run(&["decode", &school, &name]);
+        let said = format!("block 4, constraint 1, kind precedence: {reason}");
+        assert_eq!(below(&found.said), [said]);
+        assert!(found.printed.starts_with("refused 13 "));
+    }
 }
 
 /// Each variable of a preferred time, and the count, told in words where it is wrong.
@@ -529,7 +637,7 @@ fn a_file_of_another_sort_is_recognised() {
 #[test]
 fn every_refusal_is_told_in_words_with_its_numbers() {
     let mut told = Vec::new();
-    for number in 1..=18 {
+    for number in 1..=19 {
         let value = 1_000 + u64::from(number);
         let message = refusals::in_words(Refusal { number, value }, &[], &[]);
         assert!(message.starts_with(&format!("refusal {number} {value}: ")));
@@ -544,12 +652,12 @@ fn every_refusal_is_told_in_words_with_its_numbers() {
         );
         assert_eq!(
             message.contains("[end]"),
-            [1, 2, 3, 4, 5, 6, 11].contains(&number),
+            [1, 2, 3, 4, 5, 6, 11, 19].contains(&number),
             "{message}"
         );
         told.push(refusals::words(number));
     }
     told.sort_unstable();
     told.dedup();
-    assert_eq!(told.len(), 18);
+    assert_eq!(told.len(), 19);
 }

@@ -10,7 +10,7 @@ use support::{command, folder, host, repository, stand_ins, Run};
 use timetable::instance::KINDS;
 
 /// Each example with the cost of its timetable.
-const EXAMPLES: [(&str, u64); 3] = [("village", 4), ("town", 3), ("evening", 4)];
+const EXAMPLES: [(&str, u64); 4] = [("village", 4), ("town", 3), ("evening", 4), ("college", 0)];
 
 fn run(folder: &Path, words: &[&str]) -> Run {
     let output = command(words).current_dir(folder).output();
@@ -199,6 +199,91 @@ fn free_times_before_the_first_and_after_the_last_use_are_not_idle() {
     assert!(shown.ends_with("infeasibility 0\nobjective 4\n"), "{shown}");
 }
 
+/// A theory lesson and its laboratory, of a class and a teacher.
+const THEORY_AND_LABORATORY: &str = "
+days Mon Tue periods 1 2 3
+teachers Ada
+classes 1A
+lesson Theory takes 2 with 1A Ada
+lesson Laboratory takes 1 with 1A
+precedence hard Theory before Laboratory
+precedence weight 5 Theory before Laboratory at most 1
+";
+
+/// Marked are the last time of the first and the first of the second.
+const GAP_SHOWN: &str = "\
+Class 1A
+
+   Mon         Tue
+-  ----------  ------
+1  Theory
+     Ada
+2  Laboratory
+   !1 hard 1
+   !2 +5
+3              Theory
+                 Ada
+               !1
+               !2
+  !1 hard 1  precedence hard Theory before Laboratory (gap −5, allowed 0 or more: Theory ends at \
+Tue.3, Laboratory begins at Mon.2)
+  !2 +5  precedence weight 5 Theory before Laboratory at most 1 (gap −5, allowed 0 to 1: Theory \
+ends at Tue.3, Laboratory begins at Mon.2)
+";
+
+#[test]
+fn the_gap_of_a_precedence_is_told() {
+    let folder = compiled("gap", "village");
+    fs::write(folder.join("b.school"), THEORY_AND_LABORATORY).expect("a file");
+    accepted(&folder, &["compile", "b.school", "-o", "b.instance"]);
+    let table = |name: &str, theory: &str, laboratory: &str| {
+        let digits = [theory, laboratory].concat();
+        let row = digits
+            .bytes()
+            .map(|digit| digit - b'0')
+            .collect::<Vec<u8>>();
+        fs::write(folder.join(name), row.repeat(2)).expect("a file");
+    };
+    table("broken.timetable", "100001", "010000");
+    table("kept.timetable", "100100", "000001");
+    let show = ["show", "b.instance", "broken.timetable"];
+    let shown = accepted(&folder, &show);
+    assert!(shown.starts_with(GAP_SHOWN), "{shown}");
+    assert!(shown.ends_with("infeasibility 1\nobjective 5\n"), "{shown}");
+    let page = visible(&accepted(&folder, &[&show[..], &["--html"]].concat()));
+    let told = "at most 1 (gap −5, allowed 0 to 1: Theory ends at Tue.3, Laboratory begins at \
+                Mon.2) | 1 | 5 | 5 |\n";
+    assert!(page.contains(told), "{page}");
+    let csv = accepted(&folder, &[&show[..], &["--charges", "--csv"]].concat());
+    assert!(csv.contains("1,1,hard,1,\"precedence hard Theory before Laboratory (gap −5, "));
+    let kept = accepted(
+        &folder,
+        &["show", "b.instance", "kept.timetable", "--charges"],
+    );
+    assert!(
+        kept.contains(" before Laboratory at most 1 (gap 1)\n"),
+        "{kept}"
+    );
+    let diff = ["diff", "b.instance", "kept.timetable", "broken.timetable"];
+    let moved = run(&folder, &diff);
+    assert_eq!(moved.status, 1);
+    assert!(
+        moved.printed.contains(
+            "charged otherwise 2\n  1: hard 0 -> hard 1  precedence hard Theory before Laboratory \
+             (gap 1 before, −5 after, allowed 0 or more)\n  2: +0 -> +5  precedence weight 5 Theory \
+             before Laboratory at most 1 (gap 1 before, −5 after, allowed 0 to 1)\n"
+        ),
+        "{}",
+        moved.printed
+    );
+    let page = run(&folder, &[&diff[..], &["--html"]].concat()).printed;
+    assert!(
+        visible(&page)
+            .contains("(gap 1 before, −5 after, allowed 0 or more) | hard 0 | hard 1 |\n"),
+        "{page}"
+    );
+}
+
 #[test]
 fn pages_are_whole_and_accessible() {
     for (name, _) in EXAMPLES {
@@ -371,6 +456,7 @@ fn the_format_is_as_it_is_described() {
     );
     doubles_are_as_described(&folder, &format);
     preferred_times_are_as_described(&folder, &format);
+    gaps_are_as_described(&folder, &format);
     for facts in KINDS {
         let row = format!("| {} | `{} hard ", facts.number, facts.name);
         assert!(format.contains(&row), "{row}");
@@ -402,6 +488,57 @@ fn doubles_are_as_described(folder: &Path, format: &str) {
         scored([1, 1, 1, 1, 1, 0, 0, 0, 0], [1, 0, 0, 1, 0, 0, 0, 0, 0]),
         "infeasibility 2\nobjective 1\n"
     );
+}
+
+/// Each row of that section's table: its times, what it says of the gap, and that `show`
+/// tells the same.
+fn gaps_are_as_described(folder: &Path, format: &str) {
+    let section = format
+        .split_once("## One lesson before another")
+        .expect("a section");
+    let text = section.1.split("```").nth(1).expect("a school");
+    fs::write(folder.join("e.school"), text).expect("a file");
+    accepted(folder, &["compile", "e.school", "-o", "e.instance"]);
+    let rows = section.1.lines().filter(|line| line.starts_with("| `"));
+    let rows: Vec<&str> = rows.take_while(|line| line.contains("costs")).collect();
+    assert_eq!(rows.len(), 4);
+    let mut told = 0;
+    for row in rows {
+        let cells: Vec<&str> = row.trim_matches(['|', ' ']).split(" | ").collect();
+        let mut table = [0; 32];
+        for (lesson, cell) in cells[..2].iter().enumerate() {
+            for name in cell.split('`').skip(1).step_by(2) {
+                let day = if name.starts_with("Mon") { 0 } else { 4 };
+                let period: usize = name[4..].parse().expect("a period");
+                let at = 8 * lesson + day + period - 1;
+                (table[at], table[16 + at]) = (1, 1);
+            }
+        }
+        fs::write(folder.join("e.timetable"), table).expect("a file");
+        let broken = u64::from(cells[3] == "broken");
+        let cost: u64 = cells[4]["costs ".len()..].parse().expect("a cost");
+        assert_eq!(
+            accepted(folder, &["score", "e.instance", "e.timetable"]),
+            format!("infeasibility {broken}\nobjective {cost}\n"),
+            "{row}"
+        );
+        let show = ["show", "e.instance", "e.timetable", "--charges"];
+        let shown = accepted(folder, &show);
+        for (line, kept) in [
+            (" before Laboratory", broken == 0),
+            (" at most 2", cost == 0),
+        ] {
+            let end = if kept { ")\n" } else { ", allowed 0 " };
+            let gap = format!("{line} (gap {}{end}", cells[2]);
+            assert!(shown.contains(&gap), "{shown}");
+        }
+        let words = section
+            .1
+            .split('`')
+            .find(|words| words.starts_with("(gap "));
+        told += usize::from(shown.contains(words.expect("what show tells")));
+    }
+    assert_eq!(told, 1, "what is said of show is of one of the rows");
 }
 
 /// Each row of that section's table: its parts placed, and what it says they cost.

@@ -113,8 +113,8 @@ fn help_names_every_subcommand_and_each_has_its_own() {
 #[test]
 fn help_lists_the_refusals_of_an_operation() {
     let help = run(&["read", "--help"]).printed;
-    for number in 1..=6 {
-        let line = format!("\n   {number}  {}\n", refusals::words(number));
+    for number in (1..=6).chain([19]) {
+        let line = format!("\n{number:>4}  {}\n", refusals::words(number));
         assert!(help.contains(&line), "{number}");
     }
     assert!(!help.contains(refusals::words(7)));

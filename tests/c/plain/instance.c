@@ -1,4 +1,4 @@
-/* Reading an instance file: refusals 1 to 6. */
+/* Reading an instance file: refusals 1 to 6 and 19. */
 #include "plain.h"
 
 #include <string.h>
@@ -94,14 +94,26 @@ static int read_lengths(const struct instance *in, struct reader *r, struct cons
     return bad || c->kind == 9 ? bad : limited(r, 1, in->times, &c->longest);
 }
 
+/* Kind 11's events and the bounds of its gap; its list has one member, which neither 4 nor 5 can end. */
+static int read_precedence(const struct instance *in, struct reader *r, struct constraint *c)
+{
+    int bad;
+    if ((bad = reference(r, 0, in->events, &c->one)) || (bad = reference(r, 0, in->events, &c->second))
+        || (bad = limited(r, 0, 124, &c->shortest)) || (bad = limited(r, 0, 124, &c->longest)))
+        return bad;
+    return c->one == c->second ? 19 : c->shortest > c->longest ? 5 : 0;
+}
+
 static int read_constraint(struct instance *in, struct reader *r, struct constraint *c)
 {
     int bad;
-    if ((bad = limited(r, 1, 10, &c->kind)) || (bad = limited(r, 0, 1000, &c->weight)))
+    if ((bad = limited(r, 1, 11, &c->kind)) || (bad = limited(r, 0, 1000, &c->weight)))
         return bad;
     uint32_t kind = c->kind;
     c->lo = 0;
     c->hi = kind == 1;
+    if (kind == 11)
+        return read_precedence(in, r, c);
     if (kind != 5 && (bad = reference(r, 0, kind == 3 || kind == 4 || kind > 8 ? in->events : in->resources, &c->one)))
         return bad;
     if ((kind == 5 || kind == 7 || kind == 8) && (bad = read_list(in, r, kind == 5 ? in->events : in->groups, &c->many)))

@@ -17,11 +17,16 @@ struct list {
 };
 
 /*
- * Kind 1 to 10; one is its resource or event, group its group, many its list of events or groups. Kind 10 has
- * two lengths of subevents, and kind 9 one, which is both shortest and longest.
+ * Kind 1 to 11; one is its resource or event, group its group, many its list of events or groups. Kind 10 has
+ * two lengths of subevents, and kind 9 one, which is both shortest and longest. Kind 11 has a second event, and
+ * the shortest and longest gap.
  */
 struct constraint {
-    uint32_t kind, weight, one, group, lo, hi, shortest, longest;
+    uint32_t kind, weight, one;
+    union {
+        uint32_t group, second;
+    };
+    uint32_t lo, hi, shortest, longest;
     struct list many;
 };
 

@@ -63,6 +63,18 @@ static uint32_t of_length(const struct constraint *c, const uint8_t *y, const ui
     return n;
 }
 
+/* Whether the gap from the last time of one event to the first time of the next lies outside. */
+static uint32_t gap_outside(const struct constraint *c, const uint8_t *one, const uint8_t *second, uint32_t times)
+{
+    int last = (int)times - 1, begin = 0;
+    while (!one[last])
+        last--;
+    while (!second[begin])
+        begin++;
+    int gap = begin - last - 1;
+    return gap < (int)c->shortest || gap > (int)c->longest;
+}
+
 struct tables {
     const uint8_t *y, *s;
     uint8_t used[MOST_RESOURCES * MOST_TIMES];
@@ -100,6 +112,8 @@ static uint32_t deviation(const struct instance *in, const struct constraint *c,
     case 10:
         n = of_length(c, t->y + (c->one - 1) * times, t->s + (c->one - 1) * times, times);
         return outside(n, c->lo, c->hi);
+    case 11:
+        return gap_outside(c, t->y + (c->one - 1) * times, t->y + (c->second - 1) * times, times);
     default:
         for (uint32_t k = 0; k < c->many.count; k++) {
             struct list h = in->group[in->store[c->many.first + k] - 1];

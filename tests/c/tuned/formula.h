@@ -240,6 +240,47 @@ INLINE uint32_t write_lengths(struct walk *w, const struct constraint *c, uint32
     return times;
 }
 
+/* ORs, so many: the first of n literals from first on, each other one of a literal more, from next on by step, and of the OR before it. */
+INLINE void write_chain(struct walk *w, uint32_t first, uint32_t n, uint32_t next, int step, uint32_t count, uint32_t *out)
+{
+    uint32_t x[MOST_TIMES + 1] = {0};
+    if (!count)
+        return;
+    for (uint32_t i = 0; i < n; i++)
+        x[i] = first + 2 * i;
+    out[0] = next_or(w, x, n);
+    for (uint32_t i = 1; i < count; i++, next += (uint32_t)step) {
+        uint32_t two[3] = {next, out[i - 1]};
+        out[i] = next_or(w, two, 2);
+    }
+}
+
+/*
+ * Kind 11's F, P, G, Q and O: the second event has begun by t + lo; the first takes t, and F; the first goes on after t; the
+ * second has not begun by t + hi + 1, and not G; a time that is too late for the first event, or F of time 1, a P or a Q.
+ */
+INLINE uint32_t write_gap(struct walk *w, const struct constraint *c)
+{
+    uint32_t times = w->in->times, y = 2 * (c->one - 1) * times, z = 2 * (c->second - 1) * times, lo = c->shortest, hi = c->longest;
+    uint32_t early = times > 1 + lo ? times - 1 - lo : 0, late = times > 2 + hi ? times - 2 - hi : 0;
+    uint32_t begun[MOST_TIMES], lasting[MOST_TIMES], out[2 * MOST_TIMES + 1], n = 0;
+    for (uint32_t t = early + 1; t <= times; t++)
+        out[n++] = y + 2 * t;
+    write_chain(w, z + 2, lo + 1, z + 2 * (lo + 2), 2, early, begun);
+    if (early)
+        out[n++] = begun[0];
+    for (uint32_t t = 2; t <= early; t++) {
+        uint32_t both[3] = {(y + 2 * t) ^ 1, begun[t - 1] ^ 1};
+        out[n++] = next_and(w, both, 2);
+    }
+    write_chain(w, y + 2 * (late + 1), times - late, y + 2 * late, -2, late, lasting);
+    for (uint32_t t = 1; t <= late; t++) {
+        uint32_t both[3] = {begun[t + hi - lo], lasting[late - t]};
+        out[n++] = next_and(w, both, 2);
+    }
+    return next_or(w, out, n);
+}
+
 INLINE void write_constraint(struct walk *w, const struct constraint *c)
 {
     const struct instance *in = w->in;
@@ -267,6 +308,8 @@ INLINE void write_constraint(struct walk *w, const struct constraint *c)
         for (uint32_t e = 0; e < c->many.count; e++)
             for (uint32_t i = 0; i < g.count; i++)
                 literals[n++] = 2 * (starts + (store[c->many.first + e] - 1u) * times + store[g.first + i]);
+    } else if (c->kind == 11) {
+        literals[n++] = write_gap(w, c);
     } else if (c->kind > 8) {
         n = write_lengths(w, c, literals);
     } else {

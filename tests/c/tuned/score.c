@@ -85,6 +85,17 @@ static uint32_t of_length(const struct constraint *c, const uint8_t *y, const ui
     return count_bits(c->kind == 9 ? enough & ~above : above | (starts & ~enough));
 }
 
+/* Whether the gap from the last time of one event to the first time of the next lies outside; neither is empty. */
+static uint32_t gap_outside(const struct constraint *c, const uint8_t *one, const uint8_t *second, uint32_t times)
+{
+    bits before = pack(one, times), after = pack(second, times);
+    uint64_t high = (uint64_t)(before >> 64), low = (uint64_t)after;
+    int last = high ? 127 - __builtin_clzll(high) : 63 - __builtin_clzll((uint64_t)before);
+    int begin = low ? __builtin_ctzll(low) : 64 + __builtin_ctzll((uint64_t)(after >> 64));
+    int gap = begin - last - 1;
+    return gap < (int)c->shortest || gap > (int)c->longest;
+}
+
 struct tables {
     const uint8_t *y, *s;
     uint8_t used[MOST_RESOURCES * MOST_TIMES];
@@ -122,6 +133,8 @@ static uint32_t deviation(const struct instance *in, const struct constraint *c,
     case 10:
         n = of_length(c, t->y + (c->one - 1) * times, t->s + (c->one - 1) * times, times);
         return outside(n, c->lo, c->hi);
+    case 11:
+        return gap_outside(c, t->y + (c->one - 1) * times, t->y + (c->second - 1) * times, times);
     default:
         for (uint32_t k = 0; k < c->many.count; k++) {
             struct list h = in->group[in->store[c->many.first + k] - 1];

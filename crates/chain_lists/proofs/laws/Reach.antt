@@ -25,7 +25,7 @@ module _ (T : ℕ) (L : Layout) (e v : ℕ) where
   abbrev pub sBase : ℕ
   sBase = baseOf (L .starts) T e
 
-  y-number : (t : ℕ) → numAt T L (Y e t) ≡ pos (yBase + t)
+  pub y-number : (t : ℕ) → numAt T L (Y e t) ≡ pos (yBase + t)
   unfolding baseOf
   y-number t = omega arith
 

@@ -1,4 +1,4 @@
--- What is ready before the first step of a proof: the formula in the words, or a refusal from 1 to 9: laws.
+-- What is ready before the first step of a proof: the formula in the words, or a refusal, 1 to 9 or 19: laws.
 use mathlib.Core.Path.{_≡_, refl, sym, ap, _∙_}
 use mathlib.Core.Bool.{Bool, true, false, _&&_}
 use mathlib.Core.List.{List, flatMap}
@@ -69,7 +69,7 @@ module _ (s : List ℕ) (B : ℕ) (l : Lent) where
   unfolding formulaFor
   bounded-for = bound-then s B bounded
 
-  -- 1 to 8
+  -- 1 to 8, 19
   pub bounded-refused : {f : Refusal} → RefusedBy (boundedOf s B) f → (ws : List ℕ)
       → Left (formulaFor s (Claim.Bound B) l) ws ws (Ready.Refused f)
   bounded-refused b ws = rw (bounded-for, b .answer) (record { told = refl; words = refl })
@@ -99,7 +99,7 @@ module _ (s : List ℕ) (l : Lent) where
   unfolding formulaFor
   hard-for = size-then s alone
 
-  -- 1 to 6 and 8
+  -- 1 to 6, 8, 19
   pub hard-refused : {f : Refusal} → RefusedBy (sizedOf s) f → (ws : List ℕ)
       → Left (formulaFor s Claim.AnyCost l) ws ws (Ready.Refused f)
   hard-refused b ws = rw (hard-for, b .answer) (record { told = refl; words = refl })

@@ -1,8 +1,8 @@
--- The bounds of a kind as written: fixed for the kinds without lo and hi; in a busy limit a count of 0 is free: laws.
+-- The bounds of a kind's count as written: laws.
 use Prim.Native.Nat.{ℕ}
 use mathlib.Core.Path.{_≡_, refl}
 use mathlib.Core.List.{List}
-use Rattle.scope.specs.Kinds.{Kind, clash, unavailable, preferred, split, spread, busy, cluster, idle, distribute, lengths, countedOf}
+use Rattle.scope.specs.Kinds.{Kind, clash, unavailable, preferred, split, spread, busy, cluster, idle, distribute, lengths, precedence, countedOf}
 use Rattle.constraint.specs.Bounds.{lowOf, highOf, freeOf}
 
 -- they are those of the kind's row in the table
@@ -23,3 +23,4 @@ bounds-right T dur us group (cluster r hs lo hi) = record { lo = refl; hi = refl
 bounds-right T dur us group (idle r hs lo hi) = record { lo = refl; hi = refl; free = refl }
 bounds-right T dur us group (distribute e n lo hi) = record { lo = refl; hi = refl; free = refl }
 bounds-right T dur us group (lengths e a b) = record { lo = refl; hi = refl; free = refl }
+bounds-right T dur us group (precedence a b lo hi) = record { lo = refl; hi = refl; free = refl }

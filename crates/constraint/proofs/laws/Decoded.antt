@@ -43,7 +43,7 @@ constraint-checked T R es gs s at = parts ∙ by (decodedAt (countsOf T R es gs)
     endedIn c end = endedAs at (countedOf T (durationOf es) (λ r. users r es) (groupAt gs) (c .kind)) (c .weight) (c .kind) end
 
     parts : constraintAt T R es gs s at ≡ andThen (decodedAt (countsOf T R es gs) s at) endedIn
-    parts = kind-checked (limited 1 10 s at) (limited 0 1000 s) (λ kind more. fieldsRead (fieldsOf (countsOf T R es gs) kind) s more) endedIn
+    parts = kind-checked (limited 1 11 s at) (limited 0 1000 s) (λ kind more. fieldsRead (fieldsOf (countsOf T R es gs) kind) s more) endedIn
 
     by : (p : Parsed Constraint) → andThen p endedIn ≡ andThen p (endedBy (longestOf T es gs) at)
     by (got c end) = let b = bounds-right T (durationOf es) (λ r. users r es) (groupAt gs) (c .kind) in rw (b .lo, b .hi)

@@ -25,7 +25,7 @@ pub decoded-got : (n : Counts) (s : List ℕ) (at : ℕ) {c : Constraint} {end :
 unfolding decodedAt
 decoded-got n s at {c} {end} e =
     let a =
-    andThen-got (limited 1 10 s at)
+    andThen-got (limited 1 11 s at)
     (λ kind next.
     andThen (limited 0 1000 s next)
     (λ weight more. andThen (fieldsRead (fieldsOf n kind) s more) (λ k end. got (record { weight = weight; kind = k }) end)))
@@ -41,7 +41,7 @@ decoded-got n s at {c} {end} e =
     in
     let same : _≡_ {A = Constraint} (record { weight = b .value; kind = f .value }) c = cc (f .rest) in
     let last : f .next ≡ end = cc (f .rest) in
-    let x = limited-got 1 10 s at (a .first) in
+    let x = limited-got 1 11 s at (a .first) in
     let y = limited-got 0 1000 s (a .next) (b .first) in
     let z = kind-read n s (b .next) (a .value) (f .value) (f .next) (x .low) (x .high) (f .first) in
     record {

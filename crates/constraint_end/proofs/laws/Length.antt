@@ -5,12 +5,13 @@ use mathlib.Core.List.{List, [], _∷_, _++_, map, flatMap}
 use native.Mathlib.Omega.{arith}
 use borrow.Author.Tests.{le-leb}
 use lib.ListN.{length, length-map, length-append}
-use Rattle.scope.specs.Kinds.{Event, Kind, clash, unavailable, preferred, split, spread, busy, cluster, idle, distribute, lengths, Atom, Y, S, X, Entry, atom, Listed, entries, from, upTo, durationOf, users, groupAt, usesAt, startsAt, gapsAfter, gaps, fromOutside, countedOf, longest}
-use Rattle.scope.specs.Instance.{ordered, ended}
+use Rattle.scope.specs.Kinds.{Event, Kind, clash, unavailable, preferred, split, spread, busy, cluster, idle, distribute, lengths, precedence, Atom, Y, S, X, Entry, atom, Listed, entries, from, upTo, durationOf, users, groupAt, usesAt, startsAt, gapsAfter, gaps, fromOutside, countedOf, longest}
+use Rattle.scope.specs.Instance.{distinct, ordered, ended}
 use Rattle.theory.proofs.laws.Ranges.{length-from}
 use Rattle.theory.proofs.laws.Nodes.{length-members}
 use Rattle.theory.proofs.laws.ReachLists.{length-from-outside}
 use Rattle.theory.proofs.laws.TimeByTime.{length-of, length-outside}
+use Rattle.theory.proofs.laws.GapLists.{length-gap-member}
 use Rattle.constraint.specs.Bounds.{lowOf, highOf}
 use Rattle.constraint.specs.Decoded.{longestOf}
 use Rattle.constraint_end.specs.Length.{innerLength, listLength}
@@ -62,7 +63,8 @@ length-inner r gs (h ∷ hs) =
 -- two lengths that the checks at the end of a constraint of a kind cannot tell apart
 pub record Alike (k : Kind) (n m : ℕ) : Type 0 where
   pub ends : (at weight end : ℕ)
-      → ended at (ordered k) (lowOf k) (highOf k) n weight k end ≡ ended at (ordered k) (lowOf k) (highOf k) m weight k end
+      → ended at (distinct k) (ordered k) (lowOf k) (highOf k) n weight k end
+      ≡ ended at (distinct k) (ordered k) (lowOf k) (highOf k) m weight k end
 
 equal : (k : Kind) {n m : ℕ} → n ≡ m → Alike k n m
 equal k h = record { ends = λ at weight end. rw h }
@@ -101,6 +103,7 @@ list-length T used es gs (cluster r hs lo hi) p h u = equal (cluster r hs lo hi)
 list-length T used es gs (idle r hs lo hi) p h u = equal (idle r hs lo hi) (longest-one _ ∙ length-inner r gs hs)
 list-length T used es gs (distribute e n lo hi) p h u = equal (distribute e n lo hi) (longest-alone _ ∙ length-of T e n)
 list-length T used es gs (lengths e x y) p h u = equal (lengths e x y) (longest-alone _ ∙ length-outside T e x y)
+list-length T used es gs (precedence a b lo hi) p h u = equal (precedence a b lo hi) (longest-alone _ ∙ length-gap-member T a b lo hi)
 
 -- only the counts of users matter
 pub length-same : (T : ℕ) (used used′ : ℕ → ℕ) (gs : List (List ℕ)) (k : Kind)
@@ -117,3 +120,4 @@ length-same T used used′ gs (cluster r hs lo hi) h = refl
 length-same T used used′ gs (idle r hs lo hi) h = refl
 length-same T used used′ gs (distribute e n lo hi) h = refl
 length-same T used used′ gs (lengths e a b) h = refl
+length-same T used used′ gs (precedence a b lo hi) h = refl

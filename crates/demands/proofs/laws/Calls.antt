@@ -24,7 +24,7 @@ use Rattle.operation_calls.specs.Operations.{decodeCall, Stores, lentBy, zeroed
 use Rattle.refusal_numbers.proofs.laws.Numbers.{zero-accepted, decode-numbers, check-numbers}
 use Rattle.refusal_numbers.proofs.laws.Numbers as numbers
 
--- the instance of a file that gives none of 1 to 6
+-- the instance of a file that gives none of 1 to 6 and 19
 pub record Read (file : List ℕ) : Type 0 where
   pub instance : Instance
   pub accepted : Accepted file instance

@@ -9,15 +9,18 @@ use lib.Dec.{ltb, eqb}
 use native.Mathlib.Omega.{arith}
 use native.Mathlib.Nat.{add-assoc, mul-le-mul}
 use Rattle.scope.specs.Cnf.{bit}
-use Rattle.scope.specs.Kinds.{Kind, clash, unavailable, preferred, split, spread, busy, cluster, idle, distribute, lengths, Y, S, X, atom, anyOf, from, upTo, eventOf, durationOf, users, groupAt, usesAt, startsAt, countedOf, rulesOf}
+use Rattle.scope.specs.Kinds.{Kind, clash, unavailable, preferred, split, spread, busy, cluster, idle, distribute, lengths, precedence, Y, S, X, atom, anyOf, from, upTo, eventOf, durationOf, users, groupAt, usesAt, startsAt, countedOf, rulesOf}
 use Rattle.scope.specs.Instance.{Instance, Counts}
 use Rattle.scope.specs.Score.{trues, any, deviation, deviations, truth, slots, eventRight}
 use Rattle.scope.specs.Subevents.{subevents, timesHeld}
+use Rattle.scope.specs.Gap.{timesTaken}
 use Rattle.theory.proofs.laws.Entries.{entryTrue, trues-flat}
 use Rattle.theory.proofs.laws.Lowered.{deviation-zero}
 use Rattle.theory.proofs.laws.Subevents.{distribute-counts, lengths-counts}
 use Rattle.theory.proofs.laws.Held.{times-charged}
 use Rattle.theory.proofs.laws.IdleWalk.{idle-charged}
+use Rattle.theory.proofs.laws.FirstLast.{right-taken}
+use Rattle.theory.proofs.laws.Gap.{precedence-charged}
 use Rattle.parsing.specs.Numbers.{Ascending, none, more}
 use Rattle.tables.specs.Rows.{rowAt, rows, eventsOf}
 use Rattle.tables.proofs.laws.Laws.{group-row}
@@ -31,10 +34,12 @@ use Rattle.timetable.specs.Uses.{UsesOf, Marked}
 use Rattle.deviation.specs.Sums.{total}
 use Rattle.deviation.specs.Subevents.{alone, subeventsAt}
 use Rattle.deviation.specs.Held.{timesHeldAt, outsideOf}
+use Rattle.deviation.specs.Gap.{takenIn}
 use Rattle.deviation.proofs.laws.Subevents.{subevents-same}
 use Rattle.deviation.proofs.laws.Held.{times-held-same}
+use Rattle.deviation.proofs.laws.Gap.{gap-same}
 use Rattle.deviation.proofs.laws.Counting.{trues-total, deviation-one, one-list, one-limit, many-lists}
-use Rattle.deviation.specs.Charge.{chargeOf, clashCharge, unavailableCharge, preferredCharge, splitCharge, spreadCharge, busyCharge, clusterCharge, idleCharge, distributeCharge, lengthsCharge}
+use Rattle.deviation.specs.Charge.{chargeOf, clashCharge, unavailableCharge, preferredCharge, splitCharge, spreadCharge, busyCharge, clusterCharge, idleCharge, distributeCharge, lengthsCharge, precedenceCharge}
 
 -- the table of uses and the table of X say of an instance's timetable what the definitions say
 pub record Seen (i : Instance) (b u x : List ℕ) : Type 0 where
@@ -207,16 +212,30 @@ module _ (i : Instance) (b u x gs : List ℕ) (G : ℕ) (seen : Seen i b u x) (t
       ∙ deviation-zero (subevents (i .times) (truth i b) e (λ n. ltb n shortest || ltb longest n))
       ∙ event-alone e (λ n. ltb n shortest || ltb longest n))
 
-  -- a kind whose fields are references to what there is, in a timetable
-  pub charge-right : (n : Counts) (k : Kind) → Passed i b → n .resources ≤ 99
-      → n .events ≡ length (i .events) → n .groups ≡ G → InRange n k → Right k
-  charge-right n (clash r) w h m e v = clash-right r (v .low) (omega (arith, v .high))
-  charge-right n (unavailable r g) w h m e v = unavailable-right r g (v .0 .low) (omega (arith, v .0 .high)) (rw e at (v .1))
-  charge-right n (preferred ev g) w h m e v = preferred-right ev g (rw e at (v .1)) (each-right i b ev w (v .0 .low) (omega (arith, v .0 .high)))
-  charge-right n (split ev lo hi) w h m e v = split-right ev lo hi
-  charge-right n (spread vs g lo hi) w h m e v = spread-right vs g lo hi (rw e at (v .1))
-  charge-right n (busy r g lo hi) w h m e v = busy-right r g lo hi (v .0 .low) (omega (arith, v .0 .high)) (rw e at (v .1))
-  charge-right n (cluster r hs lo hi) w h m e v = cluster-right r hs lo hi (v .0 .low) (omega (arith, v .0 .high)) (rw e at (v .1))
-  charge-right n (idle r hs lo hi) w h m e v = idle-right r hs lo hi (v .0 .low) (omega (arith, v .0 .high)) (rw e at (v .1))
-  charge-right n (distribute ev l lo hi) w h m e v = distribute-right ev l lo hi (v .1 .low)
-  charge-right n (lengths ev shortest longest) w h m e v = lengths-right ev shortest longest (v .1 .low)
+  -- two events that each take a time are charged where the gap between them lies outside
+  precedence-right : (first second lo hi : ℕ) → 1 ≤ length (timesTaken (i .times) (truth i b) first)
+      → 1 ≤ length (timesTaken (i .times) (truth i b) second) → Right (precedence first second lo hi)
+  unfolding precedenceCharge truth takenIn
+  precedence-right first second lo hi p q =
+      sym (precedence-charged (i .times) (durationOf (i .events)) (λ r. users r (i .events)) (groupAt (i .groups)) (truth i b)
+      first second lo hi p q
+      ∙ ap (λ t. cond t 0 1) (gap-same (truth i b) (takenIn (i .times) b) (λ e t. refl) (i .times) first second lo hi))
+
+  -- a kind whose fields are references to what there is, in a timetable of events that last
+  pub charge-right : (n : Counts) (k : Kind) → Passed i b → ((e : ℕ) → OneOf (length (i .events)) e → 1 ≤ durationOf (i .events) e)
+      → n .resources ≤ 99 → n .events ≡ length (i .events) → n .groups ≡ G → InRange n k → Right k
+  charge-right n (clash r) w d h m e v = clash-right r (v .low) (omega (arith, v .high))
+  charge-right n (unavailable r g) w d h m e v = unavailable-right r g (v .0 .low) (omega (arith, v .0 .high)) (rw e at (v .1))
+  charge-right n (preferred ev g) w d h m e v = preferred-right ev g (rw e at (v .1)) (each-right i b ev w (v .0 .low) (omega (arith, v .0 .high)))
+  charge-right n (split ev lo hi) w d h m e v = split-right ev lo hi
+  charge-right n (spread vs g lo hi) w d h m e v = spread-right vs g lo hi (rw e at (v .1))
+  charge-right n (busy r g lo hi) w d h m e v = busy-right r g lo hi (v .0 .low) (omega (arith, v .0 .high)) (rw e at (v .1))
+  charge-right n (cluster r hs lo hi) w d h m e v = cluster-right r hs lo hi (v .0 .low) (omega (arith, v .0 .high)) (rw e at (v .1))
+  charge-right n (idle r hs lo hi) w d h m e v = idle-right r hs lo hi (v .0 .low) (omega (arith, v .0 .high)) (rw e at (v .1))
+  charge-right n (distribute ev l lo hi) w d h m e v = distribute-right ev l lo hi (v .1 .low)
+  charge-right n (lengths ev shortest longest) w d h m e v = lengths-right ev shortest longest (v .1 .low)
+  charge-right n (precedence first second lo hi) w d h m e v =
+      precedence-right first second lo hi (takes first (rw m at (v .0))) (takes second (rw m at (v .1)))
+    where
+      takes : (ev : ℕ) → OneOf (length (i .events)) ev → 1 ≤ length (timesTaken (i .times) (truth i b) ev)
+      takes ev o = right-taken i (truth i b) ev (eventOf (i .events) ev) (each-right i b ev w (o .low) (o .high)) (d ev o)

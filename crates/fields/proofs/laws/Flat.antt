@@ -49,23 +49,25 @@ pub put-first : (n : Totals) (k v : ℕ) (w : Flat) → putOr (eqb k 5) v w ≡ 
 unfolding firstOf
 put-first n k v w = put-by (eqb k 5) (n .events) (thingsOf n k) v w
 
-put-among : (n : Totals) (v : ℕ) (w : Flat) (a b c : Bool)
+put-among : (n : Totals) (v : ℕ) (w : Flat) (a b c d : Bool)
     → putOr (cond a false b) v w
-    ≡ putOf (cond a (within 1 (n .times)) (cond b (toMany (n .groups)) (cond c (within 0 255) (toOne (n .groups))))) v w
+    ≡ putOf (cond a (cond d (toOne (n .events)) (within 1 (n .times))) (cond b (toMany (n .groups)) (cond c (within 0 255) (toOne (n .groups))))) v w
 unfolding putOr
-put-among n v w true b c = refl
-put-among n v w false true c = refl
-put-among n v w false false true = refl
-put-among n v w false false false = refl
+put-among n v w true b c true = refl
+put-among n v w true b c false = refl
+put-among n v w false true c d = refl
+put-among n v w false false true d = refl
+put-among n v w false false false d = refl
 
 pub put-second : (n : Totals) (k v : ℕ) (w : Flat) → putOr (secondListed k) v w ≡ putOf (secondOf n k) v w
 unfolding secondOf secondListed
-put-second n k v w = put-among n v w (ltb 8 k) (ltb 6 k) (eqb k 4)
+put-second n k v w = put-among n v w (ltb 8 k) (ltb 6 k) (eqb k 4) (eqb k 11)
 
 pub put-third : (n : Totals) (k v : ℕ) (w : Flat) → pushed v w ≡ putOf (thirdOf n k) v w
 unfolding thirdOf
-put-third n k v w = by (eqb k 10)
+put-third n k v w = by (ltb 9 k) (eqb k 10)
   where
-    by : (a : Bool) → pushed v w ≡ putOf (cond a (within 1 (n .times)) (within 0 255)) v w
-    by true = refl
-    by false = refl
+    by : (a b : Bool) → pushed v w ≡ putOf (cond a (cond b (within 1 (n .times)) (within 0 124)) (within 0 255)) v w
+    by true true = refl
+    by true false = refl
+    by false b = refl

@@ -6,16 +6,17 @@ use Prim.Native.Nat.{ℕ, _+_, _-_, _*_, _≤_}
 use native.Mathlib.Nat.{mul-le-mul-left}
 use native.Mathlib.Omega.{arith}
 use lib.ListN.{length, length-append, length-map}
-use Rattle.scope.specs.Kinds.{Kind, clash, unavailable, preferred, split, spread, busy, cluster, idle, distribute, lengths, Y, Entry, atom, anyOf, gap, is, aNode, Node, entryNodes, added, entriesNodes, entriesMembers, Listed, entries, Counted, upTo, reached, fromOutside, startOf, startAbove, startOutside, timeByTime, ofLength, ofLengthOutside, countedOf, longest}
+use Rattle.scope.specs.Kinds.{Kind, clash, unavailable, preferred, split, spread, busy, cluster, idle, distribute, lengths, precedence, Y, Entry, atom, anyOf, gap, is, aNode, Node, entryNodes, added, entriesNodes, entriesMembers, Listed, entries, Counted, upTo, reached, fromOutside, startOf, startAbove, startOutside, timeByTime, ofLength, ofLengthOutside, gapOutside, countedOf, longest}
 use Rattle.parsing.specs.Each.{Each, each-none, each-more}
 use Rattle.theory.proofs.laws.Ranges.{length-from}
 use Rattle.theory.proofs.laws.ReachLists.{length-reach-nodes, length-reach-members}
+use Rattle.theory.proofs.laws.GapLists.{length-gap-nodes, length-gap-member}
 use Rattle.theory.proofs.laws.TimeByTime.{length-timed, length-timed-nodes, outside-either}
 use Rattle.list_nodes.specs.Stored.{Short}
 
--- a list that has at most four nodes for each member, and one more
-pub record Small (l : Listed) : Type 0 where
-  pub few : length (l .nodes) ≤ 4 * length (l .members) + 1
+-- a list that has at most four nodes for each member and for each of T times, and one more
+pub record Small (T : ℕ) (l : Listed) : Type 0 where
+  pub few : length (l .nodes) ≤ 4 * (length (l .members) + T) + 1
 
 entry-few : (x : Entry) (k : ℕ) → length (entryNodes x k) ≤ 3
 entry-few (atom a) k = omega arith
@@ -33,29 +34,33 @@ entries-few (x ∷ xs) k =
       entries-few xs (k + added x),
     )
 
-entries-small : (xs : List Entry) → Small (entries xs)
-entries-small xs = record { few = omega (arith, entries-few xs 0) }
+entries-small : (T : ℕ) (xs : List Entry) → Small T (entries xs)
+entries-small T xs = record { few = omega (arith, entries-few xs 0) }
 
 -- up to three nodes for each member
-reach-small : (T e d : ℕ) (g : List ℕ) → Small (fromOutside T e d g)
+reach-small : (T e d : ℕ) (g : List ℕ) → Small T (fromOutside T e d g)
 unfolding fromOutside
 reach-small T e d g =
     let xs = reached d g 0 (upTo T) in
     record { few = omega (arith, length-reach-nodes e xs 0 (is (aNode 0)), length-reach-members e xs 0) }
 
 -- up to three nodes for each time after a first one for each
-timed-small : (T e s : ℕ) (f : ℕ → List Node) → ((t : ℕ) → length (f t) ≡ s) → s ≤ 3 → Small (timeByTime T e s f)
+timed-small : (T e s : ℕ) (f : ℕ → List Node) → ((t : ℕ) → length (f t) ≡ s) → s ≤ 3 → Small T (timeByTime T e s f)
 timed-small T e s f rows h =
     record { few = omega (arith, length-timed-nodes T e s f rows, length-timed T e s f, mul-le-mul-left T h) }
 
-of-small : (T e n : ℕ) → Small (ofLength T e n)
+of-small : (T e n : ℕ) → Small T (ofLength T e n)
 unfolding ofLength
 of-small T e n = timed-small T e 1 (startOf T e n) (λ t. refl) (omega arith)
 
-outside-small : (T e a b : ℕ) → Small (ofLengthOutside T e a b)
+outside-small : (T e a b : ℕ) → Small T (ofLengthOutside T e a b)
 outside-small T e a b =
-    outside-either Small T e a b (timed-small T e 1 (startAbove T e b) (λ t. refl) (omega arith))
+    outside-either (Small T) T e a b (timed-small T e 1 (startAbove T e b) (λ t. refl) (omega arith))
     (timed-small T e 3 (λ t. startOutside T e a b (T + 3 * (t - 1)) t) (λ t. refl) (omega arith))
+
+-- up to four nodes for each time
+gap-small : (T a b lo hi : ℕ) → Small T (gapOutside T a b lo hi)
+gap-small T a b lo hi = record { few = omega (arith, length-gap-nodes T a b lo hi, length-gap-member T a b lo hi) }
 
 -- the list of time t: Y of some events
 abbrev timeList : List ℕ → ℕ → Listed
@@ -63,22 +68,23 @@ timeList us t = entries (map (λ e. atom (Y e t)) us)
 
 -- one list with few nodes, or a list for each of T times, and then lo is 0
 pub data Shape (T : ℕ) (c : Counted) : Type 0 where
-  one-list : (l : Listed) → Small l → c .lists ≡ l ∷ [] → Shape T c
+  one-list : (l : Listed) → Small T l → c .lists ≡ l ∷ [] → Shape T c
   time-lists : (us : List ℕ) → c .lists ≡ map (timeList us) (upTo T) → c .lo ≡ 0 → Shape T c
 
 -- that of each kind
 pub lists-shape : (T : ℕ) (dur : ℕ → ℕ) (us group : ℕ → List ℕ) (k : Kind) → Shape T (countedOf T dur us group k)
 unfolding countedOf
 lists-shape T dur us group (clash r) = time-lists (us r) refl refl
-lists-shape T dur us group (unavailable r g) = one-list _ (entries-small _) refl
+lists-shape T dur us group (unavailable r g) = one-list _ (entries-small T _) refl
 lists-shape T dur us group (preferred e g) = one-list _ (reach-small T e (dur e) (group g)) refl
-lists-shape T dur us group (split e lo hi) = one-list _ (entries-small _) refl
-lists-shape T dur us group (spread vs g lo hi) = one-list _ (entries-small _) refl
-lists-shape T dur us group (busy r g lo hi) = one-list _ (entries-small _) refl
-lists-shape T dur us group (cluster r hs lo hi) = one-list _ (entries-small _) refl
-lists-shape T dur us group (idle r hs lo hi) = one-list _ (entries-small _) refl
+lists-shape T dur us group (split e lo hi) = one-list _ (entries-small T _) refl
+lists-shape T dur us group (spread vs g lo hi) = one-list _ (entries-small T _) refl
+lists-shape T dur us group (busy r g lo hi) = one-list _ (entries-small T _) refl
+lists-shape T dur us group (cluster r hs lo hi) = one-list _ (entries-small T _) refl
+lists-shape T dur us group (idle r hs lo hi) = one-list _ (entries-small T _) refl
 lists-shape T dur us group (distribute e n lo hi) = one-list _ (of-small T e n) refl
 lists-shape T dur us group (lengths e a b) = one-list _ (outside-small T e a b) refl
+lists-shape T dur us group (precedence a b lo hi) = one-list _ (gap-small T a b lo hi) refl
 
 each-of : {A : Type 0} {P : A → Type 0} (f : ℕ → A) → ((t : ℕ) → P (f t)) → (ts : List ℕ) → Each P (map f ts)
 each-of f p [] = each-none
@@ -132,9 +138,9 @@ module _ {T : ℕ} {c : Counted} where
   lists-reached (one-list l m e) h = rw e (one-reached l (rw e at h))
   lists-reached (time-lists us e z) h = rw (e, z) (each-of (timeList us) (λ t. record { low = omega arith }) (upTo T))
 
-  pub lists-small : Shape T c → Each Small (c .lists)
+  pub lists-small : Shape T c → Each (Small T) (c .lists)
   lists-small (one-list l m e) = rw e (each-more {x = l} m each-none)
-  lists-small (time-lists us e z) = rw e (each-of (timeList us) (λ t. entries-small (map (λ e. atom (Y e t)) us)) (upTo T))
+  lists-small (time-lists us e z) = rw e (each-of (timeList us) (λ t. entries-small T (map (λ e. atom (Y e t)) us)) (upTo T))
 
   pub lists-alike : Shape T c → Alike (c .lists)
   lists-alike (one-list l m e) =

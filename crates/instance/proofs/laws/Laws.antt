@@ -11,7 +11,7 @@ use Rattle.scope.specs.Parsed.{answered, refusal}
 use Rattle.scope.specs.Operations.{readOf}
 use Rattle.scope.specs.Number.{limited}
 use Rattle.scope.specs.Kinds.{Kind, Constraint}
-use Rattle.scope.specs.Instance.{Counts, Instance, countsOf, ordered, ended, parse}
+use Rattle.scope.specs.Instance.{Counts, Instance, countsOf, distinct, ordered, ended, parse}
 use Rattle.parsing.specs.Parsing.{listOf}
 use Rattle.parsing.proofs.laws.Parsing.{andThen-got, unless-got, repeat-length, repeat-also}
 use Rattle.parsing.proofs.laws.Each.{each-head, each-drop, repeat-each}
@@ -55,14 +55,16 @@ record Passed (n : ℕ) (k : Kind) : Type 0 where
   reached : lowOf k ≤ n
 
 ended-got : (at n weight : ℕ) (k : Kind) (end : ℕ) {c : Constraint} {next : ℕ}
-    → ended at (ordered k) (lowOf k) (highOf k) n weight k end ≡ got c next
+    → ended at (distinct k) (ordered k) (lowOf k) (highOf k) n weight k end ≡ got c next
     → Passed n k × (_≡_ {A = Parsed Constraint} (got (record { weight = weight; kind = k }) end) (got c next))
 unfolding ended
 ended-got at n weight k end e =
     let reaches : Parsed Constraint = unless (leb (lowOf k) n) 5 at (got (record { weight = weight; kind = k }) end) in
     let bounded = unless (leb (lowOf k) (highOf k)) 5 at reaches in
-    let a = unless-got (leb n 255) 4 at (unless (ordered k) 5 at bounded) e in
-    let o = unless-got (ordered k) 5 at bounded (a .rest) in
+    let inOrder = unless (ordered k) 5 at bounded in
+    let a = unless-got (leb n 255) 4 at (unless (distinct k) 19 at inOrder) e in
+    let t = unless-got (distinct k) 19 at inOrder (a .rest) in
+    let o = unless-got (ordered k) 5 at bounded (t .rest) in
     let b = unless-got (leb (lowOf k) (highOf k)) 5 at reaches (o .rest) in
     let d = unless-got (leb (lowOf k) n) 5 at (got (record { weight = weight; kind = k }) end) (b .rest) in (
       record {

@@ -39,7 +39,7 @@ flat-nodes g e n zero h l = each-none
 flat-nodes g e n (suc k) h l =
     each-both (e n (record { low = h; high = omega arith })) (flat-nodes g e (suc n) k (omega arith) (omega arith))
 
-base-small : (before T k : ℕ) → before ≤ 256000 → T ≤ 125 → Within 1024 k → baseOf before T k < 524288
+pub base-small : (before T k : ℕ) → before ≤ 256000 → T ≤ 125 → Within 1024 k → baseOf before T k < 524288
 unfolding baseOf
 base-small before T k h l w = omega (arith, row-small T k l (w .high))
 

@@ -1,17 +1,17 @@
 -- The nodes and the members of a list are over literals of variables, and as many are counted as the bounds need.
-use Prim.Native.Nat.{ℕ, zero, suc, _+_, _-_, _*_, _≤_}
+use Prim.Native.Nat.{ℕ, zero, suc, _+_, _-_, _*_, _≤_, _<_}
 use mathlib.Core.Path.{refl}
 use mathlib.Core.List.{List, [], _∷_, map}
 use native.Mathlib.Omega.{arith}
 use lib.ListN.{length, getD, take, drop, length-map}
 use Rattle.scope.specs.Cnf.{pos, opp, Gate, or, and}
 use Rattle.scope.specs.Formula.{refLiteral, nodeGate}
-use Rattle.scope.specs.Kinds.{Kind, clash, unavailable, preferred, split, spread, busy, cluster, idle, distribute, lengths, Atom, Y, Entry, atom, entries, Listed, upTo, countedOf}
+use Rattle.scope.specs.Kinds.{Kind, clash, unavailable, preferred, split, spread, busy, cluster, idle, distribute, lengths, precedence, Atom, Y, Entry, atom, entries, Listed, upTo, countedOf}
 use Rattle.parsing.specs.Each.{Each, each-none, each-more}
 use Rattle.parsing.proofs.laws.Each.{each-at, each-drop}
 use Rattle.constraint.specs.declared.kinds.Head.{Head}
 use Rattle.constraint.specs.Valid.{OneOf}
-use Rattle.literals.specs.Variables.{Within}
+use Rattle.literals.specs.Variables.{baseOf, Within}
 use Rattle.literals.proofs.laws.Variables.{xAt}
 use Rattle.user_table.specs.Filled.{usersAt}
 use Rattle.literals.specs.Proper.{Proper}
@@ -34,7 +34,8 @@ use Rattle.node_lists.specs.Lengths.{outsideCount}
 use Rattle.node_lists.proofs.laws.Lengths.{ByNumbers, of-length, of-length-outside}
 use Rattle.list.specs.Fillable.{Fillable}
 pub use Rattle.list.proofs.laws.OverLiterals.{OverLiterals}
-use Rattle.list.proofs.laws.LengthLiterals.{length-nodes, outside-nodes, last-proper, count-few}
+use Rattle.list.proofs.laws.LengthLiterals.{length-nodes, outside-nodes, last-proper, count-few, base-small}
+use Rattle.list.proofs.laws.GapLiterals.{gap-over}
 use Rattle.list.proofs.laws.ReachLiterals.{reach-literals}
 use Rattle.list.proofs.laws.Proper.{opposite-proper, output-proper}
 use Rattle.list.proofs.laws.Fillable.{clash-time, only-one, nodes-length}
@@ -163,6 +164,14 @@ module _ (durations users groups list : List ℕ) (h : Head) (t v : ℕ) (words 
       (numbers-literals (of-length-outside (h .times) (layoutOf h) e v a b (f .fits .range .1 .low))
       (outside-nodes (h .times) (layoutOf h) e v (ground-sizes g) (ground-event g (f .fits .range .0)) s m a b (omega (arith, f .fits .range .1 .high, g .times)))
       (last-proper (h .times) v (outsideCount a) (g .times) s m (count-few a .0) (count-few a .1)))
+  list-literals (precedence a b lo hi) f =
+      let g = f .fits .ground in
+      let m : v ≤ 8000001 = omega (arith, f .small) in
+      let base : (e : ℕ) → OneOf (h .events) e → baseOf 0 (h .times) e < 524288 =
+      λ e o. base-small 0 (h .times) e (omega arith) (g .times) (ground-event g o) in
+      rw (only-one f refl)
+      (gap-over (h .times) (layoutOf h) a b lo hi v (g .times) (base a (f .fits .range .0)) (base b (f .fits .range .1)) s m
+      (f .fits .range .2 .high) (f .fits .range .3 .high))
 
   -- it has at most 255 members, and the low bound is no more than these
   pub list-short : (k : Kind) → Fillable durations users groups list h k t v words

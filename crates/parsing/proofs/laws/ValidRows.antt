@@ -71,7 +71,7 @@ module _ (n : Counts) (s : List ℕ) where
       record { holds = subst (InRange n) same h; ahead = omega arith; inside = λ l. omega arith }
 
 -- each row of the table
-row-in : (n : Counts) (k : ℕ) → 1 ≤ k → k ≤ 10 → RowIn n (fieldsOf n k)
+row-in : (n : Counts) (k : ℕ) → 1 ≤ k → k ≤ 11 → RowIn n (fieldsOf n k)
 unfolding fieldsTable
 row-in n (suc zero) _ _ = λ r a. a
 row-in n (suc (suc zero)) _ _ = λ r a g b. (a, b)
@@ -83,11 +83,12 @@ row-in n (suc (suc (suc (suc (suc (suc (suc zero))))))) _ _ = λ r a hs b lo c h
 row-in n (suc (suc (suc (suc (suc (suc (suc (suc zero)))))))) _ _ = λ r a hs b lo c hi d. (a, b, record { low = c .high; high = d .high })
 row-in n (suc (suc (suc (suc (suc (suc (suc (suc (suc zero))))))))) _ _ = λ e a l b lo c hi d. (a, b, record { low = c .high; high = d .high })
 row-in n (suc (suc (suc (suc (suc (suc (suc (suc (suc (suc zero)))))))))) _ _ = λ e a x b y c. (a, b, c)
-row-in n (suc (suc (suc (suc (suc (suc (suc (suc (suc (suc (suc k))))))))))) _ h = let f : ⊥ = omega arith in absurd f
+row-in n (suc (suc (suc (suc (suc (suc (suc (suc (suc (suc (suc zero))))))))))) _ _ = λ x a y b lo c hi d. (a, b, c, d)
+row-in n (suc (suc (suc (suc (suc (suc (suc (suc (suc (suc (suc (suc k)))))))))))) _ h = let f : ⊥ = omega arith in absurd f
 row-in n zero h _ = let f : ⊥ = omega arith in absurd f
 
--- the fields of a kind from 1 to 10
-pub kind-read : (n : Counts) (s : List ℕ) (at k : ℕ) (kind : Kind) (end : ℕ) → 1 ≤ k → k ≤ 10
+-- the fields of a kind from 1 to 11
+pub kind-read : (n : Counts) (s : List ℕ) (at k : ℕ) (kind : Kind) (end : ℕ) → 1 ≤ k → k ≤ 11
     → fieldsRead (fieldsOf n k) s at ≡ got kind end
     → RowRead n s at kind end
 kind-read n s at k kind end a b e = fields-read n s (fieldsOf n k) at kind end (row-in n k a b) e

@@ -51,10 +51,10 @@ module _ {durations users groups list : List ℕ} {h : Head} {c : Constraint} (s
 
   pub sizable-small : 1 + length (listIn durations (usersAt users) groups h (c .kind) 1 .nodes) ≤ 8000001
   sizable-small =
-      let small : Small (listIn durations (usersAt users) groups h (c .kind) 1) =
+      let small : Small (h .times) (listIn durations (usersAt users) groups h (c .kind) 1) =
       each-at 0 noList (lists-small sizable-shape) (omega (arith, s .some))
       in
-      omega (arith, small .few, sizable-short .most)
+      omega (arith, small .few, sizable-short .most, s .fits .ground .times)
 
 -- lists that are alike have one size
 module _ (w : ℕ) (c : Counted) where

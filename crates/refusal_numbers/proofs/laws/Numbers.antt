@@ -36,12 +36,12 @@ zero-accepted {ns} written before none (refuses e) z =
 
 -- the reader's numbers, before those of later places
 abbrev pub fromFile : List ℕ → List ℕ
-fromFile later = 1 ∷ 2 ∷ 3 ∷ 4 ∷ 5 ∷ 6 ∷ later
+fromFile later = 1 ∷ 2 ∷ 3 ∷ 4 ∷ 5 ∷ 6 ∷ 19 ∷ later
 
 of-file : (later : List ℕ) → Reader (fromFile later)
-of-file later = record { e1 = refl; e2 = refl; e3 = refl; e4 = refl; e5 = refl; e6 = refl }
+of-file later = record { e1 = refl; e2 = refl; e3 = refl; e4 = refl; e5 = refl; e6 = refl; e19 = refl }
 
--- reading: 1 to 6
+-- reading: 1 to 6, 19
 abbrev pub readNumbers : List ℕ
 readNumbers = fromFile []
 
@@ -49,7 +49,7 @@ pub read-numbers : (file : List ℕ) → Within readNumbers (readOf file)
 unfolding readOf
 read-numbers file = on-file (of-file _) file (λ i. accepts)
 
--- scoring and the same sheet: 1 to 6, 10 to 12
+-- scoring and the same sheet: 1 to 6, 10 to 12, 19
 abbrev pub sheetNumbers : List ℕ
 sheetNumbers = fromFile (10 ∷ 11 ∷ 12 ∷ [])
 
@@ -65,14 +65,14 @@ unfolding sameSheetOf
 same-sheet-numbers file first second =
     on-file (of-file _) file (λ i. on-timetable timetables i first (on-timetable timetables i second accepts))
 
--- sizes: 1 to 8
+-- sizes: 1 to 8, 19
 pub sizes-numbers : (file : List ℕ) (B : ℕ) → Within (fromFile (7 ∷ 8 ∷ [])) (sizesOf file B)
 unfolding sizesOf
 sizes-numbers file B =
     on-file (of-file _) file
     (λ i. given-if (leb B mostBound) 7 B refl (given-if (leb (boundedVariables i B) mostVariables) 8 0 refl accepts))
 
--- the text's size: 1 to 6, 8; the text: 9 too
+-- the text's size: 1 to 6, 8, 19; the text: 9 too
 pub text-size-numbers : (file : List ℕ) → Within (fromFile (8 ∷ [])) (textSizeOf file)
 unfolding textSizeOf
 text-size-numbers file = on-file (of-file _) file (λ i. given-if (leb (variables i) mostVariables) 8 0 refl accepts)
@@ -113,7 +113,7 @@ checking-within r e7 e8 e9 p file B proof l =
     (given-if (leb (boundedVariables i B) mostVariables) 8 0 e8
     (against-within e9 p (boundedVariables i B) (boundedHard i B) proof l)))
 
--- checking a bound proof: 1 to 9, 14 to 18; without the tail: all but 7
+-- checking a bound proof: 1 to 9, 14 to 19; without the tail: all but 7
 abbrev pub checkNumbers : List ℕ
 checkNumbers = fromFile (7 ∷ 8 ∷ 9 ∷ 14 ∷ 15 ∷ 16 ∷ 17 ∷ 18 ∷ [])
 

@@ -9,7 +9,7 @@ use lib.ListN.{length, drop}
 use Rattle.scope.specs.Parsed.{Parsed, got, refused, Answer, answered, refusal, andThen, unless, cons, repeat, with, provided}
 use Rattle.scope.specs.Number.{Front, broken, whole, within, front, numberFrom, number, limited, reference, references, listed}
 use Rattle.scope.specs.Kinds.{Event, Kind, longest, durationOf, users, groupAt, Counted, countedOf}
-use Rattle.scope.specs.Instance.{countsOf, Instance, eventAt, Fields, aReference, aList, aNumber, theKind, fieldsRead, fieldsOf, ordered, ended, constraintAt, sizesAt, groupsAt, constraintsAt, parse}
+use Rattle.scope.specs.Instance.{countsOf, Instance, eventAt, Fields, aReference, aList, aNumber, theKind, fieldsRead, fieldsOf, distinct, ordered, ended, constraintAt, sizesAt, groupsAt, constraintsAt, parse}
 use Rattle.scope.specs.Score.{slots, truth, firstWrong, firstAbove, unlessFound, ofTimetable}
 
 -- one of some numbers
@@ -47,7 +47,7 @@ module _ {ns : List ℕ} where
   repeated zero f at h = reads
   repeated (suc n) f at h = after (h at) (λ a next. joined a (repeated n f next h))
 
--- the reader gives 1 to 6
+-- the reader gives 1 to 6 and 19
 pub record Reader (ns : List ℕ) : Type 0 where
   pub e1 : oneOf ns 1 ≡ true
   pub e2 : oneOf ns 2 ≡ true
@@ -55,6 +55,7 @@ pub record Reader (ns : List ℕ) : Type 0 where
   pub e4 : oneOf ns 4 ≡ true
   pub e5 : oneOf ns 5 ≡ true
   pub e6 : oneOf ns 6 ≡ true
+  pub e19 : oneOf ns 19 ≡ true
 
 module _ {ns : List ℕ} (r : Reader ns) where
   from-front : (at : ℕ) (f : Front) → Reads ns (numberFrom at f)
@@ -97,23 +98,24 @@ module _ {ns : List ℕ} (r : Reader ns) where
     the-fields (aNumber lo hi f) at = after (a-limit s at lo hi) (λ v next. the-fields (f v) next)
     the-fields (theKind k) at = reads
 
-    an-end : (at : ℕ) (o : Bool) (lo hi n weight : ℕ) (k : Kind) (end : ℕ) → Reads ns (ended at o lo hi n weight k end)
+    an-end : (at : ℕ) (d o : Bool) (lo hi n weight : ℕ) (k : Kind) (end : ℕ) → Reads ns (ended at d o lo hi n weight k end)
     unfolding ended
-    an-end at o lo hi n weight k end =
+    an-end at d o lo hi n weight k end =
         tested (leb n 255) 4 at (r .e4)
-        (tested o 5 at (r .e5) (tested (leb lo hi) 5 at (r .e5) (tested (leb lo n) 5 at (r .e5) reads)))
+        (tested d 19 at (r .e19)
+        (tested o 5 at (r .e5) (tested (leb lo hi) 5 at (r .e5) (tested (leb lo n) 5 at (r .e5) reads))))
 
     module _ (T R : ℕ) (es : List Event) (gs : List (List ℕ)) where
       a-constraint : (at : ℕ) → Reads ns (constraintAt T R es gs s at)
       unfolding constraintAt
       a-constraint at =
-          after (a-limit s at 1 10)
+          after (a-limit s at 1 11)
           (λ kind next.
           after (a-limit s next 0 1000)
           (λ weight more.
           after (the-fields (fieldsOf (countsOf T R es gs) kind) more) (λ k end.
           let c : Counted = countedOf T (durationOf es) (λ r. users r es) (groupAt gs) k in
-          an-end at (ordered k) (c .lo) (c .hi) (longest (c .lists)) weight k end)))
+          an-end at (distinct k) (ordered k) (c .lo) (c .hi) (longest (c .lists)) weight k end)))
 
       some-constraints : (at : ℕ) → Reads ns (constraintsAt T R es gs s at)
       unfolding constraintsAt

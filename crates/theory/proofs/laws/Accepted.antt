@@ -9,7 +9,7 @@ use Rattle.laws.specs.Lists.{All, All-at, All-weaken}
 use Rattle.scope.specs.Parsed.{Parsed, andThen, repeat}
 use Rattle.scope.specs.Number.{limited, listed}
 use Rattle.scope.specs.Kinds.{Event, groupAt, longest}
-use Rattle.scope.specs.Instance.{Instance, Counts, countsOf, eventAt, fieldsRead, fieldsOf, ordered, ended, constraintAt, sizesAt, groupsAt, constraintsAt, parse}
+use Rattle.scope.specs.Instance.{Instance, Counts, countsOf, eventAt, fieldsRead, fieldsOf, distinct, ordered, ended, constraintAt, sizesAt, groupsAt, constraintsAt, parse}
 use Rattle.scope.specs.Demands.{Accepted}
 use Rattle.parsing.specs.Numbers.{Ascending, none, more}
 use Rattle.parsing.proofs.laws.Numbers.{limited-got, listed-got}
@@ -34,7 +34,7 @@ gives-event T R s at =
     (λ d next a. gives-andThen (gives-listed R s next) (λ rs end b. gives-value (record { duration = a; resources = b })))
 
 -- the fields of a kind
-gives-fields : (n : Counts) (s : List ℕ) (at k : ℕ) → Within 1 10 k → Gives (InRange n) (fieldsRead (fieldsOf n k) s at)
+gives-fields : (n : Counts) (s : List ℕ) (at k : ℕ) → Within 1 11 k → Gives (InRange n) (fieldsRead (fieldsOf n k) s at)
 gives-fields n s at k w = record { known = λ kind end e. kind-read n s at k kind end (w .low) (w .high) e .holds }
 
 -- a constraint, with the checks at its end
@@ -42,7 +42,7 @@ pub gives-constraint : (T R : ℕ) (es : List Event) (gs : List (List ℕ)) (s :
     → Gives (ValidConstraint T R es gs) (constraintAt T R es gs s at)
 unfolding constraintAt ended
 gives-constraint T R es gs s at =
-    gives-andThen (gives-limited 1 10 s at)
+    gives-andThen (gives-limited 1 11 s at)
     (λ kind next i.
     gives-andThen (gives-limited 0 1000 s next)
     (λ weight after w.
@@ -52,6 +52,8 @@ gives-constraint T R es gs s at =
     let n = longest (x .lists) in
     gives-unless (leb n 255) 4 at
     (λ a.
+    gives-unless (distinct k) 19 at
+    (λ d.
     gives-unless (ordered k) 5 at
     (λ o.
     gives-unless (leb (x .lo) (x .hi)) 5 at
@@ -62,11 +64,12 @@ gives-constraint T R es gs s at =
     (record {
       weight = w;
       fields = f;
+      distinct = d;
       ordered = o;
       lists = leb-true n 255 a;
       bounds = leb-true (x .lo) (x .hi) b;
       reached = leb-true (x .lo) n c;
-    }))))))))
+    })))))))))
 
 -- three sizes
 record ValidSizes (n : ℕ × ℕ × ℕ) : Type 0 where

@@ -1,7 +1,7 @@
--- Demands 2 and 3 of the definitions, what the two operations beside them owe, what kinds 3, 9 and 10 count, and idle times in one walk.
+-- Demands 2 and 3 of the definitions, what the two operations beside them owe, what kinds 3, 9, 10 and 11 count, and idle times in one walk.
 use lib.ListN.{take}
 use Rattle.scope.specs.Kinds.{groupAt}
-use Rattle.scope.specs.Demands.{Demand2, Demand3, DemandHard, DemandBest, DemandLengths, DemandPreferred, DemandIdle}
+use Rattle.scope.specs.Demands.{Demand2, Demand3, DemandHard, DemandBest, DemandLengths, DemandPreferred, DemandPrecedence, DemandIdle}
 use Rattle.theory.proofs.laws.Match as match
 use Rattle.theory.proofs.laws.Bounded.{bounded-model}
 use Rattle.theory.proofs.laws.Never as bound
@@ -9,6 +9,8 @@ use Rattle.theory.proofs.laws.Subevents.{distribute-counts, lengths-cou
 use Rattle.theory.proofs.laws.LengthLists.{of-length-listed, outside-listed}
 use Rattle.theory.proofs.laws.ReachLists.{length-from-outside, few-nodes, single-nodes}
 use Rattle.theory.proofs.laws.Held.{times-charged, lengths-charged}
+use Rattle.theory.proofs.laws.GapLists.{length-gap-member, gap-variables, gap-alone, gap-few}
+use Rattle.theory.proofs.laws.Gap.{precedence-charged, accepted-taken}
 use Rattle.theory.proofs.laws.IdleWalk.{kept-idle, kept-counted, idle-charged, kept-by-calls}
 
 pub demand2 : Demand2
@@ -30,6 +32,17 @@ demandLengths =
 pub demandPreferred : DemandPreferred
 demandPreferred =
     record { times = times-charged; lengths = lengths-charged; variables = few-nodes; members = length-from-outside; single = single-nodes }
+
+pub demandPrecedence : DemandPrecedence
+demandPrecedence =
+    record {
+      gap = precedence-charged;
+      taken = accepted-taken;
+      member = length-gap-member;
+      variables = gap-variables;
+      alone = gap-alone;
+      few = gap-few;
+    }
 
 pub demandIdle : DemandIdle
 demandIdle =

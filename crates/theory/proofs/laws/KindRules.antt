@@ -7,7 +7,7 @@ use Prim.Native.Nat.{ℕ, suc, _+_, _≤_, max}
 use native.Mathlib.Omega.{arith}
 use lib.ListN.{length, length-map}
 use Rattle.laws.specs.Lists.{All, All-append, All-weaken, All-map, All-flatMap}
-use Rattle.scope.specs.Kinds.{Event, Kind, clash, unavailable, preferred, split, spread, busy, cluster, idle, distribute, lengths, Constraint, Atom, Y, S, X, Entry, atom, anyOf, Listed, entries, entriesMembers, Counted, Rule, rule, between, limit, upTo, member, usersFrom, users, durationOf, fromOutside, groupAt, usesAt, takesAt, startsAt, gapsAfter, gaps, countedOf, rulesOf, ofLength, ofLengthOutside, longest}
+use Rattle.scope.specs.Kinds.{Event, Kind, clash, unavailable, preferred, split, spread, busy, cluster, idle, distribute, lengths, precedence, Constraint, Atom, Y, S, X, Entry, atom, anyOf, Listed, entries, entriesMembers, Counted, Rule, rule, between, limit, upTo, member, usersFrom, users, durationOf, fromOutside, groupAt, usesAt, takesAt, startsAt, gapsAfter, gaps, countedOf, rulesOf, ofLength, ofLengthOutside, gapOutside, longest}
 use Rattle.scope.specs.Instance.{Instance, countsOf}
 use Rattle.scope.specs.Score.{eventCount, rules}
 use Rattle.scope.specs.Formula.{durationRules, constraintRules, allRules}
@@ -17,6 +17,7 @@ use Rattle.theory.proofs.laws.Ranges.{length-from, from-all}
 use Rattle.theory.proofs.laws.Nodes.{ListKnown, Atoms, length-members, entries-known}
 use Rattle.theory.proofs.laws.TimeByTime.{of-length-known, outside-known}
 use Rattle.theory.proofs.laws.ReachLists.{from-outside-known}
+use Rattle.theory.proofs.laws.GapLists.{gap-known}
 use Rattle.theory.proofs.laws.Rules.{ValidRule, ValidRule-weaken}
 
 -- an atom of an event, a resource and a time that there are
@@ -134,6 +135,9 @@ module _ (i : Instance) (v : ValidInstance i) where
   kind-valid (lengths e m n) f a b =
       one-list (InRange i) (between 0 0 []) (ofLengthOutside (i .times) e m n)
       (outside-known (InRange i) (i .times) e (v .times .low) (λ t w. (f .0, w)) (λ t w. (f .0, w)) m n) a b
+  kind-valid (precedence m n lo hi) f a b =
+      one-list (InRange i) (between 0 0 []) (gapOutside (i .times) m n lo hi)
+      (gap-known (InRange i) (i .times) m n lo hi (λ t w. (f .0, w)) (λ t w. (f .1, w))) a b
 
   durations-valid : (e : ℕ) (vs : List Event) → 1 ≤ e → e + length vs ≤ suc (length (i .events))
       → All (ValidEvent (i .times) (i .resources)) vs → All (λ r. ValidRule (InRange i) (r .1)) (durationRules i e vs)

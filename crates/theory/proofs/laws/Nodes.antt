@@ -69,7 +69,7 @@ length-members [] k = refl
 length-members (x ∷ xs) k = ap suc (length-members xs (k + added x))
 
 module _ (P : Atom → Type 0) where
-  atoms-known : (k : ℕ) (xs : List Atom) → All P xs → All (Known P k) (atoms xs)
+  pub atoms-known : (k : ℕ) (xs : List Atom) → All P xs → All (Known P k) (atoms xs)
   atoms-known k xs h = All-map P (Known P k) (λ a. is (anAtom a)) (λ a p. p) xs h
 
   entry-known : (x : Entry) (k : ℕ) → Atoms P x → NodesKnown P k (entryNodes x k)

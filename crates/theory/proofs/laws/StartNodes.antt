@@ -25,7 +25,7 @@ map-same f g [] h = refl
 map-same f g (x ∷ xs) h = ap₂ _∷_ (h .0) (map-same f g xs (h .1))
 
 -- a map of numbers from a on, at a place
-getD-map-from : (g : ℕ → Bool) (a k i : ℕ) → i < k → getD (map g (from a k)) i false ≡ g (a + i)
+pub getD-map-from : (g : ℕ → Bool) (a k i : ℕ) → i < k → getD (map g (from a k)) i false ≡ g (a + i)
 unfolding from
 getD-map-from g a zero i l = let f : ⊥ = omega arith in absurd f
 getD-map-from g a (suc k) zero l = rw add-zero

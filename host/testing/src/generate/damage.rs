@@ -1,10 +1,12 @@
 //! Damaged inputs: instances, bytes, numbers, timetables and models.
 
 use super::random::Random;
-use crate::reference::{read_number, write_number, Constraint, Instance, Kind, Range, LARGEST_HI};
+use crate::reference::{
+    read_number, write_number, Constraint, Instance, Kind, Range, LARGEST_GAP, LARGEST_HI,
+};
 
-/// A random change of one field, so that the file of the result earns one of
-/// 2 to 5, unless the field does not matter or does not exist.
+/// A random change of one field, or of two of kind 11, so that the file of the result
+/// earns one of 2 to 5 and 19, unless the field does not matter or does not exist.
 pub fn damaged_instance(random: &mut Random, instance: &Instance) -> Instance {
     let mut changed = instance.clone();
     let event = random.below(instance.events.len());
@@ -80,6 +82,9 @@ fn damage_constraint(instance: &Instance, constraint: &mut Constraint, choice: u
         | (9, _, Kind::Distribute { length, .. }) => {
             *length = [0, instance.times + 1][lo as usize % 2];
         }
+        (_, _, Kind::Precedence { first, second, gap }) => {
+            damage_precedence(instance.events.len(), [first, second], gap, choice, lo);
+        }
         (_, _, Kind::Clash { resource }) => *resource = instance.resources,
         (_, _, Kind::Unavailable { group, .. } | Kind::PreferredTimes { group, .. }) => {
             *group = instance.groups.len();
@@ -94,6 +99,31 @@ fn damage_constraint(instance: &Instance, constraint: &mut Constraint, choice: u
             | Kind::Idle { range, .. }
             | Kind::Distribute { range, .. },
         ) => *range = bad_range,
+    }
+}
+
+/// A gap's lo above its hi, two events that are one, both of these, two events that
+/// are one before a bound above its limit, such a bound, or an event that is not there.
+fn damage_precedence(
+    events: usize,
+    [first, second]: [&mut usize; 2],
+    gap: &mut Range,
+    choice: usize,
+    lo: u32,
+) {
+    let crossed = Range {
+        lo: lo % LARGEST_GAP + 1,
+        hi: lo % LARGEST_GAP,
+    };
+    let above = LARGEST_GAP + 1 + lo % 3;
+    match (choice, lo % 5) {
+        (7, _) => *gap = crossed,
+        (8, _) => *second = *first,
+        (9, 0) => (*second, *gap) = (*first, crossed),
+        (9, 1) => (*second, gap.lo) = (*first, above),
+        (9, 2) => gap.hi = above,
+        (9, 3) => *second = events,
+        _ => *first = events,
     }
 }
 
@@ -141,7 +171,7 @@ pub fn damaged_numbers(random: &mut Random, bytes: &[u8]) -> Vec<u8> {
         4 => write_number(u32::MAX, &mut changed),
         _ => {
             let limits = [
-                0, 1, 10, 11, 99, 100, 125, 126, 255, 256, 1_000, 1_001, 4_097,
+                0, 1, 11, 12, 99, 100, 124, 125, 126, 255, 256, 1_000, 1_001, 4_097,
             ];
             write_number(random.pick(&limits), &mut changed);
         }

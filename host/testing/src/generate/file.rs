@@ -1,6 +1,6 @@
 //! Instance files.
 
-use crate::reference::{write_number, Constraint, Instance, Kind};
+use crate::reference::{write_number, Constraint, Instance, Kind, Range};
 
 /// The instance file of `instance`.
 pub fn encode(instance: &Instance) -> Vec<u8> {
@@ -67,11 +67,14 @@ fn write_constraint(file: &mut Vec<u8>, constraint: &Constraint) {
             number(file, *shortest);
             number(file, *longest);
         }
+        Kind::Precedence { first, second, gap } => {
+            reference(file, *first);
+            reference(file, *second);
+            bounds(file, *gap);
+        }
     }
     if (4..=9).contains(&code) {
-        let range = constraint.kind.range();
-        number(file, range.lo as usize);
-        number(file, range.hi as usize);
+        bounds(file, constraint.kind.range());
     }
 }
 
@@ -88,11 +91,17 @@ fn code(kind: &Kind) -> usize {
         Kind::Idle { .. } => 8,
         Kind::Distribute { .. } => 9,
         Kind::Lengths { .. } => 10,
+        Kind::Precedence { .. } => 11,
     }
 }
 
 fn number(file: &mut Vec<u8>, value: usize) {
     write_number(value as u32, file);
+}
+
+fn bounds(file: &mut Vec<u8>, range: Range) {
+    number(file, range.lo as usize);
+    number(file, range.hi as usize);
 }
 
 fn reference(file: &mut Vec<u8>, index: usize) {

@@ -4,7 +4,8 @@ use super::file::encode;
 use super::random::Random;
 use super::timetables::timetable;
 use crate::reference::{
-    score, Constraint, Event, Infeasibility, Instance, Kind, Range, LARGEST_HI, LONGEST_LIST,
+    score, Constraint, Event, Infeasibility, Instance, Kind, Range, LARGEST_GAP, LARGEST_HI,
+    LONGEST_LIST,
 };
 use std::ops::RangeInclusive;
 
@@ -146,19 +147,23 @@ fn constraint(
 /// A random kind with its fields; none if what it refers to does not exist or
 /// its list is too long.
 fn kind(random: &mut Random, instance: &Instance) -> Option<Kind> {
-    let code = 1 + random.below(10);
-    let no_resource = instance.resources == 0 && ![3, 4, 5, 9, 10].contains(&code);
+    let code = 1 + random.below(11);
+    let events = instance.events.len();
+    let no_resource = instance.resources == 0 && ![3, 4, 5, 9, 10, 11].contains(&code);
     let no_group = instance.groups.is_empty() && [2, 3, 5, 6].contains(&code);
-    if no_resource || no_group {
+    let no_second = events == 1 && code == 11;
+    if no_resource || no_group || no_second {
         return None;
     }
     let fields = Fields {
         resource: random.below(instance.resources.max(1)),
-        event: random.below(instance.events.len()),
+        event: random.below(events),
+        pair: pair(random, instance),
         group: random.below(instance.groups.len().max(1)),
         groups: random.subset(instance.groups.len()),
-        events: random.subset(instance.events.len()),
+        events: random.subset(events),
         lengths: lengths(random, instance.times),
+        gap: gap(random, instance.times),
     };
     let length = instance.list_length(&fields.clone().kind(code, Range { lo: 0, hi: 0 }));
     if length > LONGEST_LIST {
@@ -197,15 +202,60 @@ fn length(random: &mut Random, times: usize) -> usize {
     }
 }
 
+/// Two events where there are two: short ones, of which one can end before the other
+/// begins, more often than others.
+fn pair(random: &mut Random, instance: &Instance) -> [usize; 2] {
+    let events = instance.events.len();
+    let [first, second] = [(); 2].map(|()| {
+        let drawn = [random.below(events), random.below(events)];
+        let durations = drawn.map(|event| instance.events[event].duration);
+        drawn[usize::from(durations[0] > durations[1])]
+    });
+    match first == second {
+        true => [first, (first + 1) % events],
+        false => [first, second],
+    }
+}
+
+/// The bounds of a gap: small ones, equal ones, those up to the first that changes
+/// nothing more and the largest more often than others.
+fn gap(random: &mut Random, times: usize) -> Range {
+    let first = bound_of_gap(random, times);
+    let second = match random.chance(30) {
+        true => first,
+        false => bound_of_gap(random, times),
+    };
+    Range {
+        lo: first.min(second),
+        hi: first.max(second),
+    }
+}
+
+fn bound_of_gap(random: &mut Random, times: usize) -> u32 {
+    // With T − 1 as lo the gap always lies outside, with T − 2 as hi it is never above.
+    let bound = match random.below(12) {
+        0 => times - 1,
+        1 => times.saturating_sub(2),
+        2 => times.saturating_sub(3),
+        3 => LARGEST_GAP as usize,
+        4 => random.below(LARGEST_GAP as usize + 1),
+        5 => random.below(times),
+        _ => random.below(times.min(3)),
+    };
+    bound as u32
+}
+
 /// What a kind may refer to.
 #[derive(Clone)]
 struct Fields {
     resource: usize,
     event: usize,
+    pair: [usize; 2],
     group: usize,
     groups: Vec<usize>,
     events: Vec<usize>,
     lengths: [usize; 2],
+    gap: Range,
 }
 
 impl Fields {
@@ -214,10 +264,12 @@ impl Fields {
         let Fields {
             resource,
             event,
+            pair: [first, second],
             group,
             groups,
             events,
             lengths: [shortest, longest],
+            gap,
         } = self;
         match code {
             1 => Kind::Clash { resource },
@@ -249,11 +301,12 @@ impl Fields {
                 length: shortest,
                 range,
             },
-            _ => Kind::Lengths {
+            10 => Kind::Lengths {
                 event,
                 shortest,
                 longest,
             },
+            _ => Kind::Precedence { first, second, gap },
         }
     }
 }

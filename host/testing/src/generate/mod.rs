@@ -20,5 +20,5 @@ pub use models::{model, model_with_tail};
 pub use planned::{planned_school, Plan};
 pub use proofs::{lent, proof};
 pub use random::Random;
-pub use school::{school, school_with_lengths};
+pub use school::{school, school_of_every_kind};
 pub use timetables::timetable;

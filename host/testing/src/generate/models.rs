@@ -151,6 +151,9 @@ impl Extension {
                 shortest,
                 longest,
             } => self.lengths(sheet, *event, *shortest, *longest),
+            Kind::Precedence { first, second, gap } => {
+                vec![self.gap_outside(sheet, [*first, *second], *gap)]
+            }
         };
         self.counted(&list, constraint);
     }
@@ -230,6 +233,32 @@ impl Extension {
             list.push(outside);
         }
         list
+    }
+
+    /// Whether the gap between two events lies outside, after whether the second has
+    /// begun, or the first goes on, and so too soon or too late. Times count from 1
+    /// here; an event without a time, which no timetable has, neither begins nor goes on.
+    fn gap_outside(&mut self, sheet: &Sheet, [first, second]: [usize; 2], gap: Range) -> bool {
+        let times = sheet.instance.times as i64;
+        let (lo, hi) = (i64::from(gap.lo), i64::from(gap.hi));
+        let takes = |event: usize, time: &i64| sheet.y(event, *time as usize - 1);
+        let begin = (1..=times).find(|time| takes(second, time));
+        let last = (1..=times).rfind(|time| takes(first, time));
+        let begun = |time: i64| begin.is_some_and(|begin| begin <= time);
+        let goes_on = |time: i64| last.is_some_and(|last| last > time);
+        // Of the times from which the second event can still begin after lo times, and
+        // after more than hi; none where these numbers are below 1.
+        let (early, late) = (times - 1 - lo, times - 2 - hi);
+        let soon = |time: i64| takes(first, &time) && begun(time + lo);
+        let tardy = |time: i64| !begun(time + hi + 1) && !goes_on(time);
+        self.values.extend((1..=early).map(|time| begun(time + lo)));
+        self.values.extend((2..=early).map(soon));
+        self.values.extend((1..=late).rev().map(goes_on));
+        self.values.extend((1..=late).map(tardy));
+        let between = begin.zip(last).map(|(begin, last)| begin - last - 1);
+        let outside = !between.is_some_and(|gap| lo <= gap && gap <= hi);
+        self.values.push(outside);
+        outside
     }
 
     /// c(i, j): the first i weights of true inputs sum to at least j.

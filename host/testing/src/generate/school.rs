@@ -1,7 +1,7 @@
 //! Schools with a week, classes, teachers, rooms and the usual wishes.
 
 use super::random::Random;
-use crate::reference::{Constraint, Event, Instance, Kind, Range};
+use crate::reference::{Constraint, Event, Instance, Kind, Range, LARGEST_GAP};
 
 const DAYS: usize = 5;
 const TIMES: usize = 8;
@@ -38,9 +38,9 @@ pub fn school(random: &mut Random, events: usize) -> Instance {
     instance
 }
 
-/// A school as above in which lessons have wishes for doubles, and half of them
-/// for lengths that their parts may have.
-pub fn school_with_lengths(random: &mut Random, events: usize) -> Instance {
+/// A school as above in which lessons have wishes for doubles, half of them for
+/// lengths that their parts may have, and a fifth for another lesson after them.
+pub fn school_of_every_kind(random: &mut Random, events: usize) -> Instance {
     let mut instance = school(random, events);
     for event in 0..events {
         let doubles = (instance.events[event].duration / 2) as u32;
@@ -61,6 +61,20 @@ pub fn school_with_lengths(random: &mut Random, events: usize) -> Instance {
                 longest: shortest + random.below(2),
             };
             add(&mut instance.constraints, 2, lengths);
+        }
+    }
+    for first in 0..events {
+        if random.chance(20) {
+            let lo = random.below(3) as u32;
+            let precedence = Kind::Precedence {
+                first,
+                second: (first + 1 + random.below(events - 1)) % events,
+                gap: Range {
+                    lo,
+                    hi: random.pick(&[lo, lo + TIMES as u32, LARGEST_GAP]),
+                },
+            };
+            add(&mut instance.constraints, 2, precedence);
         }
     }
     instance

@@ -7,7 +7,7 @@
 use super::instance::{Instance, Kind, Range};
 use super::refusal::refuse;
 use std::iter;
-use std::ops::Not;
+use std::ops::{Not, RangeInclusive};
 use timetable::engine::{FormulaSize, Refusal};
 
 pub const LARGEST_BOUND: u64 = 4_095;
@@ -241,6 +241,9 @@ impl<'a, S: Sink> Writer<'a, S> {
             } => self.starts_by_length(variables, *event, |writer, start, going| {
                 writer.outside_gate(start, going, *shortest, *longest)
             }),
+            Kind::Precedence { first, second, gap } => {
+                vec![self.gap_gates(variables, [*first, *second], *gap)]
+            }
         };
         self.counted(&list, kind.range(), weight, Low::of(kind));
     }
@@ -368,6 +371,62 @@ impl<'a, S: Sink> Writer<'a, S> {
         self.and_gate(&[start, w])
     }
 
+    /// ORs of which the first is of `first`, and each other one of a literal of `more`
+    /// and of the OR before it.
+    fn or_chain(&mut self, first: &[Literal], more: impl Iterator<Item = Literal>) -> Vec<Literal> {
+        let mut last = self.or_gate(first);
+        let mut chain = vec![last];
+        for literal in more {
+            last = self.or_gate(&[literal, last]);
+            chain.push(last);
+        }
+        chain
+    }
+
+    /// Whether the gap between two events lies outside `gap`: F, P, G, Q and O. Times
+    /// count from 1 here.
+    fn gap_gates(
+        &mut self,
+        variables: &Variables,
+        [first, second]: [usize; 2],
+        gap: Range,
+    ) -> Literal {
+        let times = variables.times;
+        let Ends { early, late } = Ends::of(times, gap);
+        let (lo, hi) = (gap.lo as usize, gap.hi as usize);
+        let taking = |event: usize, times: RangeInclusive<usize>| -> Vec<Literal> {
+            times.map(|time| variables.y(event, time - 1)).collect()
+        };
+        // F(t), at index t − 1: the second event has begun by t + lo.
+        let begun = match early {
+            0 => Vec::new(),
+            _ => {
+                let more = taking(second, lo + 2..=lo + early);
+                self.or_chain(&taking(second, 1..=lo + 1), more.into_iter())
+            }
+        };
+        // P(t) for t from 2 on: the first event takes t, and F(t).
+        let soon: Vec<Literal> = (2..=early)
+            .map(|t| self.and_gate(&[variables.y(first, t - 1), begun[t - 1]]))
+            .collect();
+        // G(t), at index late − t: the first event goes on after t.
+        let lasting = match late {
+            0 => Vec::new(),
+            _ => {
+                let more = taking(first, 2..=late);
+                self.or_chain(&taking(first, late + 1..=times), more.into_iter().rev())
+            }
+        };
+        // Q(t): the second event has not begun by t + hi + 1, and not G(t).
+        let tardy: Vec<Literal> = (1..=late)
+            .map(|t| self.and_gate(&[!begun[t + hi - lo], !lasting[late - t]]))
+            .collect();
+        let mut list = taking(first, early + 1..=times);
+        list.extend(begun.first());
+        list.extend(soon.into_iter().chain(tardy));
+        self.or_gate(&list)
+    }
+
     /// A counter over `inputs`, literals with weights. Gives the variable
     /// before c(n, 1). The inputs' variables are below the counter's.
     fn counter(&mut self, inputs: impl Iterator<Item = (Literal, u32)>, columns: u32) -> u32 {
@@ -462,6 +521,23 @@ impl<'a, S: Sink> Writer<'a, S> {
     }
 }
 
+/// The last times of a first event that can matter for the bounds of a gap.
+struct Ends {
+    /// After it there are lo times and one more.
+    early: usize,
+    /// After it there are hi + 1 times and one more.
+    late: usize,
+}
+
+impl Ends {
+    fn of(times: usize, gap: Range) -> Ends {
+        Ends {
+            early: times.saturating_sub(1 + gap.lo as usize),
+            late: times.saturating_sub(2 + gap.hi as usize),
+        }
+    }
+}
+
 /// The numbers of Y, S and X.
 struct Variables {
     times: usize,
@@ -498,7 +574,7 @@ pub struct Sizes {
     pub top: u64,
 }
 
-/// The sizes of the formula, or 1 to 8. 7 and the tail only with a bound.
+/// The sizes of the formula, or 1 to 8, 19. 7 and the tail only with a bound.
 pub fn sizes(file: &[u8], bound: Option<u64>) -> Result<Sizes, Refusal> {
     Sizes::of(&Instance::read(file)?, bound)
 }
@@ -647,6 +723,7 @@ impl Measure {
                 Kind::Lengths {
                     shortest, longest, ..
                 } => self.outside_gates(instance.times, *shortest, *longest),
+                Kind::Precedence { gap, .. } => self.gap_gates(instance.times, *gap),
                 _ => {}
             }
             let lists = match kind {
@@ -707,6 +784,22 @@ impl Measure {
             self.gate(1 + ends as u64);
             self.gate(2);
         }
+    }
+
+    /// The gates F, P, G, Q and O of a gap.
+    fn gap_gates(&mut self, times: usize, gap: Range) {
+        let Ends { early, late } = Ends::of(times, gap);
+        if early > 0 {
+            self.gate(u64::from(gap.lo) + 1);
+        }
+        if late > 0 {
+            self.gate((times - late) as u64);
+        }
+        // F after the first, P, G after the first, Q.
+        for _ in 0..2 * early.saturating_sub(1) + late.saturating_sub(1) + late {
+            self.gate(2);
+        }
+        self.gate((times + late) as u64);
     }
 
     fn tail(&mut self, bound: u64) {

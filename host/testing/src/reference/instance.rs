@@ -1,4 +1,4 @@
-//! The instance file and its refusals 1 to 6.
+//! The instance file and its refusals 1 to 6 and 19.
 //!
 //! In the file references start at 1; here times, events, resources and groups
 //! are indices from 0.
@@ -13,9 +13,10 @@ const MOST_EVENTS: u32 = 1_024;
 const MOST_RESOURCES: u32 = 99;
 const MOST_GROUPS: u32 = 1_024;
 const MOST_CONSTRAINTS: u32 = 4_096;
-const MOST_KINDS: u32 = 10;
+const MOST_KINDS: u32 = 11;
 const LARGEST_WEIGHT: u32 = 1_000;
 pub const LARGEST_HI: u32 = 255;
+pub const LARGEST_GAP: u32 = 124;
 pub const LONGEST_LIST: usize = 255;
 
 #[derive(Clone, Debug, PartialEq, Eq)]
@@ -91,16 +92,22 @@ pub enum Kind {
         shortest: usize,
         longest: usize,
     },
+    /// Whether the gap between two events lies outside its bounds.
+    Precedence {
+        first: usize,
+        second: usize,
+        gap: Range,
+    },
 }
 
-/// The bounds of a count, as written in the file.
+/// The bounds of a count or of a gap, as written in the file.
 #[derive(Clone, Copy, Debug, PartialEq, Eq)]
 pub struct Range {
     pub lo: u32,
     pub hi: u32,
 }
 
-/// Reads an instance file: accepted, or 1 to 6.
+/// Reads an instance file: accepted, or 1 to 6, 19.
 pub fn read(file: &[u8]) -> Result<Summary, Refusal> {
     let instance = Instance::read(file)?;
     Ok(Summary {
@@ -189,6 +196,7 @@ impl Instance {
                 .iter()
                 .map(|&group| self.groups[group].len().saturating_sub(2))
                 .sum(),
+            Kind::Precedence { .. } => 1,
         }
     }
 }
@@ -198,9 +206,10 @@ impl Kind {
     pub fn range(&self) -> Range {
         match self {
             Kind::Clash { .. } => Range { lo: 0, hi: 1 },
-            Kind::Unavailable { .. } | Kind::PreferredTimes { .. } | Kind::Lengths { .. } => {
-                Range { lo: 0, hi: 0 }
-            }
+            Kind::Unavailable { .. }
+            | Kind::PreferredTimes { .. }
+            | Kind::Lengths { .. }
+            | Kind::Precedence { .. } => Range { lo: 0, hi: 0 },
             Kind::Split { range, .. }
             | Kind::Spread { range, .. }
             | Kind::BusyLimit { range, .. }
@@ -210,15 +219,22 @@ impl Kind {
         }
     }
 
-    /// Whether lo is above hi as written, or shortest above longest.
+    /// Whether lo is above hi as written, of the count or of the gap, or shortest
+    /// above longest.
     fn crossed(&self) -> bool {
         let Range { lo, hi } = self.range();
         match self {
             Kind::Lengths {
                 shortest, longest, ..
             } => shortest > longest,
+            Kind::Precedence { gap, .. } => gap.lo > gap.hi,
             _ => lo > hi,
         }
+    }
+
+    /// Whether the two events are one.
+    fn same_event(&self) -> bool {
+        matches!(self, Kind::Precedence { first, second, .. } if first == second)
     }
 }
 
@@ -269,11 +285,17 @@ impl Reader<'_> {
         Ok(members)
     }
 
-    fn range(&mut self) -> Result<Range, Refusal> {
+    /// A lo and a hi, neither above `most`.
+    fn bounds(&mut self, most: u32) -> Result<Range, Refusal> {
         Ok(Range {
-            lo: self.within(0..=LARGEST_HI)?,
-            hi: self.within(0..=LARGEST_HI)?,
+            lo: self.within(0..=most)?,
+            hi: self.within(0..=most)?,
         })
+    }
+
+    /// The bounds of a count.
+    fn range(&mut self) -> Result<Range, Refusal> {
+        self.bounds(LARGEST_HI)
     }
 
     fn constraint(&mut self, instance: &Instance) -> Result<Constraint, Refusal> {
@@ -285,6 +307,9 @@ impl Reader<'_> {
         let length = instance.list_length(&kind);
         if length > LONGEST_LIST {
             return refuse(4, start as u64);
+        }
+        if kind.same_event() {
+            return refuse(19, start as u64);
         }
         if kind.crossed() || kind.range().lo as usize > length {
             return refuse(5, start as u64);
@@ -338,10 +363,15 @@ impl Reader<'_> {
                 length: self.length(instance)?,
                 range: self.range()?,
             },
-            _ => Kind::Lengths {
+            10 => Kind::Lengths {
                 event: self.reference(0, events)?,
                 shortest: self.length(instance)?,
                 longest: self.length(instance)?,
+            },
+            _ => Kind::Precedence {
+                first: self.reference(0, events)?,
+                second: self.reference(0, events)?,
+                gap: self.bounds(LARGEST_GAP)?,
             },
         })
     }

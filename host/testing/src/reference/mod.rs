@@ -24,7 +24,8 @@ pub use clauses::{
 };
 pub use idle::{idle_step, idle_times, kept};
 pub use instance::{
-    read, Constraint, Event, Instance, Kind, Range, LARGEST_HI, LONGEST_LIST, MOST_TIMES,
+    read, Constraint, Event, Instance, Kind, Range, LARGEST_GAP, LARGEST_HI, LONGEST_LIST,
+    MOST_TIMES,
 };
 pub use model::decode;
 pub use number::{read_number, write_number};

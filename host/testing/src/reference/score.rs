@@ -5,7 +5,7 @@ use super::instance::{Instance, Kind, Range};
 use super::sheet::Sheet;
 use timetable::engine::{Infeasibility, Objective, Refusal, Score};
 
-/// The score of a timetable, or 1 to 6, 10 to 12.
+/// The score of a timetable, or 1 to 6, 10 to 12, 19.
 pub fn score(file: &[u8], table: &[u8]) -> Result<Score, Refusal> {
     let instance = Instance::read(file)?;
     let sheet = Sheet::read(&instance, table)?;
@@ -144,6 +144,11 @@ impl<'a> Usage<'a> {
             } => {
                 let outside = |length: &usize| length < shortest || length > longest;
                 deviation(self.sheet.lengths(*event).filter(outside).count(), range)
+            }
+            Kind::Precedence { first, second, gap } => {
+                let allowed = i64::from(gap.lo)..=i64::from(gap.hi);
+                let outside = !allowed.contains(&self.sheet.gap(*first, *second));
+                deviation(usize::from(outside), range)
             }
         }
     }

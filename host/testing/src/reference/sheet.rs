@@ -58,6 +58,16 @@ impl<'a> Sheet<'a> {
             .map(move |time| self.length_from(event, time))
     }
 
+    /// The gap between two events: the first time of `second`, less the last of
+    /// `first`, less 1. Each takes a time, since a duration is at least 1.
+    pub fn gap(&self, first: usize, second: usize) -> i64 {
+        let mut times = 0..self.times;
+        let begin = times.clone().find(|&time| self.takes(second, time));
+        let last = times.rfind(|&time| self.takes(first, time));
+        let [begin, last] = [begin, last].map(|time| time.expect("a time") as i64);
+        begin - last - 1
+    }
+
     /// Whether the row of `event` follows the rules of a timetable.
     fn keeps(&self, event: usize, duration: usize) -> bool {
         let taken = (0..self.times).filter(|&t| self.takes(event, t)).count();

@@ -72,6 +72,11 @@ pub fn long_list() -> Vec<u8> {
     numbers(&values)
 }
 
+/// A file with a kind 11 of which both events are one, and lo above hi.
+pub fn same_event() -> Vec<u8> {
+    numbers(&[4, 2, 0, 1, 0, 2, 0, 0, 1, 11, 3, 2, 2, 1, 0])
+}
+
 /// A timetable of `events` events that each take the first `duration` of
 /// `times` times with one start.
 pub fn first_times(times: usize, events: usize, duration: usize) -> Vec<u8> {

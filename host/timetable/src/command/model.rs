@@ -24,7 +24,7 @@ pub const SUBCOMMAND: Subcommand = Subcommand {
               prints. Of several models the last counts. A variable that the output does not name \
               is 0, and variables of a tail are passed over; whether the model keeps the clauses \
               is for 'timetable decode' to say.",
-    refusals: &[1..=6, 8..=8],
+    refusals: &[1..=6, 8..=8, 19..=19],
     run: |given, _| {
         let variables = Formula::of(given.bytes("INSTANCE"))?.variables as usize;
         let model = answers::model(given.bytes("ANSWER"), variables)?;

@@ -13,7 +13,7 @@ pub const SUBCOMMAND: Subcommand = Subcommand {
     prints: "'accepted', then times, events, resources, groups and constraints, each with its \
              number on a line",
     details: "",
-    refusals: &[1..=6],
+    refusals: &[1..=6, 19..=19],
     run: |given, _| report(given.bytes("INSTANCE")),
 };
 

@@ -5,7 +5,7 @@ use super::frame::declare::{CommandOption, Subcommand, Value};
 use super::frame::given::Given;
 use super::frame::operands::{out, INSTANCE, TIMETABLE};
 use super::names::{self, NAMES, NO_NAMES};
-use crate::engine::{self, Score};
+use crate::engine::{self, is_of_instance, Score};
 use crate::school::{ResourceSort, School};
 use crate::view::{charges_csv, charges_text, grids, grids_text, lessons_csv, page, Totals, View};
 
@@ -32,10 +32,11 @@ pub const SUBCOMMAND: Subcommand = Subcommand {
     prints: "the grids, each with the constraints that it breaks, then the charges: deviation × \
              weight for each constraint that is broken, and their sums",
     details: "'!12 +5' marks that constraint 12 is broken at a cost of 5, 'hard' that it is a \
-              hard one, and '|' that a lesson goes on from above. The sums are compared with the \
+              hard one, and '|' that a lesson goes on from above. A precedence is told with its \
+              gap. The sums are compared with the \
               engine's score; if they differ, nothing is shown and the exit status is 2. Names \
               come from a side file, which 'compile' writes.",
-    refusals: &[1..=6, 10..=12],
+    refusals: &[1..=6, 10..=12, 19..=19],
     run: |given, _| {
         let school = names::school(given)?;
         let view = view(given, &school, "TIMETABLE")?;
@@ -93,7 +94,7 @@ pub fn view<'a>(
     let score =
         engine::score(given.bytes("INSTANCE"), table).map_err(|refusal| Fault::Refused {
             refusal,
-            operand: (refusal.number > 6).then_some(name),
+            operand: (!is_of_instance(refusal.number)).then_some(name),
         })?;
     let view = View::new(school, table).ok_or_else(|| {
         Fault::Failed("the timetable has another length than the engine says".to_string())

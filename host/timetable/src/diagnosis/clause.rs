@@ -49,6 +49,23 @@ impl Clause {
                 "a variable for the length of a subevent that starts at time {}",
                 time + 1
             )),
+            Purpose::Begun { time, .. } => wrong(format!(
+                "the variable for a second event that has begun by time {}",
+                time + 1
+            )),
+            Purpose::TooSoon { time } => wrong(format!(
+                "the variable for a second event too soon after time {} of the first",
+                time + 1
+            )),
+            Purpose::Lasting { time, .. } => wrong(format!(
+                "the variable for a first event that goes on after time {}",
+                time + 1
+            )),
+            Purpose::TooLate { time } => wrong(format!(
+                "the variable for a second event too late after a first that ends by time {}",
+                time + 1
+            )),
+            Purpose::GapOutside { .. } => wrong("the variable for a gap outside".to_string()),
             Purpose::Counter { time, columns, .. } => {
                 let (row, column) = cell(self.place, columns as u64);
                 let time = at_time(time);
@@ -103,6 +120,7 @@ impl Clause {
             Kind::Idle { .. } => "the number of the resource's idle times",
             Kind::Distribute { .. } => "the number of the event's subevents of this length",
             Kind::Lengths { .. } => "the number of the event's subevents of a length outside",
+            Kind::Precedence { .. } => "the number of gaps outside between the two events",
         }
     }
 }

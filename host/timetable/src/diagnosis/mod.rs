@@ -9,7 +9,7 @@ pub mod outline;
 mod step;
 mod table;
 
-use crate::engine::{refusal, Refusal};
+use crate::engine::{is_of_instance, refusal, Refusal};
 use crate::instance::read;
 pub use inputs::{Inputs, Sort};
 use outline::Outline;
@@ -17,7 +17,7 @@ use outline::Outline;
 /// What can be said of a refusal beside its own words, a line each.
 pub fn reasons(refusal: Refusal, inputs: &Inputs) -> Vec<String> {
     let reason = match refusal.number {
-        refusal::BAD_NUMBER..=refusal::BYTES_LEFT => instance::reason(refusal, inputs.instance),
+        number if is_of_instance(number) => instance::reason(refusal, inputs.instance),
         refusal::TOO_MANY_VARIABLES => variables(inputs),
         refusal::WRONG_LENGTH => Some(table::wrong_length(inputs)),
         refusal::NOT_A_TIMETABLE => table::broken_event(inputs, refusal.value),

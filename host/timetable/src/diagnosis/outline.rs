@@ -65,6 +65,21 @@ pub enum Purpose {
         longer: usize,
         shorter: usize,
     },
+    /// The variable that says whether the second event has begun by this time, for
+    /// kind 11: the OR of so many literals.
+    Begun { time: usize, inputs: usize },
+    /// The variable that says whether the first event takes this time and the second
+    /// has begun too soon after it, for kind 11.
+    TooSoon { time: usize },
+    /// The variable that says whether the first event goes on after this time, for
+    /// kind 11: the OR of so many literals.
+    Lasting { time: usize, inputs: usize },
+    /// The variable that says whether the first event is over by this time and the
+    /// second has not begun soon enough after it, for kind 11.
+    TooLate { time: usize },
+    /// The variable that says whether the gap lies outside, for kind 11: the OR of so
+    /// many literals.
+    GapOutside { inputs: usize },
     /// A counter, of one time for kind 1.
     Counter {
         time: Option<usize>,
@@ -91,8 +106,15 @@ impl Purpose {
             Purpose::Start { .. } => (2, 2),
             Purpose::AnyOf { inputs, .. } => (1, inputs + 1),
             Purpose::Idle { members, .. } => (3, members + 5),
-            Purpose::GoesOn { inputs, .. } | Purpose::Counted { inputs, .. } => (1, inputs + 1),
-            Purpose::Carried { .. } | Purpose::Held { .. } => (1, 3),
+            Purpose::GoesOn { inputs, .. }
+            | Purpose::Counted { inputs, .. }
+            | Purpose::Begun { inputs, .. }
+            | Purpose::Lasting { inputs, .. }
+            | Purpose::GapOutside { inputs } => (1, inputs + 1),
+            Purpose::Carried { .. }
+            | Purpose::Held { .. }
+            | Purpose::TooSoon { .. }
+            | Purpose::TooLate { .. } => (1, 3),
             Purpose::Outside {
                 longer, shorter, ..
             } => (3, longer + shorter + 6),
@@ -235,6 +257,7 @@ impl Outline {
             Kind::Lengths {
                 shortest, longest, ..
             } => self.lengths(owner, instance.times, *shortest, *longest),
+            Kind::Precedence { lo, hi, .. } => self.precedence(owner, instance.times, *lo, *hi),
             _ => {}
         }
         self.counted(owner, None, length, kind.range(), *weight);
@@ -276,6 +299,31 @@ impl Outline {
             };
             self.push(owner, purpose);
         }
+    }
+
+    /// What kind 11 brings in before its counter. `early` is how many of the times leave
+    /// `lo` and one more after them, `late` how many leave more than `hi` and one more.
+    fn precedence(&mut self, owner: Owner, times: usize, lo: usize, hi: usize) {
+        let early = times.saturating_sub(1 + lo);
+        let late = times.saturating_sub(2 + hi);
+        for time in 0..early {
+            let inputs = if time == 0 { lo + 1 } else { 2 };
+            let time = time + lo;
+            self.push(owner, Purpose::Begun { time, inputs });
+        }
+        for time in 1..early {
+            self.push(owner, Purpose::TooSoon { time });
+        }
+        for time in (0..late).rev() {
+            let inputs = if time + 1 == late { times - late } else { 2 };
+            self.push(owner, Purpose::Lasting { time, inputs });
+        }
+        for time in 0..late {
+            self.push(owner, Purpose::TooLate { time });
+        }
+        // One for each time: F for the first, P up to `early`, then the time itself; and each Q.
+        let inputs = times + late;
+        self.push(owner, Purpose::GapOutside { inputs });
     }
 
     /// A counter with its bounds; `weight` is 0 if they are hard.

@@ -23,6 +23,6 @@ pub use limits::{LARGEST_BOUND, MOST_VARIABLES};
 pub use operations::{
     best, check, check_hard, decode, idle_step, read, same_sheet, score, sizes, text, text_size,
 };
-pub use refusals::{refusal, refusal_facts, RefusalFacts, REFUSALS};
+pub use refusals::{is_of_instance, refusal, refusal_facts, RefusalFacts, REFUSALS};
 #[cfg(feature = "engine")]
 pub use store::Store;

@@ -16,6 +16,12 @@ pub fn refusal_facts(number: u32) -> Option<&'static RefusalFacts> {
     REFUSALS.iter().find(|facts| facts.number == number)
 }
 
+/// Whether refusal `number` is of the instance file.
+pub fn is_of_instance(number: u32) -> bool {
+    let of_file = refusal::BAD_NUMBER..=refusal::BYTES_LEFT;
+    of_file.contains(&number) || number == refusal::SAME_EVENT
+}
+
 /// A constant for each refusal, and the table of all.
 macro_rules! refusals {
     ($($number:literal $name:ident $when:literal $gives:literal;)*) => {
@@ -54,6 +60,7 @@ refusals! {
     16 BAD_HINT "a hint, or the ending of the hints, breaks the rule" "step {}";
     17 CLAUSE_TOO_LONG "a clause does not fit the store" "step {}";
     18 BAD_END "the proof has no empty clause, or bytes after it" "{} steps were read";
+    19 SAME_EVENT "both events of a precedence are one" "the constraint's kind is at offset {}";
 }
 
 #[cfg(test)]
@@ -65,6 +72,13 @@ mod tests {
         for (at, facts) in REFUSALS.iter().enumerate() {
             assert_eq!(facts.number as usize, at + 1);
         }
-        assert_eq!(refusal::BAD_END as usize, REFUSALS.len());
+        assert_eq!(refusal::SAME_EVENT as usize, REFUSALS.len());
+    }
+
+    #[test]
+    fn those_of_the_instance_are_told_apart() {
+        let numbers = REFUSALS.iter().map(|facts| facts.number);
+        let of_instance: Vec<u32> = numbers.filter(|&number| is_of_instance(number)).collect();
+        assert_eq!(of_instance, [1, 2, 3, 4, 5, 6, 19]);
     }
 }

@@ -3,8 +3,8 @@
 
 use super::times::TimeSet;
 use crate::instance::{
-    Constraint, Instance, Kind, Reason, LARGEST_BOUND_OF_COUNT, LONGEST_LIST, MOST_CONSTRAINTS,
-    MOST_EVENTS, MOST_GROUPS, MOST_RESOURCES, MOST_TIMES,
+    Constraint, Instance, Kind, Reason, LARGEST_BOUND_OF_COUNT, LARGEST_GAP, LONGEST_LIST,
+    MOST_CONSTRAINTS, MOST_EVENTS, MOST_GROUPS, MOST_RESOURCES, MOST_TIMES,
 };
 use crate::school::{Names, Resource, ResourceSort};
 use std::collections::HashMap;
@@ -33,6 +33,8 @@ pub enum Wish {
     Distribute(usize, usize, usize, usize),
     /// An event, the shortest and the longest length.
     Lengths(usize, usize, usize),
+    /// The first event, the second, lo and hi.
+    Precedence(usize, usize, usize, usize),
 }
 
 /// How hard a constraint is.
@@ -128,6 +130,7 @@ impl Draft {
             Some(Reason::Unreachable(end)) => {
                 return Err(format!("it asks for {} of {}", end.lo, end.length))
             }
+            Some(Reason::SameEvent { .. }) => return Err("its two events are one".to_string()),
             Some(_) => return Err("its least is above its most".to_string()),
             None => {}
         }
@@ -216,6 +219,13 @@ impl Draft {
                 event: *event,
                 shortest: *shortest,
                 longest: *longest,
+            },
+            // No gap is as long as the largest, so what lies above it says no more.
+            Wish::Precedence(first, second, lo, hi) => Kind::Precedence {
+                first: *first,
+                second: *second,
+                lo: (*lo).min(LARGEST_GAP as usize),
+                hi: (*hi).min(LARGEST_GAP as usize),
             },
         };
         Ok(kind)

@@ -37,9 +37,10 @@ impl Kind {
     pub fn range(&self) -> Range {
         match *self {
             Kind::Clash { .. } => Range { lo: 0, hi: 1 },
-            Kind::Unavailable { .. } | Kind::PreferredTimes { .. } | Kind::Lengths { .. } => {
-                Range { lo: 0, hi: 0 }
-            }
+            Kind::Unavailable { .. }
+            | Kind::PreferredTimes { .. }
+            | Kind::Lengths { .. }
+            | Kind::Precedence { .. } => Range { lo: 0, hi: 0 },
             Kind::Split { lo, hi, .. }
             | Kind::Spread { lo, hi, .. }
             | Kind::BusyLimit { lo, hi, .. }
@@ -51,12 +52,17 @@ impl Kind {
 }
 
 impl Kind {
-    /// What is wrong where the shortest length is above the longest.
-    fn crossed_lengths(&self) -> Option<Reason> {
+    /// What is wrong with fields that are no bounds of the count: two events that
+    /// are one, then a shortest length above the longest, or a lo above hi of a gap.
+    fn crossed_fields(&self) -> Option<Reason> {
         match *self {
             Kind::Lengths {
                 shortest, longest, ..
             } if shortest > longest => Some(Reason::CrossedLengths { shortest, longest }),
+            Kind::Precedence { first, second, .. } if first == second => {
+                Some(Reason::SameEvent { event: first })
+            }
+            Kind::Precedence { lo, hi, .. } if lo > hi => Some(Reason::CrossedGaps { lo, hi }),
             _ => None,
         }
     }
@@ -75,6 +81,7 @@ impl Instance {
             Kind::Unavailable { group, .. } | Kind::BusyLimit { group, .. } => size(group),
             Kind::PreferredTimes { event, group } => self.reach(*event, *group).count(),
             Kind::Split { .. } | Kind::Distribute { .. } | Kind::Lengths { .. } => self.times,
+            Kind::Precedence { .. } => 1,
             Kind::Spread { events, group, .. } => events.len() * size(group),
             Kind::Cluster { groups, .. } => groups.len(),
             Kind::Idle { groups, .. } => {
@@ -113,11 +120,11 @@ impl Instance {
         if length > LONGEST_LIST {
             return Some(Reason::LongList(end));
         }
+        if let Some(crossed) = kind.crossed_fields() {
+            return Some(crossed);
+        }
         if lo > hi {
             return Some(Reason::Crossed(end));
-        }
-        if let Some(crossed) = kind.crossed_lengths() {
-            return Some(crossed);
         }
         (lo > length).then_some(Reason::Unreachable(end))
     }

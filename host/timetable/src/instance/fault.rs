@@ -30,6 +30,15 @@ pub enum Reason {
         shortest: usize,
         longest: usize,
     },
+    /// Both events are this one.
+    SameEvent {
+        event: usize,
+    },
+    /// lo of a gap is above hi.
+    CrossedGaps {
+        lo: usize,
+        hi: usize,
+    },
     /// lo is above the length of the counted list.
     Unreachable(ConstraintEnd),
     /// This many bytes are left over.
@@ -53,8 +62,12 @@ impl Fault {
             Reason::Outside => 2,
             Reason::Nothing | Reason::NotAscending => 3,
             Reason::LongList(_) => 4,
-            Reason::Crossed(_) | Reason::CrossedLengths { .. } | Reason::Unreachable(_) => 5,
+            Reason::Crossed(_)
+            | Reason::CrossedLengths { .. }
+            | Reason::CrossedGaps { .. }
+            | Reason::Unreachable(_) => 5,
             Reason::LeftOver(_) => 6,
+            Reason::SameEvent { .. } => 19,
         }
     }
 }
@@ -68,6 +81,8 @@ impl Display for Fault {
                 Reason::LongList(_)
                 | Reason::Crossed(_)
                 | Reason::CrossedLengths { .. }
+                | Reason::SameEvent { .. }
+                | Reason::CrossedGaps { .. }
                 | Reason::Unreachable(_),
                 Part::Constraint(number, Some(kind)),
             ) => write!(
@@ -123,6 +138,17 @@ impl Display for Reason {
                     "shortest is {shortest}, above longest, which is {longest}"
                 )
             }
+            Reason::SameEvent { event } => {
+                write!(
+                    out,
+                    "its first and its second event are one, event {}",
+                    event + 1
+                )
+            }
+            Reason::CrossedGaps { lo, hi } => write!(
+                out,
+                "the least gap is {lo}, above the largest, which is {hi}"
+            ),
             Reason::Unreachable(ConstraintEnd { lo, length, .. }) => write!(
                 out,
                 "lo is {lo}, above the {length} entries of its counted list"

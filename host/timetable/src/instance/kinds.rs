@@ -150,6 +150,9 @@ kinds! {
     10 "lengths" Lengths {
         "" event: Event, "between" shortest: Length, "and" longest: Length
     }
+    11 "precedence" Precedence {
+        "" first: Event, "before" second: Event, "between" lo: Gap, "and" hi: Gap
+    }
 }
 
 #[cfg(test)]

@@ -10,6 +10,8 @@ pub const MOST_CONSTRAINTS: u32 = 4_096;
 pub const LARGEST_WEIGHT: u32 = 1_000;
 /// The largest lo or hi.
 pub const LARGEST_BOUND_OF_COUNT: u32 = 255;
+/// The largest lo or hi of a gap.
+pub const LARGEST_GAP: u32 = 124;
 /// The most entries of a counted list.
 pub const LONGEST_LIST: usize = 255;
 
@@ -56,6 +58,8 @@ pub enum Sort {
     Bound,
     /// How many times a subevent has.
     Length,
+    /// A lo or hi of the times between two events.
+    Gap,
 }
 
 impl Sort {
@@ -65,17 +69,23 @@ impl Sort {
             Sort::Resource => Some(Thing::Resource),
             Sort::Event | Sort::Events => Some(Thing::Event),
             Sort::Group | Sort::Groups => Some(Thing::Group),
-            Sort::Bound | Sort::Length => None,
+            Sort::Bound | Sort::Length | Sort::Gap => None,
         }
     }
 
     /// What a number of this sort, or a member of such a list, may be in a file.
     pub fn limits(self, counts: &Counts) -> RangeInclusive<u32> {
-        match self.thing() {
-            Some(thing) => 1..=counts.of(thing) as u32,
-            None if self == Sort::Length => 1..=counts.times as u32,
-            None => 0..=LARGEST_BOUND_OF_COUNT,
+        match (self.thing(), self) {
+            (Some(thing), _) => 1..=counts.of(thing) as u32,
+            (None, Sort::Length) => 1..=counts.times as u32,
+            (None, Sort::Gap) => 0..=LARGEST_GAP,
+            (None, _) => 0..=LARGEST_BOUND_OF_COUNT,
         }
+    }
+
+    /// Whether a text leaves lo and hi out where both are at their limits.
+    pub fn may_be_left_out(self) -> bool {
+        self == Sort::Gap
     }
 
     pub fn is_list(self) -> bool {

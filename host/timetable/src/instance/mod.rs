@@ -18,8 +18,8 @@ pub use fault::{ConstraintEnd, Fault, Reason};
 pub use field::{Entry, Field, Part, Path};
 pub use kinds::{kind_named, FieldFacts, Kind, KindFacts, Source, Value, KINDS};
 pub use limits::{
-    Counts, Sort, Thing, LARGEST_BOUND_OF_COUNT, LARGEST_WEIGHT, LONGEST_LIST, MOST_CONSTRAINTS,
-    MOST_EVENTS, MOST_GROUPS, MOST_RESOURCES, MOST_TIMES,
+    Counts, Sort, Thing, LARGEST_BOUND_OF_COUNT, LARGEST_GAP, LARGEST_WEIGHT, LONGEST_LIST,
+    MOST_CONSTRAINTS, MOST_EVENTS, MOST_GROUPS, MOST_RESOURCES, MOST_TIMES,
 };
 pub use read::{field_at, read};
 pub use write::write;

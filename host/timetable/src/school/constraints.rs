@@ -133,7 +133,7 @@ impl Scope<'_> {
         Ok(cursor.number("a number", limits)? as usize)
     }
 
-    /// `between LO and HI`, or a shorter way to say it.
+    /// `between LO and HI`, or a shorter way to say it; for a gap nothing stands for any.
     fn bounds(
         &self,
         lo: &FieldFacts,
@@ -141,6 +141,10 @@ impl Scope<'_> {
         cursor: &mut Cursor,
     ) -> Result<[Vec<Given>; 2], TextFault> {
         let pair = |lo, hi| Ok([vec![Given::One(lo)], vec![Given::One(hi)]]);
+        if lo.sort.may_be_left_out() && cursor.peek().is_none() {
+            let limits = lo.sort.limits(&self.counts);
+            return pair(*limits.start() as usize, *limits.end() as usize);
+        }
         if cursor.passes("exactly") {
             let count = self.number(lo, cursor)?;
             return pair(count, count);

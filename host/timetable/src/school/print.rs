@@ -81,6 +81,9 @@ fn constraint_words(names: &Names, constraint: &Constraint) -> Vec<String> {
 /// The shortest way to say `between lo and hi`.
 fn bounds(lo: usize, hi: usize, field: &FieldFacts, limits: RangeInclusive<u32>) -> Vec<String> {
     let [least, most] = [*limits.start(), *limits.end()].map(|limit| limit as usize);
+    if (lo, hi) == (least, most) && field.sort.may_be_left_out() {
+        return Vec::new();
+    }
     let said = match (lo, hi) {
         _ if lo == least => format!("at most {hi}"),
         _ if lo == hi => format!("exactly {lo}"),

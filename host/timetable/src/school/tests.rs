@@ -89,6 +89,42 @@ fn a_fault_says_what_was_expected_and_where() {
             "shortest is 3, above longest, which is 2: lengths hard Maths between 3 and 2",
         ),
         (
+            "precedence hard Maths Art",
+            23,
+            "expected 'before', found 'Art'",
+        ),
+        (
+            "precedence hard Maths before",
+            29,
+            "expected the name of a lesson, found the end of the statement",
+        ),
+        (
+            "precedence hard Maths before Arts",
+            30,
+            "there is no lesson 'Arts'; is 'Art' meant?",
+        ),
+        (
+            "precedence hard Maths before Art 1 to 2",
+            34,
+            "expected 'between', 'at most', 'at least' or 'exactly', found '1'",
+        ),
+        (
+            "precedence hard Maths before Art at most 125",
+            42,
+            "expected a number from 0 to 124, found '125'",
+        ),
+        (
+            "precedence hard Maths before Art between 3 and 2",
+            1,
+            "the least gap is 3, above the largest, which is 2: precedence hard Maths before Art \
+             between 3 and 2",
+        ),
+        (
+            "precedence hard each lesson before Art",
+            1,
+            "its first and its second event are one, event 2: precedence hard Art before Art",
+        ),
+        (
             "spread hard Art Art in Mon at most 1",
             17,
             "'Art' stands twice in a list",
@@ -265,13 +301,67 @@ fn lengths_of_parts_are_said() {
     assert_eq!(kinds("lengths hard Maths exactly 2"), lengths(2, 2));
 }
 
-/// The word before a length ends no list, so a name may be that word.
 #[test]
-fn a_lesson_may_be_named_length() {
-    let text = "times a b\nlesson length takes 1\n\
-                distribute hard length length 2 at most 0\n";
+fn one_lesson_before_another_is_said() {
+    let precedence = |first, second, lo, hi| {
+        vec![Kind::Precedence {
+            first,
+            second,
+            lo,
+            hi,
+        }]
+    };
+    for (gap, lo, hi) in [
+        ("", 0, 124),
+        (" at least 0", 0, 124),
+        (" at most 3", 0, 3),
+        (" at least 2", 2, 124),
+        (" exactly 0", 0, 0),
+        (" between 1 and 2", 1, 2),
+    ] {
+        let line = format!("precedence weight 2 Maths before Art{gap}");
+        assert_eq!(kinds(&line), precedence(0, 1, lo, hi), "{line}");
+    }
+    assert_eq!(
+        kinds("precedence hard Art before Maths"),
+        precedence(1, 0, 0, 124)
+    );
+    assert_eq!(
+        kinds("precedence hard each lesson with Ben before Maths at most 1"),
+        precedence(1, 0, 0, 1)
+    );
+}
+
+/// Every gap is printed in a way that is read as the same.
+#[test]
+fn printed_gaps_are_read_again() {
+    let mut school = parse(&format!("{START}precedence hard Maths before Art\n")).expect("one");
+    let limits = [0, 1, 2, 123, 124];
+    for (lo, hi) in limits.iter().flat_map(|&lo| limits.map(|hi| (lo, hi))) {
+        if lo > hi {
+            continue;
+        }
+        school.instance.constraints[0].kind = Kind::Precedence {
+            first: 1,
+            second: 0,
+            lo,
+            hi,
+        };
+        let text = print(&school);
+        assert_eq!(parse(&text).as_ref(), Ok(&school), "{text}");
+        let whole = text.ends_with("\nprecedence hard Art before Maths\n");
+        assert_eq!(whole, (lo, hi) == (0, 124), "{text}");
+    }
+}
+
+/// A word that ends no list may be a lesson's name.
+#[test]
+fn a_lesson_may_be_named_length_or_before() {
+    let text = "times a b\nlesson length takes 1\nlesson before takes 1\n\
+                distribute hard length length 2 at most 0\n\
+                precedence hard before before length\n";
     let school = parse(text).expect("a school");
-    assert_eq!(school.names.lessons, ["length"]);
+    assert_eq!(school.names.lessons, ["length", "before"]);
     assert_eq!(parse(&print(&school)), Ok(school));
 }
 

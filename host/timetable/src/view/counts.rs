@@ -1,6 +1,7 @@
 //! What each kind of constraint counts in a timetable, and where.
 
 use super::charges::{Place, Subject};
+use super::gap::Gap;
 use super::sheet::Sheet;
 use crate::engine::{idle_step, Kept};
 use crate::instance::{Instance, Kind, Range};
@@ -60,6 +61,7 @@ impl<'a> Usage<'a> {
                 shortest,
                 longest,
             } => counted(self.blocks(*event, |length| !(shortest..=longest).contains(&&length))),
+            Kind::Precedence { .. } => self.precedence(kind),
         }
     }
 
@@ -108,6 +110,17 @@ impl<'a> Usage<'a> {
         let blocks = self.sheet.blocks(event).into_iter();
         let wanted = blocks.filter(|block| wanted(block.len()));
         at(Subject::Event(event), wanted.map(|block| block.start))
+    }
+
+    /// One gap outside at most, taken from the two times that it lies between.
+    fn precedence(&self, kind: &Kind) -> Deviation {
+        let gap = Gap::found(kind, self.sheet).filter(|gap| gap.is_outside());
+        let ends = gap.iter().flat_map(|gap| [gap.before, gap.after]);
+        let places = ends.map(|(event, time)| Place {
+            subject: Subject::Event(event),
+            time,
+        });
+        (u64::from(gap.is_some()), places.collect())
     }
 
     fn cluster(&self, resource: usize, groups: &[usize], range: Range) -> Deviation {
@@ -214,6 +227,50 @@ mod tests {
         // A time that is idle in two groups counts twice.
         assert_eq!(idle(row, &[&[1, 3, 4], &[1, 3, 7]]), (2, vec![3, 3]));
         assert_eq!(idle(row, &[]), (0, vec![]));
+    }
+
+    /// Every way to hold two events in four times, under every gap: what
+    /// is charged, and the two times that it is charged at.
+    #[test]
+    fn a_gap_is_charged_once_and_at_its_ends() {
+        let rows: Vec<[u8; 4]> = (1..16)
+            .map(|bits: u8| [0, 1, 2, 3].map(|time| bits >> time & 1))
+            .collect();
+        for (one, other) in rows
+            .iter()
+            .flat_map(|one| rows.iter().map(move |other| (one, other)))
+        {
+            let times = |row: &[u8; 4]| (0..4).filter(|&time| row[time] == 1).collect::<Vec<_>>();
+            let event = |row: &[u8; 4]| Event {
+                duration: times(row).len(),
+                resources: Vec::new(),
+            };
+            let instance = Instance {
+                times: 4,
+                events: vec![event(one), event(other)],
+                ..Instance::default()
+            };
+            let table = [*one, *other, *one, *other].concat();
+            let sheet = Sheet::over(&instance, &table).expect("a timetable");
+            let usage = Usage::of(&instance, &sheet);
+            let (last, first) = (*times(one).last().unwrap(), times(other)[0]);
+            // The gaps that are allowed, by the time at which the second begins.
+            for (lo, hi) in (0..4).flat_map(|lo| (lo..4).map(move |hi| (lo, hi))) {
+                let kept = (last + 1 + lo..=last + 1 + hi).contains(&first);
+                let (deviation, places) = usage.deviation(&Kind::Precedence {
+                    first: 0,
+                    second: 1,
+                    lo,
+                    hi,
+                });
+                assert_eq!(deviation, u64::from(!kept), "{one:?} {other:?} {lo} {hi}");
+                let ends = [(0, last), (1, first)].map(|(event, time)| Place {
+                    subject: Subject::Event(event),
+                    time,
+                });
+                assert_eq!(places, if kept { vec![] } else { ends.to_vec() });
+            }
+        }
     }
 
     #[test]

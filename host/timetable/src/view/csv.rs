@@ -62,7 +62,7 @@ pub fn charges_csv(view: &View) -> String {
             &charge.deviation.to_string(),
             &weight(charge),
             &charge.amount().to_string(),
-            &view.constraint_line(number),
+            &view.charge_line(number),
         ]);
     }
     text

@@ -5,6 +5,7 @@ mod charges;
 mod counts;
 mod csv;
 mod diff;
+mod gap;
 mod grid;
 mod html;
 mod sheet;
@@ -68,7 +69,7 @@ impl<'a> View<'a> {
     }
 
     /// The constraint `number`, from 0, in the text form.
-    pub fn constraint_line(&self, number: usize) -> String {
+    fn constraint_line(&self, number: usize) -> String {
         let School { instance, names } = self.school;
         constraint_line(names, &instance.constraints[number])
     }

@@ -35,7 +35,7 @@ fn grid_text(view: &View, grid: &Grid) -> String {
                 first: true,
             },
         );
-        text += &format!("  {mark}  {}\n", view.constraint_line(constraint));
+        text += &format!("  {mark}  {}\n", view.charge_line(constraint));
     }
     text
 }
@@ -110,7 +110,7 @@ pub fn charges_text(view: &View, all: bool) -> String {
                 charge.deviation.to_string(),
                 weight(charge),
                 charge.amount().to_string(),
-                view.constraint_line(number),
+                view.charge_line(number),
             ]);
         }
     }
@@ -151,7 +151,7 @@ pub fn diff_text(first: &View, second: &View, diff: &Diff) -> String {
     text += &format!("charged otherwise {}\n", diff.charged.len());
     for &number in &diff.charged {
         let [before, after] = [first, second].map(|view| amount(&view.charges[number]));
-        let line = first.constraint_line(number);
+        let line = first.changed_line(second, number);
         text += &format!("  {}: {before} -> {after}  {line}\n", number + 1);
     }
     let [before, after] = [first.totals(), second.totals()];

@@ -15,17 +15,13 @@ shared-slice-read-d : tie.Need-shared-slice-read-d
 shared-slice-read-d c = search needs
 
 cast-d : tie.Need-cast-d
-cast-d c = omega (arith, c .shared-slice-known .given (c .before .args .event - 1))
+cast-d c = omega (arith, c .shared-slice-known2 .given (c .before .before .args .event - 1))
+
+monus-requires : tie.Need-monus-requires
+monus-requires c κs = search needs
 
 returns : tie.Need-returns
 returns c = search needs
 
-sub-result : tie.Need-sub-result
-sub-result c = search needs
-
-returns-2 : tie.Need-returns-2
-returns-2 c = search needs
-
 pub times-after-spec : {M : Type 1} → statement M
-times-after-spec =
-    tie.close (tie.spec sub-at cast-at shared-slice-read-d cast-d returns sub-result returns-2)
+times-after-spec = tie.close (tie.spec sub-at cast-at shared-slice-read-d cast-d monus-requires returns)

@@ -35,6 +35,9 @@ distribute-of-requires c κs = search needs
 lengths-of-requires : tie.Need-lengths-of-requires
 lengths-of-requires c κs = search needs
 
+precedence-of-requires : tie.Need-precedence-of-requires
+precedence-of-requires c κs = search needs
+
 returns : tie.Need-returns
 unfolding kindFrom
 returns c = λ l. rw (c .before .match .keys1) (c .clash-of .ensures l)
@@ -73,19 +76,24 @@ returns-9 c = λ l. rw (c .before .match .keys9) (c .distribute-of .ensures l)
 
 returns-10 : tie.Need-returns-10
 unfolding kindFrom
-returns-10 c = λ l.
+returns-10 c = λ l. rw (c .before .match .keys10) (c .lengths-of .ensures l)
+
+returns-11 : tie.Need-returns-11
+unfolding kindFrom
+returns-11 c = λ l.
     let n = c .before .match .rest in
     simp (
-      c .lengths-of .ensures l,
-      ne-eqb _ 1 (n .0 .0 .0 .0 .0 .0 .0 .0 .1),
-      ne-eqb _ 2 (n .0 .0 .0 .0 .0 .0 .0 .1),
-      ne-eqb _ 3 (n .0 .0 .0 .0 .0 .0 .1),
-      ne-eqb _ 4 (n .0 .0 .0 .0 .0 .1),
-      ne-eqb _ 5 (n .0 .0 .0 .0 .1),
-      ne-eqb _ 6 (n .0 .0 .0 .1),
-      ne-eqb _ 7 (n .0 .0 .1),
-      ne-eqb _ 8 (n .0 .1),
-      ne-eqb _ 9 (n .1),
+      c .precedence-of .ensures l,
+      ne-eqb _ 1 (n .0 .0 .0 .0 .0 .0 .0 .0 .0 .1),
+      ne-eqb _ 2 (n .0 .0 .0 .0 .0 .0 .0 .0 .1),
+      ne-eqb _ 3 (n .0 .0 .0 .0 .0 .0 .0 .1),
+      ne-eqb _ 4 (n .0 .0 .0 .0 .0 .0 .1),
+      ne-eqb _ 5 (n .0 .0 .0 .0 .0 .1),
+      ne-eqb _ 6 (n .0 .0 .0 .0 .1),
+      ne-eqb _ 7 (n .0 .0 .0 .1),
+      ne-eqb _ 8 (n .0 .0 .1),
+      ne-eqb _ 9 (n .0 .1),
+      ne-eqb _ 10 (n .1),
     )
 
 pub kind-of-spec : {M : Type 1} → statement M
@@ -102,6 +110,7 @@ kind-of-spec =
     idle-of-requires
     distribute-of-requires
     lengths-of-requires
+    precedence-of-requires
     returns
     returns-2
     returns-3
@@ -111,4 +120,5 @@ kind-of-spec =
     returns-7
     returns-8
     returns-9
-    returns-10)
+    returns-10
+    returns-11)

@@ -33,6 +33,9 @@ enum-known-k-6 c = search needs
 enum-told-4 : tie.Need-enum-told-4
 enum-told-4 c = search needs
 
+enum-told-5 : tie.Need-enum-told-5
+enum-told-5 c = search needs
+
 returns : tie.Need-returns
 returns c = λ l. rw (c .enum-told .given .1)
 
@@ -63,6 +66,9 @@ returns-9 c = λ l. rw (c .before .k6 .given .1)
 returns-10 : tie.Need-returns-10
 returns-10 c = λ l. rw (c .enum-told4 .given .1)
 
+returns-11 : tie.Need-returns-11
+returns-11 c = λ l. rw (c .enum-told5 .given .1)
+
 pub bounds-of-spec : {M : Type 1} → statement M
 bounds-of-spec =
     tie.close
@@ -77,6 +83,7 @@ bounds-of-spec =
     enum-known-k-5
     enum-known-k-6
     enum-told-4
+    enum-told-5
     returns
     returns-2
     returns-3
@@ -86,4 +93,5 @@ bounds-of-spec =
     returns-7
     returns-8
     returns-9
-    returns-10)
+    returns-10
+    returns-11)

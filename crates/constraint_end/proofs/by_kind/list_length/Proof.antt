@@ -118,9 +118,13 @@ returns-9 c = rw (c .before .match .keys9) (c .one-for-each-time2 .ensures)
 
 returns-10 : tie.Need-returns-10
 unfolding kindFrom listLength
-returns-10 c =
-    let n = c .before .match .rest in
-    rw (ne-eqb _ 1 (n .0 .0 .0 .0 .0 .0 .0 .0 .1), ne-eqb _ 2 (n .0 .0 .0 .0 .0 .0 .0 .1), ne-eqb _ 3 (n .0 .0 .0 .0 .0 .0 .1), ne-eqb _ 4 (n .0 .0 .0 .0 .0 .1), ne-eqb _ 5 (n .0 .0 .0 .0 .1), ne-eqb _ 6 (n .0 .0 .0 .1), ne-eqb _ 7 (n .0 .0 .1), ne-eqb _ 8 (n .0 .1), ne-eqb _ 9 (n .1)) (c .one-for-each-time3 .ensures)
+returns-10 c = rw (c .before .match .keys10) (c .one-for-each-time3 .ensures)
+
+returns-11 : tie.Need-returns-11
+unfolding kindFrom listLength
+returns-11 c =
+    let n = c .match .rest in
+    rw (ne-eqb _ 1 (n .0 .0 .0 .0 .0 .0 .0 .0 .0 .1), ne-eqb _ 2 (n .0 .0 .0 .0 .0 .0 .0 .0 .1), ne-eqb _ 3 (n .0 .0 .0 .0 .0 .0 .0 .1), ne-eqb _ 4 (n .0 .0 .0 .0 .0 .0 .1), ne-eqb _ 5 (n .0 .0 .0 .0 .0 .1), ne-eqb _ 6 (n .0 .0 .0 .0 .1), ne-eqb _ 7 (n .0 .0 .0 .1), ne-eqb _ 8 (n .0 .0 .1), ne-eqb _ 9 (n .0 .1), ne-eqb _ 10 (n .1))
 
 pub list-length-spec : {M : Type 1} → statement M
 list-length-spec =
@@ -144,4 +148,5 @@ list-length-spec =
     returns-7
     returns-8
     returns-9
-    returns-10)
+    returns-10
+    returns-11)

@@ -6,6 +6,7 @@ use Rattle.fields.specs.Made.{kindFrom}
 use Rattle.constraint.specs.Answers.{saidFlatNext}
 use Rattle.constraint.specs.Decoded.{checkedAt}
 use Rattle.constraint.proofs.laws.Valid.{decoded-got}
+use Rattle.constraint_end.proofs.Faults.{ends-same}
 use Rattle.constraint_end.proofs.laws.Ready.{ready-kept}
 use Rattle.constraint_end.proofs.check.checked_at.Statement.{statement}
 use Rattle.constraint_end.proofs.check.checked_at.Tie as tie
@@ -42,8 +43,9 @@ returns c =
     let x = c .before .before .before .before .before .c .given in
     let w = x .0 .0 in
     let l = leading (w .fields .list) (f .last .1 .1 .1 .0) in
-    let q = rw (c .before .end-of .ensures l) at (c .ended .ensures (w .weight) (kindFrom (w .kind) (w .fields) l)) in
-    rw (← (f .ensures), x .1, ← (c .before .before .list-length .ensures)) q
+    let k = kindFrom (w .kind) (w .fields) l in
+    let q = rw (c .before .end-of .ensures l) at (c .ended .ensures) in
+    rw (← (f .ensures), x .1, ← (c .before .before .list-length .ensures)) (q ∙ ends-same _ k _ (w .weight) _)
 
 same-length-2 : tie.Need-same-length-2
 same-length-2 c = search needs

@@ -74,6 +74,12 @@ enum-known-kind-10 c = search needs
 of-lengths-requires : tie.Need-of-lengths-requires
 of-lengths-requires c κs = let p = c .before .before .before .before .before .before .before .before .pre in (p .0 .bytes, rw (c .before .kind10 .given .1) at (p .1 .1 .1))
 
+enum-known-kind-11 : tie.Need-enum-known-kind-11
+enum-known-kind-11 c = search needs
+
+of-precedence-requires : tie.Need-of-precedence-requires
+of-precedence-requires c κs = let p = c .before .before .before .before .before .before .before .before .pre in (p .0 .bytes, rw (c .before .kind11 .given .1) at (p .1 .1 .1))
+
 returns : tie.Need-returns
 returns c = rw (c .before .before .kind .given .1) (c .of-clash .ensures)
 
@@ -104,6 +110,9 @@ returns-9 c = rw (c .before .before .kind9 .given .1) (c .of-distribute .ensures
 returns-10 : tie.Need-returns-10
 returns-10 c = rw (c .before .before .kind10 .given .1) (c .of-lengths .ensures)
 
+returns-11 : tie.Need-returns-11
+returns-11 c = rw (c .before .before .kind11 .given .1) (c .of-precedence .ensures)
+
 pub deviation-of-spec : {M : Type 1} → statement M
 deviation-of-spec =
     tie.close
@@ -128,6 +137,8 @@ deviation-of-spec =
     of-distribute-requires
     enum-known-kind-10
     of-lengths-requires
+    enum-known-kind-11
+    of-precedence-requires
     returns
     returns-2
     returns-3
@@ -137,4 +148,5 @@ deviation-of-spec =
     returns-7
     returns-8
     returns-9
-    returns-10)
+    returns-10
+    returns-11)

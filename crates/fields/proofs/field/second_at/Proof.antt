@@ -6,12 +6,20 @@ use Rattle.fields.proofs.laws.Flat.{reference-read, list-read, number-r
 use Rattle.fields.proofs.field.second_at.Statement.{statement}
 use Rattle.fields.proofs.field.second_at.Tie as tie
 
-limited-requires : tie.Need-limited-requires
-limited-requires c κs = search needs
+reference-requires : tie.Need-reference-requires
+reference-requires c κs = search needs
 
 returns : tie.Need-returns
 unfolding secondOf
-returns c = rw (lt-ltb _ _ (c .before .if1 .taken)) (number-read _ _ _ _ _ _ (c .limited .ensures))
+returns c = rw (c .before .if2 .taken) (reference-read _ _ _ _ _ (c .reference .ensures))
+
+limited-requires : tie.Need-limited-requires
+limited-requires c κs = search needs
+
+returns-2 : tie.Need-returns-2
+unfolding secondOf
+returns-2 c =
+    rw (lt-ltb _ _ (c .before .before .if1 .taken), ne-eqb _ 11 (c .before .if2 .left)) (number-read _ _ _ _ _ _ (c .limited .ensures))
 
 list-at-requires : tie.Need-list-at-requires
 list-at-requires c κs = search needs
@@ -19,37 +27,39 @@ list-at-requires c κs = search needs
 same-length : tie.Need-same-length
 same-length c = search needs
 
-returns-2 : tie.Need-returns-2
+returns-3 : tie.Need-returns-3
 unfolding secondOf
-returns-2 c =
-    rw (le-ltb _ _ (c .before .before .before .before .before .if1 .left), lt-ltb _ _ (c .before .before .before .before .if2 .taken)) (list-read _ _ _ _ _ _ (c .before .before .list-at .ensures))
+returns-3 c =
+    rw (le-ltb _ _ (c .before .before .before .before .before .if1 .left), lt-ltb _ _ (c .before .before .before .before .if3 .taken)) (list-read _ _ _ _ _ _ (c .before .before .list-at .ensures))
 
 limited-requires-2 : tie.Need-limited-requires-2
 limited-requires-2 c κs = search needs
 
-returns-3 : tie.Need-returns-3
-unfolding secondOf
-returns-3 c =
-    rw (c .before .if3 .taken) (number-read _ _ _ _ _ _ (c .limited2 .ensures))
-
-reference-requires : tie.Need-reference-requires
-reference-requires c κs = search needs
-
 returns-4 : tie.Need-returns-4
 unfolding secondOf
 returns-4 c =
-    rw (le-ltb _ _ (c .before .before .before .if1 .left), le-ltb _ _ (c .before .before .if2 .left), ne-eqb _ 4 (c .before .if3 .left)) (reference-read _ _ _ _ _ (c .reference .ensures))
+    rw (c .before .if4 .taken) (number-read _ _ _ _ _ _ (c .limited2 .ensures))
+
+reference-requires-2 : tie.Need-reference-requires-2
+reference-requires-2 c κs = search needs
+
+returns-5 : tie.Need-returns-5
+unfolding secondOf
+returns-5 c =
+    rw (le-ltb _ _ (c .before .before .before .if1 .left), le-ltb _ _ (c .before .before .if3 .left), ne-eqb _ 4 (c .before .if4 .left)) (reference-read _ _ _ _ _ (c .reference2 .ensures))
 
 pub second-at-spec : {M : Type 1} → statement M
 second-at-spec =
     tie.close
     (tie.spec
-    limited-requires
+    reference-requires
     returns
+    limited-requires
+    returns-2
     list-at-requires
     same-length
-    returns-2
-    limited-requires-2
     returns-3
-    reference-requires
-    returns-4)
+    limited-requires-2
+    returns-4
+    reference-requires-2
+    returns-5)

@@ -1,21 +1,24 @@
 -- `fields::read::bounds_at` meets its contract: one field after another is taken from what is left.
 use borrow.Author.Needs.{needs}
-use mathlib.Core.Path.{_∙_}
+use mathlib.Core.Path.{refl, _∙_}
 use native.Mathlib.Omega.{arith}
-use Rattle.fields.proofs.laws.Table.{third-field, fourth-field, count-four}
-use Rattle.fields.proofs.laws.Flat.{number-read, put-third}
+use Rattle.fields.proofs.laws.Table.{third-bound, fourth-bound, count-second, count-three, count-four, count-other}
+use Rattle.fields.proofs.laws.Flat.{number-read}
 use Rattle.fields.proofs.Left.{left-more, left-refused, left-end}
 use Rattle.fields.proofs.read.bounds_at.Statement.{statement}
 use Rattle.fields.proofs.read.bounds_at.Tie as tie
 
-count-of-requires : tie.Need-count-of-requires
-count-of-requires c κs = search needs
-
 returns : tie.Need-returns
-returns c = record { eq = λ l. left-end 2 _ _ _ _ _ _ _ (c .before .count-of .ensures) (omega arith) }
+returns c = record { eq = λ l. left-end 2 _ _ _ _ _ _ _ refl (count-second _ (c .if1 .taken)) }
 
-third-at-requires : tie.Need-third-at-requires
-third-at-requires c κs = search needs
+last-kinds-at-requires : tie.Need-last-kinds-at-requires
+last-kinds-at-requires c κs = search needs
+
+returns-2 : tie.Need-returns-2
+returns-2 c = c .last-kinds-at .ensures
+
+limited-requires : tie.Need-limited-requires
+limited-requires c κs = search needs
 
 enum-known-x : tie.Need-enum-known-x
 enum-known-x c = search needs
@@ -26,26 +29,26 @@ enum-told c = search needs
 refusal-of-requires : tie.Need-refusal-of-requires
 refusal-of-requires c κs = search needs
 
-returns-2 : tie.Need-returns-2
-returns-2 c =
+returns-3 : tie.Need-returns-3
+returns-3 c =
     record {
       eq = λ l.
-          left-refused 2 _ _ _ _ _ _ _ _ _ _ (c .before .before .before .before .before .count-of .ensures) (c .before .before .before .before .if1 .left) (third-field _ _) (c .before .before .before .third-at .ensures .each l) _ _ (c .before .enum-told .given .1) (c .refusal-of .ensures);
+          left-refused 2 _ _ _ _ _ _ _ _ _ _ refl (count-three _ (c .before .before .before .before .before .if1 .left)) (third-bound _ _ (c .before .before .before .before .if2 .left)) (number-read _ _ _ _ _ _ (c .before .before .before .limited .ensures)) _ _ (c .before .enum-told .given .1) (c .refusal-of .ensures);
     }
 
 push-requires : tie.Need-push-requires
 push-requires c κs = search needs
 
-returns-3 : tie.Need-returns-3
-returns-3 c =
+returns-4 : tie.Need-returns-4
+returns-4 c =
     record {
       eq = λ l.
-          left-end 3 _ _ _ _ _ _ _ (c .before .before .before .before .before .before .before .count-of .ensures) (omega arith)
-          ∙ left-more 2 _ _ _ _ _ _ _ _ _ _ (c .before .before .before .before .before .before .before .count-of .ensures) (c .before .before .before .before .before .before .if1 .left) (third-field _ _) (c .before .before .before .before .before .third-at .ensures .each l) _ _ _ (c .before .before .before .x .given .1) (c .before .push .ensures ∙ put-third _ _ _ _);
+          left-end 3 _ _ _ _ _ _ _ refl (rw (c .if3 .taken) count-four)
+          ∙ left-more 2 _ _ _ _ _ _ _ _ _ _ refl (count-three _ (c .before .before .before .before .before .before .before .if1 .left)) (third-bound _ _ (c .before .before .before .before .before .before .if2 .left)) (number-read _ _ _ _ _ _ (c .before .before .before .before .before .limited .ensures)) _ _ _ (c .before .before .before .x .given .1) (c .before .push .ensures);
     }
 
-limited-requires : tie.Need-limited-requires
-limited-requires c κs = search needs
+limited-requires-2 : tie.Need-limited-requires-2
+limited-requires-2 c κs = search needs
 
 enum-known-y : tie.Need-enum-known-y
 enum-known-y c = search needs
@@ -56,43 +59,46 @@ enum-told-2 c = search needs
 refusal-of-requires-2 : tie.Need-refusal-of-requires-2
 refusal-of-requires-2 c κs = search needs
 
-returns-4 : tie.Need-returns-4
-returns-4 c =
+returns-5 : tie.Need-returns-5
+returns-5 c =
+    let four = count-other _ (c .before .before .before .before .before .before .before .before .before .before .before .if1 .left) (c .before .before .before .before .if3 .left) (λ e. omega arith) in
     record {
       eq = λ l.
-          left-refused 3 _ _ _ _ _ _ _ _ _ _ (c .before .before .before .before .before .before .before .before .before .before .before .count-of .ensures) (c .before .before .before .before .if2 .left) (fourth-field _ _) (number-read _ _ _ _ _ _ (c .before .before .before .limited .ensures)) _ _ (c .before .enum-told2 .given .1) (c .refusal-of2 .ensures)
-          ∙ left-more 2 _ _ _ _ _ _ _ _ _ _ (c .before .before .before .before .before .before .before .before .before .before .before .count-of .ensures) (c .before .before .before .before .before .before .before .before .before .before .if1 .left) (third-field _ _) (c .before .before .before .before .before .before .before .before .before .third-at .ensures .each l) _ _ _ (c .before .before .before .before .before .before .before .x .given .1) (c .before .before .before .before .before .push .ensures ∙ put-third _ _ _ _);
+          left-refused 3 _ _ _ _ _ _ _ _ _ _ refl (rw four (omega arith)) (fourth-bound _ _ (c .before .before .before .before .before .before .before .before .before .before .if2 .left)) (number-read _ _ _ _ _ _ (c .before .before .before .limited2 .ensures)) _ _ (c .before .enum-told2 .given .1) (c .refusal-of2 .ensures)
+          ∙ left-more 2 _ _ _ _ _ _ _ _ _ _ refl (count-three _ (c .before .before .before .before .before .before .before .before .before .before .before .if1 .left)) (third-bound _ _ (c .before .before .before .before .before .before .before .before .before .before .if2 .left)) (number-read _ _ _ _ _ _ (c .before .before .before .before .before .before .before .before .before .limited .ensures)) _ _ _ (c .before .before .before .before .before .before .before .x .given .1) (c .before .before .before .before .before .push .ensures);
     }
 
 push-requires-2 : tie.Need-push-requires-2
 push-requires-2 c κs = search needs
 
-returns-5 : tie.Need-returns-5
-returns-5 c =
+returns-6 : tie.Need-returns-6
+returns-6 c =
+    let four = count-other _ (c .before .before .before .before .before .before .before .before .before .before .before .before .if1 .left) (c .before .before .before .before .before .if3 .left) (λ e. omega arith) in
     record {
       eq = λ l.
-          left-end 4 _ _ _ _ _ _ _ (c .before .before .before .before .before .before .before .before .before .before .before .before .count-of .ensures) (rw (c .before .before .before .before .before .before .before .before .before .before .before .before .count-of .ensures) (count-four _))
-          ∙ left-more 3 _ _ _ _ _ _ _ _ _ _ (c .before .before .before .before .before .before .before .before .before .before .before .before .count-of .ensures) (c .before .before .before .before .before .if2 .left) (fourth-field _ _) (number-read _ _ _ _ _ _ (c .before .before .before .before .limited .ensures)) _ _ _ (c .before .before .y .given .1) (c .push2 .ensures)
-          ∙ left-more 2 _ _ _ _ _ _ _ _ _ _ (c .before .before .before .before .before .before .before .before .before .before .before .before .count-of .ensures) (c .before .before .before .before .before .before .before .before .before .before .before .if1 .left) (third-field _ _) (c .before .before .before .before .before .before .before .before .before .before .third-at .ensures .each l) _ _ _ (c .before .before .before .before .before .before .before .before .x .given .1) (c .before .before .before .before .before .before .push .ensures ∙ put-third _ _ _ _);
+          left-end 4 _ _ _ _ _ _ _ refl (rw four (omega arith))
+          ∙ left-more 3 _ _ _ _ _ _ _ _ _ _ refl (rw four (omega arith)) (fourth-bound _ _ (c .before .before .before .before .before .before .before .before .before .before .before .if2 .left)) (number-read _ _ _ _ _ _ (c .before .before .before .before .limited2 .ensures)) _ _ _ (c .before .before .y .given .1) (c .push2 .ensures)
+          ∙ left-more 2 _ _ _ _ _ _ _ _ _ _ refl (count-three _ (c .before .before .before .before .before .before .before .before .before .before .before .before .if1 .left)) (third-bound _ _ (c .before .before .before .before .before .before .before .before .before .before .before .if2 .left)) (number-read _ _ _ _ _ _ (c .before .before .before .before .before .before .before .before .before .before .limited .ensures)) _ _ _ (c .before .before .before .before .before .before .before .before .x .given .1) (c .before .before .before .before .before .before .push .ensures);
     }
 
 pub bounds-at-spec : {M : Type 1} → statement M
 bounds-at-spec =
     tie.close
     (tie.spec
-    count-of-requires
     returns
-    third-at-requires
+    last-kinds-at-requires
+    returns-2
+    limited-requires
     enum-known-x
     enum-told
     refusal-of-requires
-    returns-2
-    push-requires
     returns-3
-    limited-requires
+    push-requires
+    returns-4
+    limited-requires-2
     enum-known-y
     enum-told-2
     refusal-of-requires-2
-    returns-4
+    returns-5
     push-requires-2
-    returns-5)
+    returns-6)

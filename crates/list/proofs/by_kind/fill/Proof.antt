@@ -88,6 +88,14 @@ fill-lengths-requires c κs =
     let f = rw (c .before .before .kind10 .given .1) at (c .before .before .before .before .before .before .before .before .before .pre) in
     (sized (f .fits .ground), (f .fits .range, (omega (arith, f .small), f .room)))
 
+enum-known-kind-11 : tie.Need-enum-known-kind-11
+enum-known-kind-11 c = search needs
+
+fill-precedence-requires : tie.Need-fill-precedence-requires
+fill-precedence-requires c κs =
+    let f = rw (c .before .before .kind11 .given .1) at (c .before .before .before .before .before .before .before .before .before .pre) in
+    (sized (f .fits .ground), (f .fits .range, (omega (arith, f .small), f .room)))
+
 same-length : tie.Need-same-length
 same-length c = search needs
 
@@ -185,6 +193,16 @@ returns-10 c =
     let e : c .before .before .before .before .before .before .before .before .before .before .before .before .args .t ≡ 1 = only-one f refl in
     rw (c .before .before .before .before .before .kind10 .given .1, e) (c .before .before .fill-lengths .ensures)
 
+same-length-11 : tie.Need-same-length-11
+same-length-11 c = search needs
+
+returns-11 : tie.Need-returns-11
+unfolding countedOf
+returns-11 c =
+    let f = rw (c .before .before .before .before .before .kind11 .given .1) at (c .before .before .before .before .before .before .before .before .before .before .before .before .pre) in
+    let e : c .before .before .before .before .before .before .before .before .before .before .before .before .args .t ≡ 1 = only-one f refl in
+    rw (c .before .before .before .before .before .kind11 .given .1, e) (c .before .before .fill-precedence .ensures)
+
 pub fill-spec : {M : Type 1} → statement M
 fill-spec =
     tie.close
@@ -209,6 +227,8 @@ fill-spec =
     fill-distribute-requires
     enum-known-kind-10
     fill-lengths-requires
+    enum-known-kind-11
+    fill-precedence-requires
     same-length
     returns
     same-length-2
@@ -228,4 +248,6 @@ fill-spec =
     same-length-9
     returns-9
     same-length-10
-    returns-10)
+    returns-10
+    same-length-11
+    returns-11)

@@ -36,6 +36,9 @@ enum-told-9 c = search needs
 enum-told-10 : tie.Need-enum-told-10
 enum-told-10 c = search needs
 
+enum-told-11 : tie.Need-enum-told-11
+enum-told-11 c = search needs
+
 returns : tie.Need-returns
 unfolding countedOf
 returns c = rw (c .enum-told .given .1) (record { eq = λ dur us group l. clash-lists (c .before .before .args .times) dur us group _ })
@@ -76,6 +79,10 @@ returns-10 : tie.Need-returns-10
 unfolding countedOf
 returns-10 c = rw (c .enum-told10 .given .1) (record { eq = λ dur us group l. refl })
 
+returns-11 : tie.Need-returns-11
+unfolding countedOf
+returns-11 c = rw (c .enum-told11 .given .1) (record { eq = λ dur us group l. refl })
+
 pub lists-spec : {M : Type 1} → statement M
 lists-spec =
     tie.close
@@ -90,6 +97,7 @@ lists-spec =
     enum-told-8
     enum-told-9
     enum-told-10
+    enum-told-11
     returns
     returns-2
     returns-3
@@ -99,4 +107,5 @@ lists-spec =
     returns-7
     returns-8
     returns-9
-    returns-10)
+    returns-10
+    returns-11)

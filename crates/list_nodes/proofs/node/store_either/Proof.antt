@@ -1,89 +1,28 @@
 -- `list_nodes::node::store_either` meets its contract.
-use Rattle.list_nodes.proofs.Nodes.{either-stored}
-use lib.ListN.{length-set}
-use mathlib.Core.Path.{refl}
-use native.Mathlib.Omega.{arith}
+use Rattle.list_nodes.proofs.Nodes.{either-words}
+use Rattle.literals.proofs.laws.Words.{holds-as}
+use lib.ListN.{take}
 use borrow.Author.Needs.{needs}
 use Rattle.list_nodes.proofs.node.store_either.Statement.{statement}
 use Rattle.list_nodes.proofs.node.store_either.Tie as tie
 
-mul-out : tie.Need-mul-out
-mul-out c = search needs
+mul-store-two : tie.Need-mul-store-two
+mul-store-two c = search needs
 
-slice-write-out : tie.Need-slice-write-out
-slice-write-out c = search needs
+add-store-two : tie.Need-add-store-two
+add-store-two c = search needs
 
-mul-out-2 : tie.Need-mul-out-2
-mul-out-2 c = search needs
-
-add-out : tie.Need-add-out
-add-out c = search needs
-
-mul-out-3 : tie.Need-mul-out-3
-mul-out-3 c = search needs
-
-slice-write-out-2 : tie.Need-slice-write-out-2
-slice-write-out-2 c = simp length-set (omega arith)
-
-mul-out-4 : tie.Need-mul-out-4
-mul-out-4 c = search needs
-
-add-out-2 : tie.Need-add-out-2
-add-out-2 c = search needs
-
-mul-out-5 : tie.Need-mul-out-5
-mul-out-5 c = search needs
-
-slice-write-out-3 : tie.Need-slice-write-out-3
-slice-write-out-3 c = simp length-set (omega arith)
-
-mul-out-6 : tie.Need-mul-out-6
-mul-out-6 c = search needs
-
-add-out-3 : tie.Need-add-out-3
-add-out-3 c = search needs
-
-add-out-4 : tie.Need-add-out-4
-add-out-4 c = search needs
-
-add-out-5 : tie.Need-add-out-5
-add-out-5 c = search needs
-
-mul-out-7 : tie.Need-mul-out-7
-mul-out-7 c = search needs
-
-slice-write-out-4 : tie.Need-slice-write-out-4
-slice-write-out-4 c = simp length-set (omega arith)
-
-add-result : tie.Need-add-result
-add-result c = search needs
+store-two-requires : tie.Need-store-two-requires
+store-two-requires c κs = search needs
 
 same-length : tie.Need-same-length
 same-length c = search needs
 
 returns : tie.Need-returns
-returns c = let a = c .args in (either-stored (a .out .now) (a .at) (a .x) (a .y) (a .o) (c .pre .0), refl)
+returns c =
+    let a = c .before .before .before .before .before .args in
+    let q = c .before .before .store-two .ensures in
+    (holds-as (either-words (take (a .at) (a .out .now)) (a .x) (a .y) (a .o)) (q .0), q .1)
 
 pub store-either-spec : {M : Type 1} → statement M
-store-either-spec =
-    tie.close
-    (tie.spec
-    mul-out
-    slice-write-out
-    mul-out-2
-    add-out
-    mul-out-3
-    slice-write-out-2
-    mul-out-4
-    add-out-2
-    mul-out-5
-    slice-write-out-3
-    mul-out-6
-    add-out-3
-    add-out-4
-    add-out-5
-    mul-out-7
-    slice-write-out-4
-    add-result
-    same-length
-    returns)
+store-either-spec = tie.close (tie.spec mul-store-two add-store-two store-two-requires same-length returns)

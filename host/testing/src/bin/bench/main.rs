@@ -1,7 +1,7 @@
 //! Times the engine against plain C, tuned C and the reference: schools of
-//! growing size, formulas of many ORs, lengths of subevents, preferred times, proofs
-//! of many hints and with gaps in their ids, and the worst inputs that are accepted,
-//! with the memory of each.
+//! growing size, formulas of many ORs, lengths of subevents, preferred times, lessons
+//! before others, proofs of many hints and with gaps in their ids, and the worst
+//! inputs that are accepted, with the memory of each.
 //!
 //! `cargo run --release --offline --bin bench` prints the tables of
 //! docs/BENCHMARKS.md; with `-- --short` the same on small inputs. Each time is
@@ -16,6 +16,7 @@ mod clock;
 mod gaps;
 mod job;
 mod lengths;
+mod precedence;
 mod preferred;
 mod programs;
 mod proofs;
@@ -48,6 +49,8 @@ pub struct Scale {
     lengths: usize,
     /// Lessons of the school of kind 3.
     preferred: usize,
+    /// Lessons of the school of kind 11.
+    precedence: usize,
     /// The worst inputs have one in so many of their constraints.
     part: usize,
 }
@@ -61,6 +64,7 @@ const WHOLE: Scale = Scale {
     ors: 200,
     lengths: 400,
     preferred: 400,
+    precedence: 400,
     part: 1,
 };
 
@@ -73,6 +77,7 @@ const SHORT: Scale = Scale {
     ors: 20,
     lengths: 100,
     preferred: 100,
+    precedence: 100,
     part: 64,
 };
 

@@ -1,8 +1,9 @@
 //! The operations on schools of growing size, on a formula of many ORs, on lengths
-//! of subevents, on preferred times and on proofs of many hints; then growth and
-//! memory from the same runs.
+//! of subevents, on preferred times, on lessons before others and on proofs of many
+//! hints; then growth and memory from the same runs.
 
 use crate::lengths;
+use crate::precedence;
 use crate::preferred;
 use crate::programs::Side;
 use crate::proofs::{copies, Clauses};
@@ -72,6 +73,7 @@ pub fn tables(bench: &Bench, learned: &[Learned]) {
     ors(bench);
     lengths::rows(bench);
     preferred::rows(bench);
+    precedence::rows(bench);
     many_hints(bench, learned);
     growth(&all);
     memory(&all);

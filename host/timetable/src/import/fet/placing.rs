@@ -6,6 +6,7 @@ use super::super::times::TimeSet;
 use super::super::xml::Element;
 use super::context::{Context, Reading};
 use super::lessons::activities;
+use crate::instance::LARGEST_GAP;
 
 /// An item about activities.
 struct Case<'a> {
@@ -38,6 +39,7 @@ const RULES: &[(&str, fn(&Case) -> Outcome)] = &[
     ("ConstraintTwoActivitiesGrouped", grouped),
     ("ConstraintThreeActivitiesGrouped", grouped),
     ("ConstraintTwoActivitiesConsecutive", consecutive),
+    ("ConstraintTwoActivitiesOrdered", ordered),
     (
         "ConstraintActivitiesOccupyMaxTimeSlotsFromSelection",
         occupy_most,
@@ -91,6 +93,28 @@ impl Case<'_> {
             true => Ok(events),
             false => Refused::because("two of its activities must start together"),
         }
+    }
+
+    /// The events of the item's two activities in its order; none unless both are active.
+    fn pair(&self) -> Result<Option<[usize; 2]>, Refused> {
+        let [first, second] = self.named()?[..] else {
+            return Ok(None);
+        };
+        match [first, second].map(|at| self.context.lessons.event_of[at]) {
+            [one, other] if one == other => Refused::because("its activities must start together"),
+            pair => Ok(Some(pair)),
+        }
+    }
+
+    /// How many breaks follow one another on a day at most.
+    fn longest_break(&self) -> usize {
+        let working = self.context.working;
+        let rows = self.day_sets().into_iter().map(|day| {
+            let times: Vec<usize> = day.iter().collect();
+            let rows = times.split(|&time| working.contains(time));
+            rows.map(<[usize]>::len).max().unwrap_or(0)
+        });
+        rows.max().unwrap_or(0)
     }
 
     /// The events that the item is about: named by id, or all that fit its fields.
@@ -363,11 +387,29 @@ fn grouped(case: &Case) -> Outcome {
     ]))
 }
 
+/// The second begins, in the week, after the first has ended.
+fn ordered(case: &Case) -> Outcome {
+    let order = |[first, second]: [usize; 2]| {
+        let most = LARGEST_GAP as usize;
+        Wish::Precedence(first, second, 0, most)
+    };
+    let wishes = case.pair()?.map(order);
+    Ok(Reading::wishes(wishes.into_iter().collect()))
+}
+
+/// Grouped and ordered; of a wish no more than that the gap is no longer than a break.
 fn consecutive(case: &Case) -> Outcome {
-    let weaker = Some("which of the two comes first is not carried".to_string());
+    let Some([first, second]) = case.pair()? else {
+        return Ok(Reading::default());
+    };
+    if case.hard {
+        let wishes = [grouped(case)?.wishes, ordered(case)?.wishes].concat();
+        return Ok(Reading::wishes(wishes));
+    }
+    let most = case.longest_break();
     Ok(Reading {
-        weaker,
-        ..grouped(case)?
+        weaker: Some(format!("only a gap of 0 to {most} times is carried")),
+        ..Reading::wishes(vec![Wish::Precedence(first, second, 0, most)])
     })
 }
 

@@ -251,6 +251,28 @@ impl Archive {
         )
     }
 
+    /// The pairs of events to which an item applies, each with its element.
+    pub fn event_pairs<'a>(
+        &self,
+        item: &'a Element,
+    ) -> Result<Vec<(&'a Element, [usize; 2])>, Fault> {
+        let pairs = item
+            .child("AppliesTo")
+            .and_then(|applies| applies.child("EventPairs"));
+        let pairs = pairs.map_or(&[][..], |list| &list.children);
+        let event = |pair: &Element, field: &str| match pair.child(field) {
+            Some(event) => find(&self.event_of, event, "event"),
+            None => Err(Fault::at(pair, format!("{} has no {field}", pair.name))),
+        };
+        pairs
+            .iter()
+            .map(|pair| {
+                let events = [event(pair, "FirstEvent")?, event(pair, "SecondEvent")?];
+                Ok((pair, events))
+            })
+            .collect()
+    }
+
     /// The groups of events to which an item applies.
     pub fn event_groups(&self, item: &Element) -> Result<Vec<Vec<usize>>, Fault> {
         let groups = item

@@ -5,7 +5,7 @@ use super::super::remark::{number, Fault, Refused};
 use super::super::times::TimeSet;
 use super::super::xml::Element;
 use super::archive::Archive;
-use crate::instance::LARGEST_WEIGHT;
+use crate::instance::{LARGEST_GAP, LARGEST_WEIGHT};
 
 /// A constraint of the file.
 pub struct Item<'a> {
@@ -22,6 +22,8 @@ pub struct Reading {
     pub wishes: Vec<Wish>,
     /// What of it is not carried.
     pub weaker: Option<String>,
+    /// Whether each wish deviates by 1 however far it is missed, as under a step.
+    steps: bool,
 }
 
 type Outcome = Result<Reading, Refused>;
@@ -33,6 +35,7 @@ const RULES: &[(&str, fn(&Item) -> Outcome)] = &[
     ("PreferTimesConstraint", prefer_times),
     ("SpreadEventsConstraint", spread_events),
     ("LinkEventsConstraint", link_events),
+    ("OrderEventsConstraint", order_events),
     ("AvoidClashesConstraint", avoid_clashes),
     ("AvoidUnavailableTimesConstraint", avoid_unavailable),
     ("LimitIdleTimesConstraint", limit_idle),
@@ -88,6 +91,7 @@ impl<'a> Item<'a> {
         }
         match self.element.field("CostFunction") {
             "Linear" | "Sum" => {}
+            "Step" | "SumSteps" if reading.steps => reading.weaker = None,
             "Quadratic" | "SumSquares" => {
                 let lost = "its square is carried as the deviation itself";
                 reading.weaker.get_or_insert(lost.to_string());
@@ -132,7 +136,7 @@ impl<'a> Item<'a> {
 fn carried(wishes: Vec<Wish>) -> Reading {
     Reading {
         wishes,
-        weaker: None,
+        ..Reading::default()
     }
 }
 
@@ -272,6 +276,28 @@ fn link_events(item: &Item) -> Outcome {
         reading.weaker = Some("only times beyond the duration are charged".to_string());
     }
     Ok(reading)
+}
+
+/// So many times lie between the last of the first event and the first of the second. A
+/// pair is charged once; how far it is missed matters for a soft wish alone.
+fn order_events(item: &Item) -> Outcome {
+    let mut wishes = Vec::new();
+    for (pair, [first, second]) in item.archive.event_pairs(item.element)? {
+        let limit = |field: &str, unsaid: usize| match pair.child(field) {
+            Some(_) => number(pair, field),
+            None => Ok(unsaid),
+        };
+        let least = limit("MinSeparation", 0)?;
+        let most = limit("MaxSeparation", LARGEST_GAP as usize)?;
+        wishes.push(Wish::Precedence(first, second, least, most));
+    }
+    let lost = "a pair is charged once, however far it lies outside";
+    let weaker = !item.required && !wishes.is_empty();
+    Ok(Reading {
+        wishes,
+        weaker: weaker.then(|| lost.to_string()),
+        steps: true,
+    })
 }
 
 fn avoid_clashes(item: &Item) -> Outcome {

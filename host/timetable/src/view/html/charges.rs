@@ -48,7 +48,7 @@ fn row(view: &View, number: usize, charge: &Charge) -> String {
         "<tr id=\"c{0}\"><th scope=\"row\">{0}</th><td>{1}</td><td>{2}</td><td>{3}</td>\
          <td>{4}</td></tr>\n",
         number + 1,
-        escaped(&view.constraint_line(number)),
+        escaped(&view.charge_line(number)),
         charge.deviation,
         weight(charge),
         charge.amount(),

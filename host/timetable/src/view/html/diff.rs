@@ -43,7 +43,7 @@ fn charged(first: &View, second: &View, diff: &Diff) -> Part {
         format!(
             "<tr><th scope=\"row\">{}</th><td>{}</td><td>{before}</td><td>{after}</td></tr>\n",
             number + 1,
-            escaped(&first.constraint_line(number)),
+            escaped(&first.changed_line(second, number)),
         )
     });
     Part {

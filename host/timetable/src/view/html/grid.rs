@@ -18,7 +18,7 @@ pub fn part(view: &View, grid: &Grid, at: usize, diff: Option<&Diff>) -> Part {
         let mark = mark(view, Mark { constraint, first });
         format!(
             "<li>{mark} {}</li>\n",
-            escaped(&view.constraint_line(constraint))
+            escaped(&view.charge_line(constraint))
         )
     });
     let broken: String = broken.collect();
@@ -138,6 +138,6 @@ fn mark(view: &View, mark: Mark) -> String {
     format!(
         "<a class=\"{class}\" href=\"#c{0}\" title=\"{1}\">{0}{cost}</a>",
         mark.constraint + 1,
-        escaped(&view.constraint_line(mark.constraint)),
+        escaped(&view.charge_line(mark.constraint)),
     )
 }
