@@ -71,6 +71,7 @@ pub fn store_either_way(
     let soon = monus(early, 1);
     out[at] = times + late;
     let a = store_run(y + early + 1, times - early, at + 1, out);
+    // F of time 1, where there is one
     let b = store_run(v, early - soon, a, out);
     let c = store_run(v + early, soon, b, out);
     let d = store_run(q, late, c, out);
