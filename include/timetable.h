@@ -34,6 +34,11 @@
  *   17   a clause that is not empty does not fit the stores    step
  *   18   a proof has no empty clause, or bytes after it        steps read
  *   19   both events of a precedence are one                   offset of the constraint's kind
+ *   20   a solver's text has a line of another kind, a         its offset in the text
+ *        literal out of range or malformed, or a number
+ *        after the 0
+ *   21   a variable is missing in a solver's text, or given    lowest such variable, from 1
+ *        twice
  *
  * What every caller owes. A slice is a pointer and the number of its elements;
  * the pointer is good for that many elements. A pointer to an output is good
@@ -82,7 +87,9 @@ enum timetable_refusal {
     TIMETABLE_BAD_HINT = 16,
     TIMETABLE_CLAUSE_TOO_LONG = 17,
     TIMETABLE_BAD_END = 18,
-    TIMETABLE_SAME_EVENT = 19
+    TIMETABLE_SAME_EVENT = 19,
+    TIMETABLE_BAD_SOLVER_TEXT = 20,
+    TIMETABLE_NOT_GIVEN_ONCE = 21
 };
 
 /* The limits of an instance. */
@@ -204,6 +211,34 @@ uint32_t timetable_text(const uint8_t *file, size_t file_length, uint8_t *out,
 uint32_t timetable_decode(const uint8_t *file, size_t file_length,
                           const uint8_t *model, size_t model_length,
                           uint64_t *objective, uint64_t *value);
+
+/*
+ * Reads what a solver printed into a model, and decodes that model.
+ * The text has the older form of the MaxSAT evaluations: each line begins with
+ * c, s, o or v and ends in byte 10 or with the text. Lines c, s and o are passed
+ * over. The lines v together give one literal for each variable of the clauses
+ * without the tail, and may close with a 0, after which no number follows. One
+ * or more spaces (byte 32) stand before each literal, and spaces may end a line.
+ * A literal is the variable's number, from 1 on, without leading zeros, with a
+ * minus if the variable is false.
+ * The model has exactly a byte for each variable; store is a working store with
+ * a byte for each variable, and longer is no fault. What the two hold before the
+ * call does not matter; after it, whatever it answers, every byte of store is
+ * zero.
+ * Refusals: 1 to 6 and 19 for the file, then 8, then 9 if store is too short,
+ * then 10 for the model's length, then 20 and 21 for the text, then 13 for the
+ * model that it gives. 20 gives where the line or the number begins, or the
+ * offset after a v that no space follows; an empty line is one of another kind.
+ * 21 comes after the last line.
+ * Accepted: byte v - 1 of the model is 1 if the literal v was given, and 0 if
+ * -v was; *objective is the model's cost, and *value is how many bytes of the
+ * model, from its first, are the timetable.
+ */
+uint32_t timetable_solver_text(const uint8_t *file, size_t file_length,
+                               const uint8_t *text, size_t text_length,
+                               uint8_t *model, size_t model_length,
+                               uint8_t *store, size_t store_length,
+                               uint64_t *objective, uint64_t *value);
 
 /*
  * A row of timetable_check's directory of clauses, 16 bytes: the clause's id,

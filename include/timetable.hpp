@@ -3,8 +3,8 @@
  * slices in place of pointers and lengths, and answers in place of outputs.
  *
  * An empty vector or string may hold a null pointer, which the engine is never
- * to be given; a slice replaces it. text, the checks and best allocate what they lend.
- * Nothing here throws but an allocation.
+ * to be given; a slice replaces it. text, solver_text, the checks and best
+ * allocate what they lend. Nothing here throws but an allocation.
  */
 #ifndef TIMETABLE_HPP
 #define TIMETABLE_HPP
@@ -81,6 +81,14 @@ struct kept {
 };
 
 struct decoded {
+    /* The timetable is this many bytes of the model, from its first. */
+    std::size_t timetable;
+    std::uint64_t objective;
+};
+
+/* A model that was read from a solver's text. */
+struct solver_model {
+    std::vector<std::uint8_t> model;
     /* The timetable is this many bytes of the model, from its first. */
     std::size_t timetable;
     std::uint64_t objective;
@@ -169,6 +177,24 @@ inline result<decoded> decode(slice file, slice model)
     std::uint64_t value = 0;
     std::uint32_t number = timetable_decode(file.data(), file.size(), model.data(),
                                             model.size(), &found.objective, &value);
+    found.timetable = static_cast<std::size_t>(value);
+    return detail::answered(number, value, found);
+}
+
+/* The model in what a solver printed, decoded; in a model and a store of the length wanted. */
+inline result<solver_model> solver_text(slice file, slice text)
+{
+    /* Of an empty model, the refusal says which length is wanted. */
+    result<decoded> none = decode(file, slice(nullptr, 0));
+    if (none.refusal != TIMETABLE_WRONG_LENGTH)
+        return {none.refusal, none.value, solver_model()};
+    solver_model found = solver_model();
+    found.model = detail::lent<std::uint8_t>(none.value);
+    std::vector<std::uint8_t> store = detail::lent<std::uint8_t>(none.value);
+    std::uint64_t value = 0;
+    std::uint32_t number = timetable_solver_text(
+        file.data(), file.size(), text.data(), text.size(), found.model.data(),
+        found.model.size(), store.data(), store.size(), &found.objective, &value);
     found.timetable = static_cast<std::size_t>(value);
     return detail::answered(number, value, found);
 }

@@ -270,6 +270,79 @@ static void decoded(void)
     expect("objective, no model", objective, kept);
 }
 
+/* A text, the lengths of the model and the store that are lent, and what is answered. */
+struct reading {
+    const char *text;
+    size_t model_length, store_length;
+    uint32_t number;
+    uint64_t value;
+};
+
+/* Over the four variables of the file; the first is the text of its model. */
+static const struct reading readings[] = {
+    {"v 1 2 3 4 0\n", 4, 4, TIMETABLE_ACCEPTED, 2},
+    {"c x\ns OPTIMUM FOUND\no 4\nv 4  3 \nv\nv 2 1", 4, 9, TIMETABLE_ACCEPTED, 2},
+    {"x", 3, 3, TIMETABLE_TOO_SHORT, 0},
+    {"x", 4, 0, TIMETABLE_TOO_SHORT, 0},
+    {"x", 3, 4, TIMETABLE_WRONG_LENGTH, 4},
+    {"x", 5, 9, TIMETABLE_WRONG_LENGTH, 4},
+    {"x", 4, 9, TIMETABLE_BAD_SOLVER_TEXT, 0},
+    {"v 1 2 3 4\n\n", 4, 4, TIMETABLE_BAD_SOLVER_TEXT, 10},
+    {"v1 2 3 4", 4, 4, TIMETABLE_BAD_SOLVER_TEXT, 1},
+    {"v 1 02 3 4", 4, 4, TIMETABLE_BAD_SOLVER_TEXT, 4},
+    {"v 1 1 5", 4, 4, TIMETABLE_BAD_SOLVER_TEXT, 6},
+    {"v 1 2 3 0\nv 4 0", 4, 4, TIMETABLE_BAD_SOLVER_TEXT, 12},
+    {"", 4, 4, TIMETABLE_NOT_GIVEN_ONCE, 1},
+    {"v 1 1 2 3 4", 4, 4, TIMETABLE_NOT_GIVEN_ONCE, 1},
+    {"v 1 3 -3 4", 4, 4, TIMETABLE_NOT_GIVEN_ONCE, 2},
+    {"v -1 2 3 4", 4, 4, TIMETABLE_CLAUSE_FALSE, 1},
+    {"v 1 2 3 -4", 4, 4, TIMETABLE_CLAUSE_FALSE, 6},
+};
+
+/* Lends a model and a store filled with other bytes, and looks at every byte of both. */
+static void read_text(const struct reading *reading)
+{
+    uint8_t found[9], store[10];
+    uint64_t objective = kept, value = kept;
+    uint32_t number;
+    size_t i;
+    memset(found, 7, sizeof found);
+    memset(store, 7, sizeof store);
+    number = timetable_solver_text(file, sizeof file, (const uint8_t *)reading->text,
+                                   strlen(reading->text), found, reading->model_length,
+                                   store, reading->store_length, &objective, &value);
+    expect(reading->text, number, reading->number);
+    expect("value, solver's text", value, reading->value);
+    expect("objective, solver's text", objective, number == TIMETABLE_ACCEPTED ? 4 : kept);
+    for (i = 0; i < sizeof found; i++)
+        expect("byte of a model that is read", found[i],
+               number == TIMETABLE_ACCEPTED && i < sizeof model ? model[i] : 7);
+    for (i = 0; i < sizeof store; i++)
+        expect("byte of a store", store[i], i < reading->store_length ? 0 : 7);
+}
+
+static void texts_read(void)
+{
+    uint8_t found[4] = {7, 7, 7, 7}, store[4] = {7, 7, 7, 7};
+    uint64_t objective = kept, value = kept;
+    uint32_t number;
+    size_t i;
+    for (i = 0; i < sizeof readings / sizeof *readings; i++)
+        read_text(&readings[i]);
+    /* The file's faults come first, and the store is zero then too. */
+    number = timetable_solver_text(file, sizeof file - 1, (const uint8_t *)"x", 1, found, 4,
+                                   store, 4, &objective, &value);
+    expect("solver's text, file cut", number, TIMETABLE_BAD_NUMBER);
+    expect("value, solver's text, file cut", value, sizeof file - 1);
+    expect("objective, solver's text, file cut", objective, kept);
+    for (i = 0; i < 4; i++) {
+        expect("model, file cut", found[i], 7);
+        expect("store, file cut", store[i], 0);
+    }
+    expect("number of a bad text", TIMETABLE_BAD_SOLVER_TEXT, 20);
+    expect("number of a variable not given once", TIMETABLE_NOT_GIVEN_ONCE, 21);
+}
+
 /* The stores that the formula at bound 3 needs. */
 static uint32_t words[30];
 static struct timetable_row rows[16];
@@ -406,6 +479,7 @@ int main(void)
     text_sized();
     written();
     decoded();
+    texts_read();
     checked();
     checked_hard();
     found_best();

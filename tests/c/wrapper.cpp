@@ -72,6 +72,25 @@ static void operations()
             6);
 }
 
+/* What a solver printed. */
+static void solver_texts()
+{
+    timetable::result<timetable::solver_model> read =
+        timetable::solver_text(file, std::string("c x\nv 1 2\nv 3 4 0\n"));
+    expect("solver's text", read && read.answer.model == model && read.answer.timetable == 2 &&
+                                read.answer.objective == 4);
+    refused("solver's text, another line", timetable::solver_text(file, std::string("x")),
+            TIMETABLE_BAD_SOLVER_TEXT, 0);
+    refused("solver's text, given twice",
+            timetable::solver_text(file, std::string("v 1 1 2 3 4")), TIMETABLE_NOT_GIVEN_ONCE,
+            1);
+    read = timetable::solver_text(file, std::string("v 1 2 3 -4"));
+    refused("solver's text, no model", read, TIMETABLE_CLAUSE_FALSE, 6);
+    expect("the answer of a refused text", read.answer.model.empty());
+    refused("solver's text, no file", timetable::solver_text(nothing, std::string("x")),
+            TIMETABLE_BAD_NUMBER, 0);
+}
+
 /* What is kept is idle, since and seen. */
 static void keeps(const char *what, const timetable::kept &found, std::uint32_t idle,
                   std::uint32_t since, std::uint32_t seen)
@@ -109,6 +128,8 @@ static void empty_slices()
             TIMETABLE_WRONG_LENGTH, 2);
     refused("text, empty", timetable::text(std::string()), TIMETABLE_BAD_NUMBER, 0);
     refused("decode, empty", timetable::decode(file, nothing), TIMETABLE_WRONG_LENGTH, 4);
+    refused("solver's text, empty", timetable::solver_text(file, nothing),
+            TIMETABLE_NOT_GIVEN_ONCE, 1);
     refused("check, empty", timetable::check(file, 3, nothing), TIMETABLE_BAD_END, 0);
     refused("check without the tail, empty", timetable::check_hard(file, nothing),
             TIMETABLE_BAD_END, 0);
@@ -120,6 +141,7 @@ static void empty_slices()
 int main()
 {
     operations();
+    solver_texts();
     idle_times();
     empty_slices();
     if (failures == 0)

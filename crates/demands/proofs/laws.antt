@@ -2,3 +2,4 @@
 pub mod Calls
 pub mod Beyond
 pub mod Drawn
+pub mod Printed

@@ -18,6 +18,8 @@ use Rattle.engine.proofs.timetable_text.Statement as text
 use Rattle.engine.proofs.timetable_text.Met as text-met
 use Rattle.engine.proofs.timetable_decode.Statement as decode
 use Rattle.engine.proofs.timetable_decode.Met as decode-met
+use Rattle.engine.proofs.solver.timetable_solver_text.Statement as solver-text
+use Rattle.engine.proofs.solver.timetable_solver_text.Met as solver-text-met
 use Rattle.engine.proofs.timetable_check.Statement as check
 use Rattle.engine.proofs.timetable_check.Met as check-met
 use Rattle.engine.proofs.check_hard.timetable_check_hard.Statement as check-hard
@@ -27,7 +29,7 @@ use Rattle.engine.proofs.best_model.timetable_best.Met as best-met
 use Rattle.engine.proofs.idle.timetable_idle_step.Statement as idle-step
 use Rattle.engine.proofs.idle.timetable_idle_step.Met as idle-step-met
 
--- the eleven equations, one for each function
+-- the twelve equations, one for each function
 pub record Demand1 (M : Type 1) : Type 2 where
   pub timetable-read : read.statement M
   pub timetable-sizes : sizes.statement M
@@ -36,6 +38,7 @@ pub record Demand1 (M : Type 1) : Type 2 where
   pub timetable-text-size : text-size.statement M
   pub timetable-text : text.statement M
   pub timetable-decode : decode.statement M
+  pub timetable-solver-text : solver-text.statement M
   pub timetable-check : check.statement M
   pub timetable-check-hard : check-hard.statement M
   pub timetable-best : best.statement M
@@ -51,6 +54,7 @@ demand1 =
       timetable-text-size = text-size-met.met;
       timetable-text = text-met.met;
       timetable-decode = decode-met.met;
+      timetable-solver-text = solver-text-met.met;
       timetable-check = check-met.met;
       timetable-check-hard = check-hard-met.met;
       timetable-best = best-met.met;

@@ -3,10 +3,11 @@
 // Each but the idle step, which refuses nothing, answers 0 if it is accepted, and else the number of the first refusal in document
 // 01's order. Its contract is one equation: what the call leaves (the number returned, *value and every other output) is what the
 // crates calls and operation_calls say of the operation's answer by the definitions. An input is lent as `&`, so it keeps every
-// byte. None asks anything of its caller but good pointers. proofs/Demand1.antt has the eleven equations together.
+// byte. None asks anything of its caller but good pointers. proofs/Demand1.antt has the twelve equations together.
 mod best_model;
 mod check_hard;
 mod idle;
+mod solver;
 
 pub use best_model::timetable_best;
 use calls::leave_length;
@@ -27,6 +28,7 @@ use model::evaluate;
 use sheet::same_sheet;
 use sheet::score;
 use sizes::sizes;
+pub use solver::timetable_solver_text;
 use text::text;
 use text::text_size;
 ghost use mathlib.Core.Path.{_≡_};

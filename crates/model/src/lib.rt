@@ -5,3 +5,4 @@ mod size;
 mod truth;
 
 pub use operations::evaluate;
+pub use operations::evaluate_read;

@@ -25,7 +25,7 @@ fn part_size(head: Head) -> usize
 }
 
 // A model for a file that was read and sized: 10, 11, then 13.
-fn evaluate_read(
+pub fn evaluate_read(
     file: &[u8],
     model: &[u8],
     head: Head,

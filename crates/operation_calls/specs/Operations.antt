@@ -3,7 +3,7 @@
 use mathlib.Core.List.{List, _++_}
 use Prim.Native.Nat.{ℕ}
 use lib.ListN.{length, drop, replicate}
-use Rattle.scope.specs.Operations.{textOf, decodeOf, Lent, checkOf, checkHardOf, bestOf}
+use Rattle.scope.specs.Operations.{textOf, decodeOf, solverTextOf, Lent, checkOf, checkHardOf, bestOf}
 use Rattle.directory.specs.declared.Row.{Row}
 use Rattle.directory.specs.Rows.{noRow}
 use Rattle.scope.specs.Parsed.{Answer}
@@ -16,6 +16,14 @@ textCall file out = called (textOf file (length out)) (λ t. (length t, t ++ dro
 -- decoding: *value is the length of the part, the cost is written
 abbrev pub decodeCall : List ℕ → List ℕ → ℕ → Call ℕ
 decodeCall file model objective = called (decodeOf file model) (λ d. (length (d .0), d .1 .0)) objective
+
+-- what a solver printed: *value is the length of the part, the cost and the model are written; the store is zero, accepted or refused
+abbrev pub solverTextCall : (file output model store : List ℕ) → ℕ → Call (ℕ × List ℕ × List ℕ)
+solverTextCall file output model store objective =
+    called
+    (solverTextOf file output (length model) (length store))
+    (λ d. (length (d .1 .0), (d .1 .1 .0, d .0, replicate (length store) 0)))
+    (objective, model, replicate (length store) 0)
 
 -- words, rows and marks
 abbrev pub Stores : Type 0

@@ -46,6 +46,11 @@ abbrev pub decodeMeans : List ℕ → DecodeAnswer → Answer (List ℕ × Objec
 decodeMeans part (DecodeAnswer.Decoded o) = answered (part, o)
 decodeMeans part (DecodeAnswer.Refused f) = given f
 
+-- with the model that is filled and the part that is returned beside it
+abbrev pub solverTextMeans : (model part : List ℕ) → DecodeAnswer → Answer (List ℕ × (List ℕ × Objective))
+solverTextMeans model part (DecodeAnswer.Decoded o) = answered (model, (part, o))
+solverTextMeans model part (DecodeAnswer.Refused f) = given f
+
 abbrev pub checkMeans : CheckAnswer → Answer ℕ
 checkMeans (CheckAnswer.NoTimetable n) = answered n
 checkMeans (CheckAnswer.Refused f) = given f

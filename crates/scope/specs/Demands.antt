@@ -1,5 +1,5 @@
--- Demands 2 and 3, what is owed for the two operations beside them, what kinds 3, 9, 10 and 11 count, and idle times in one walk, as
--- types over the definitions. The upper crates prove them.
+-- Demands 2 and 3, what is owed for the two operations beside them, what kinds 3, 9, 10 and 11 count, idle times in one walk, and what
+-- is read of a solver's text, as types over the definitions. The upper crates prove them.
 use mathlib.Core.Path.{_≡_}
 use mathlib.Core.Bool.{Bool, true, not, _||_, cond}
 use mathlib.Core.Logic.{_↔_}
@@ -16,7 +16,8 @@ use Rattle.scope.specs.Subevents.{subevents, timesHeld, lengthsFrom}
 use Rattle.scope.specs.Gap.{timesTaken, gapWithin}
 use Rattle.scope.specs.Idle.{idleTimes, keptAfter, yes, idleStepOf}
 use Rattle.scope.specs.Formula.{nodeGate, variables, hardOf, words, mostVariables}
-use Rattle.scope.specs.Operations.{scoreOf, decodeOf, part, falsifiedSoft, checkOf, checkHardOf, bestOf, Lent}
+use Rattle.scope.specs.SolverText.{modelIn, modelText}
+use Rattle.scope.specs.Operations.{scoreOf, decodeOf, part, falsifiedSoft, solverTextOf, checkOf, checkHardOf, bestOf, Lent}
 use Rattle.scope.specs.Refutation.{NoTimetable, NoneAtAll}
 use Rattle.scope.specs.declared.Objective.{Objective}
 
@@ -157,3 +158,16 @@ pub record DemandIdle : Type 0 where
       ≡ deviation lo hi (sum _+_ 0 (map (λ g. keptAfter (usedAt τ r (groupAt (i .groups) g)) .idle) hs))
   -- calls of the operation keep the same count, for fewer than 2^32 members
   pub calls : (us : List ℕ) → length us ≤ 4294967295 → keptByCalls us .0 ≡ keptAfter (map yes us) .idle
+
+-- What a solver printed
+pub record DemandSolverText : Type 0 where
+  -- "For each model there is a text that reads back as that model": any bytes 0 and 1, one for each of at most 8,000,000 variables
+  pub reads-back : (m : List ℕ) → length m ≤ mostVariables → ((k : ℕ) → getD m k 0 ≤ 1) → modelIn (length m) (modelText m) ≡ answered m
+  -- and the operation reads and decodes it: each model of the hard clauses
+  pub every-model : (file : List ℕ) (i : Instance) → Accepted file i → variables i ≤ mostVariables → (m : List ℕ) → Model i m
+      → (store : ℕ) → variables i ≤ store → solverTextOf file (modelText m) (length m) store ≡ answered (m, (part i m, falsifiedSoft i m))
+  -- whatever the text, what is read is the model that it gives, one of the hard clauses, and its part is a timetable that keeps every
+  -- hard constraint at the cost
+  pub only-models : (file : List ℕ) (i : Instance) → Accepted file i → (output : List ℕ) (model store : ℕ) (m t : List ℕ) (cost : Objective)
+      → solverTextOf file output model store ≡ answered (m, (t, cost))
+      → (modelIn (variables i) output ≡ answered m) × Model i m × (part i m ≡ t) × KeepsHard file t cost

@@ -1,10 +1,10 @@
--- The examples of document 01 that are marked P, file A's listing, its limits, those of kinds 3, 9, 10 and 11 and of idle times in one
--- walk, as one table under one theorem. A case is what the definitions compute and what the paper says, both as numbers.
+-- The examples of document 01 that are marked P, file A's listing, its limits, those of kinds 3, 9, 10 and 11, of idle times in one walk
+-- and of solvers' texts, as one table under one theorem. A case is what the definitions compute and what the paper says, both as numbers.
 use mathlib.Core.Path.{_≡_, refl}
 use mathlib.Core.Bool.{Bool, true, false, cond, _||_}
 use mathlib.Core.List.{List, [], _∷_, _++_, map, flatMap}
 use Prim.Native.Nat.{ℕ, _+_, _/_, _%_}
-use lib.ListN.{take, replicate}
+use lib.ListN.{length, take, replicate}
 use lib.Dec.{eqb, ltb}
 use Rattle.scope.specs.Parsed.{Parsed, got, refused, Answer, answered, refusal, repeat}
 use Rattle.scope.specs.Number.{group, front, within, number, limited, reference, references, listed}
@@ -17,9 +17,10 @@ use Rattle.scope.specs.Idle.{idleTimes, keptAfter, numbersOf, idleStepOf
 use Rattle.scope.specs.Gap.{takenAmong, firstTime, lastTime, gapWithin}
 use Rattle.scope.specs.Formula.{refLiteral, nodeGate, noRow, ones, row, counter, lastRow, lowUnits, highUnits, shortUnits, boundItems, countInto, ruleItems, rulesItems, starts, uses, durationRules, constraintRules, formula, variables, hardOf, softOf, tail, bounded, boundedVariables, boundedHard, words}
 use Rattle.scope.specs.Text.{digits, literalText, line, sumWeights, top, headerLine, text}
+use Rattle.scope.specs.SolverText.{until, linesAfter, wordsAfter, tokens, numeral, wordOf, gathered, timesGiven, notOnce, modelIn, literalsFrom, modelText}
 use Rattle.scope.specs.Steps.{numbers, stepAt, literalsOk, wellFormed, hintsShow, deleted}
 use Rattle.scope.specs.PlainRun.{perform, run, start, plainRun}
-use Rattle.scope.specs.Operations.{Lent, readOf, scoreOf, sameBytes, sameSheetOf, sizesOf, textSizeOf, textOf, programPrints, lowestFalse, decodeOf, formulaFits, checkOf, checkHardOf, bestOf}
+use Rattle.scope.specs.Operations.{Lent, readOf, scoreOf, sameBytes, sameSheetOf, sizesOf, textSizeOf, textOf, programPrints, lowestFalse, decodeOf, solverTextOf, formulaFits, checkOf, checkHardOf, bestOf}
 use Rattle.scope.specs.declared.Infeasibility.{Infeasibility}
 use Rattle.scope.specs.declared.Objective.{Objective}
 use Rattle.scope.specs.declared.InstanceSize.{InstanceSize}
@@ -69,6 +70,11 @@ decodeSaid : Answer (List ℕ × Objective) → List ℕ
 decodeSaid (answered d) = 0 ∷ d .1 .0 ∷ d .0
 decodeSaid (refusal k v) = k ∷ v ∷ []
 
+-- the model, the length of the part, the cost
+solverSaid : Answer (List ℕ × (List ℕ × Objective)) → List ℕ
+solverSaid (answered d) = 0 ∷ (d .0 ++ length (d .1 .0) ∷ d .1 .1 .0 ∷ [])
+solverSaid (refusal k v) = k ∷ v ∷ []
+
 bestSaid : Answer (Objective × ℕ) → List ℕ
 bestSaid (answered b) = 0 ∷ b .0 .0 ∷ b .1 ∷ []
 bestSaid (refusal k v) = k ∷ v ∷ []
@@ -90,6 +96,23 @@ roomA w r b = stepsSaid (checkOf fileA 3 (proofA 0x11) (record { words = w; rows
 -- whether a model of A is the best
 bestA : List ℕ → List ℕ → List ℕ
 bestA m proof = bestSaid (bestOf fileA m proof ample)
+
+-- what a solver printed for A, which has 4 variables, with a lent model and a store of these lengths; of 4 each
+lentA : (model store : ℕ) → List ℕ → List ℕ
+lentA model store output = solverSaid (solverTextOf fileA output model store)
+
+solverA : List ℕ → List ℕ
+solverA output = lentA 4 4 output
+
+-- "v 1 2", " 3 4" and " 0"
+vOneTwo : List ℕ
+vOneTwo = 118 ∷ 32 ∷ 49 ∷ 32 ∷ 50 ∷ []
+
+threeFour : List ℕ
+threeFour = 32 ∷ 51 ∷ 32 ∷ 52 ∷ []
+
+thenZero : List ℕ
+thenZero = 32 ∷ 48 ∷ []
 
 -- every resource is busy at two times
 busyTimes : ℕ → ℕ → Atom → Bool
@@ -377,9 +400,52 @@ cases =
     -- any value for yes; what does not fit is given as the largest number
     ∷ shows (keptSaid (idleStepOf 7 3 9 0) ++ keptSaid (idleStepOf 7 3 9 5)) (7 ∷ 4 ∷ 1 ∷ 10 ∷ 0 ∷ 1 ∷ [])
     ∷ shows (keptSaid (idleStepOf 4294967295 1 1 1) ++ keptSaid (idleStepOf 5 4294967295 1 0)) (4294967295 ∷ 0 ∷ 1 ∷ 5 ∷ 4294967295 ∷ 1 ∷ [])
+    -- A's one model, from "v 1 2 3 4 0" with its line's end, without the 0, without the end; from two lines with others before, between
+    -- and after them, the last an empty v line
+    ∷ shows (solverA (vOneTwo ++ threeFour ++ thenZero ++ 10 ∷ [])) (0 ∷ 1 ∷ 1 ∷ 1 ∷ 1 ∷ 2 ∷ 4 ∷ [])
+    ∷ shows (solverA (vOneTwo ++ threeFour ++ 10 ∷ [])) (0 ∷ 1 ∷ 1 ∷ 1 ∷ 1 ∷ 2 ∷ 4 ∷ [])
+    ∷ shows (solverA (vOneTwo ++ threeFour)) (0 ∷ 1 ∷ 1 ∷ 1 ∷ 1 ∷ 2 ∷ 4 ∷ [])
+    ∷ shows
+    (solverA (99 ∷ 13 ∷ 10 ∷ 115 ∷ 10 ∷ (vOneTwo ++ 32 ∷ 10 ∷ 111 ∷ 120 ∷ 10 ∷ 118 ∷ 32 ∷ (threeFour ++ thenZero ++ 10 ∷ 118 ∷ [])))) (0 ∷ 1 ∷ 1 ∷ 1 ∷ 1 ∷ 2 ∷ 4 ∷ [])
+    -- the text of a model, and what is read of it
+    ∷ shows (modelText (1 ∷ 0 ∷ [])) (118 ∷ 32 ∷ 49 ∷ 32 ∷ 45 ∷ 50 ∷ 32 ∷ 48 ∷ 10 ∷ [])
+    ∷ shows (solverA (modelText (1 ∷ 1 ∷ 1 ∷ 1 ∷ []))) (0 ∷ 1 ∷ 1 ∷ 1 ∷ 1 ∷ 2 ∷ 4 ∷ [])
+    ∷ shows (solverA (modelText (1 ∷ 1 ∷ 1 ∷ 0 ∷ []))) (13 ∷ 6 ∷ [])
+    -- 9 for the store alone, then 10, whatever the text; a longer store is no fault
+    ∷ shows (lentA 3 3 (120 ∷ [])) (9 ∷ 0 ∷ [])
+    ∷ shows (lentA 3 4 (120 ∷ [])) (10 ∷ 4 ∷ [])
+    ∷ shows (lentA 5 9 (120 ∷ [])) (10 ∷ 4 ∷ [])
+    ∷ shows (lentA 4 9 (120 ∷ [])) (20 ∷ 0 ∷ [])
+    -- no line at all, an empty line first and last; a line that begins with a space
+    ∷ shows (solverA []) (21 ∷ 1 ∷ [])
+    ∷ shows (solverA (10 ∷ [])) (20 ∷ 0 ∷ [])
+    ∷ shows (solverA (vOneTwo ++ threeFour ++ 10 ∷ 10 ∷ [])) (20 ∷ 10 ∷ [])
+    ∷ shows (solverA (32 ∷ vOneTwo)) (20 ∷ 0 ∷ [])
+    -- v alone, "v1", v and a tab
+    ∷ shows (solverA (118 ∷ [])) (21 ∷ 1 ∷ [])
+    ∷ shows (solverA (118 ∷ 49 ∷ [])) (20 ∷ 1 ∷ [])
+    ∷ shows (solverA (118 ∷ 9 ∷ 49 ∷ [])) (20 ∷ 1 ∷ [])
+    -- one closing 0 for all v lines
+    ∷ shows (solverA (vOneTwo ++ thenZero ++ 10 ∷ 118 ∷ threeFour)) (20 ∷ 10 ∷ [])
+    ∷ shows (solverA (vOneTwo ++ threeFour ++ thenZero ++ thenZero)) (20 ∷ 12 ∷ [])
+    -- "2x", "01", "-0", "+", "-", "1" before a byte 13, "5" of four: at the literal's first byte
+    ∷ shows (solverA (vOneTwo ++ 120 ∷ [])) (20 ∷ 4 ∷ [])
+    ∷ shows (solverA (118 ∷ 32 ∷ 48 ∷ 49 ∷ [])) (20 ∷ 2 ∷ [])
+    ∷ shows (solverA (118 ∷ 32 ∷ 45 ∷ 48 ∷ [])) (20 ∷ 2 ∷ [])
+    ∷ shows (solverA (118 ∷ 32 ∷ 43 ∷ [])) (20 ∷ 2 ∷ [])
+    ∷ shows (solverA (118 ∷ 32 ∷ 45 ∷ [])) (20 ∷ 2 ∷ [])
+    ∷ shows (solverA (118 ∷ 32 ∷ 49 ∷ 13 ∷ 10 ∷ [])) (20 ∷ 2 ∷ [])
+    ∷ shows (solverA (118 ∷ 32 ∷ 53 ∷ [])) (20 ∷ 2 ∷ [])
+    -- given twice, alike or not, and missing: the lowest variable, after all of 20
+    ∷ shows (solverA (vOneTwo ++ threeFour ++ 32 ∷ 49 ∷ [])) (21 ∷ 1 ∷ [])
+    ∷ shows (solverA (vOneTwo ++ threeFour ++ 32 ∷ 45 ∷ 50 ∷ [])) (21 ∷ 2 ∷ [])
+    ∷ shows (solverA (118 ∷ 32 ∷ 49 ∷ (threeFour ++ threeFour))) (21 ∷ 2 ∷ [])
+    ∷ shows (solverA (vOneTwo ++ threeFour ++ 32 ∷ 49 ∷ 32 ∷ 53 ∷ [])) (20 ∷ 12 ∷ [])
+    -- 13 is that of decoding
+    ∷ shows (solverA (118 ∷ 32 ∷ 45 ∷ 49 ∷ 32 ∷ 50 ∷ threeFour)) (13 ∷ 1 ∷ [])
     ∷ []
 
 -- the definitions compute what the paper says
 pub examples : map (λ c. c .computed) cases ≡ map (λ c. c .expected) cases
-unfolding repeat group front within number limited reference references listed from member usersFrom outside gapsAfter gaps reached reachesNodes reachesMembers fromOutside goingOn span timeByTime ofLength ofLengthOutside orMore orChain down begun tooSoon lasting tooLate eitherWay gapOutside takenAmong gapWithin entriesNodes entriesMembers countedOf longest eventAt fieldsRead fieldsTable ended constraintAt sizesAt groupsAt constraintsAt parse bit lit clause clauses hasTrue withoutFalse tidy pairs gateClauses hardClauses softUnits falsified trues any all deviation charged valuesAfter count deviations truth eventRight firstWrong infeasibilityOf objectiveOf firstAbove row counter lastRow lowUnits highUnits shortUnits boundItems countInto ruleItems rulesItems starts uses durationRules constraintRules formula variables hardOf softOf tail bounded boundedVariables boundedHard words digits literalText line sumWeights top headerLine text numbers stepAt literalsOk wellFormed hintsShow deleted perform run start plainRun readOf scoreOf sameBytes sameSheetOf sizesOf textSizeOf textOf programPrints lowestFalse decodeOf formulaFits checkOf checkHardOf bestOf fileA fileHardA fileFree proofA listingA numberSaid stepsSaid scoreSaid decodeSaid bestSaid sizeSaid ample checkA roomA bestA busyTimes startAt1 counter3 holds3 timesFile spelt listFile six idleSix before subevents heldFrom timesHeld lengthsFrom idleTimes keptAfter drawn keptSaid lengthFile preferredFile chainListing bothListing membersOf doubles softNine readNine readTen nodeListing nineListing tenListing threeStarts gapFile readEleven gapScore spaced gapListing cases flatMap
+unfolding repeat group front within number limited reference references listed from member usersFrom outside gapsAfter gaps reached reachesNodes reachesMembers fromOutside goingOn span timeByTime ofLength ofLengthOutside orMore orChain down begun tooSoon lasting tooLate eitherWay gapOutside takenAmong gapWithin entriesNodes entriesMembers countedOf longest eventAt fieldsRead fieldsTable ended constraintAt sizesAt groupsAt constraintsAt parse bit lit clause clauses hasTrue withoutFalse tidy pairs gateClauses hardClauses softUnits falsified trues any all deviation charged valuesAfter count deviations truth eventRight firstWrong infeasibilityOf objectiveOf firstAbove row counter lastRow lowUnits highUnits shortUnits boundItems countInto ruleItems rulesItems starts uses durationRules constraintRules formula variables hardOf softOf tail bounded boundedVariables boundedHard words digits literalText line sumWeights top headerLine text numbers stepAt literalsOk wellFormed hintsShow deleted perform run start plainRun readOf scoreOf sameBytes sameSheetOf sizesOf textSizeOf textOf programPrints lowestFalse decodeOf until linesAfter wordsAfter tokens numeral wordOf gathered timesGiven notOnce modelIn literalsFrom modelText solverTextOf formulaFits checkOf checkHardOf bestOf fileA fileHardA fileFree proofA listingA numberSaid stepsSaid scoreSaid decodeSaid solverSaid bestSaid sizeSaid ample checkA roomA bestA lentA solverA vOneTwo threeFour thenZero busyTimes startAt1 counter3 holds3 timesFile spelt listFile six idleSix before subevents heldFrom timesHeld lengthsFrom idleTimes keptAfter drawn keptSaid lengthFile preferredFile chainListing bothListing membersOf doubles softNine readNine readTen nodeListing nineListing tenListing threeStarts gapFile readEleven gapScore spaced gapListing cases flatMap
 examples = refl

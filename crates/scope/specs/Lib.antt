@@ -9,6 +9,7 @@ pub mod Idle
 pub mod Gap
 pub mod Formula
 pub mod Text
+pub mod SolverText
 pub mod Steps
 pub mod PlainRun
 pub mod Operations

@@ -11,6 +11,7 @@ use Rattle.scope.specs.Cnf.{Assignment, bit, clause, falsified}
 use Rattle.scope.specs.Score.{slots, ofBytes, ofTimetable, unlessFound, infeasibility, objective}
 use Rattle.scope.specs.Formula.{primary, variables, hardOf, softOf, boundedVariables, boundedHard, words, mostBound, mostVariables}
 use Rattle.scope.specs.Text.{text, decimal, space, newline}
+use Rattle.scope.specs.SolverText.{modelIn}
 use Rattle.scope.specs.PlainRun.{Limits, plainRun}
 use Rattle.scope.specs.declared.Infeasibility.{Infeasibility}
 use Rattle.scope.specs.declared.Objective.{Objective}
@@ -95,6 +96,18 @@ decodeOf file m =
     (λ i.
     ofSize i
     (ofBytes (variables i) m (unlessFound 13 (lowestFalse (bit m) 1 (hardOf i)) (answered (part i m, falsifiedSoft i m)))))
+
+-- Reading what a solver printed, for a lent model of so many bytes, with a store of so many: 1 to 6, 8 and 19, "9 is for that store
+-- alone, and 10 for a lent model of any wrong length", 20, 21, 13. "The engine fills a lent model .. and decodes it": the model, and
+-- what decoding gives of it
+unfoldable pub solverTextOf : (file output : List ℕ) (model store : ℕ) → Answer (List ℕ × (List ℕ × Objective))
+solverTextOf file output model store =
+    with (parse file)
+    (λ i.
+    ofSize i
+    (provided (leb (variables i) store) 9 0
+    (provided (eqb model (variables i)) 10 (variables i)
+    (then (modelIn (variables i) output) (λ m. then (decodeOf file m) (λ d. answered (m, d)))))))
 
 -- what a proof check is lent: words, directory rows, and bytes for the variables
 pub record Lent : Type 0 where

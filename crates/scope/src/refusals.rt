@@ -40,3 +40,7 @@ pub const CLAUSE_TOO_LONG: u8 = 17;
 pub const BAD_END: u8 = 18;
 // "if both events are one", of kind 11 (order 4); at a constraint's end, before 5
 pub const SAME_EVENT: u8 = 19;
+// "line of another kind, literal out of range or malformed, or number after the 0", in a solver's text (order 5)
+pub const BAD_SOLVER_TEXT: u8 = 20;
+// a variable "that is missing or given twice", in a solver's text
+pub const NOT_GIVEN_ONCE: u8 = 21;

@@ -12,13 +12,13 @@ use std::panic::{catch_unwind, AssertUnwindSafe};
 use std::thread;
 use std::time::{Duration, Instant};
 use support::both::{
-    best, check, check_hard, decode, read, same_sheet, score, sizes, text, text_size,
+    best, check, check_hard, decode, read, same_sheet, score, sizes, solver_text, text, text_size,
 };
 use support::{long_list, oversized, same_event};
 use testing::forgeries::forgeries;
 use testing::generate::{
-    damaged_bytes, damaged_instance, damaged_numbers, damaged_table, encode, instance, lent, model,
-    proof, school_of_every_kind, timetable, Random, Shape,
+    damaged_bytes, damaged_instance, damaged_numbers, damaged_table, damaged_text, encode,
+    instance, lent, model, printed, proof, school_of_every_kind, timetable, wrapped, Random, Shape,
 };
 use testing::prover::{clause_list, solve, Verdict};
 use testing::reference::{self, Instance, Refusal, Sizes};
@@ -109,6 +109,31 @@ fn models_are_decoded_alike() {
         number_of(answer)
     });
     assert_eq!(seen, [0, 1, 2, 3, 4, 5, 6, 8, 10, 11, 13, 19]);
+}
+
+#[test]
+fn texts_of_solvers_are_read_alike() {
+    let seen = each_seed(FORMULAS / 2, |random| {
+        let (file, instance) = any_formula(random);
+        let mut model = model(&instance, &timetable(random, &instance));
+        let variables = model.len();
+        if random.below(4) == 0 {
+            model[random.below(variables)] ^= 1;
+        }
+        let text = any_solver_text(random, &model);
+        // A longer store is no fault.
+        let store = variables + random.pick(&[0, 0, 1, 99]);
+        let fits = solver_text(&file, &text, variables, store);
+        if file == encode(&instance) {
+            assert_eq!(engine::solver_text(&file, &text), fits);
+        }
+        if random.below(4) > 0 {
+            return number_of(fits);
+        }
+        let [model, store] = [(); 2].map(|()| lent(random, variables as u64) as usize);
+        number_of(solver_text(&file, &text, model, store))
+    });
+    assert_eq!(seen, [0, 1, 2, 3, 4, 5, 6, 8, 9, 10, 13, 19, 20, 21]);
 }
 
 #[test]
@@ -322,6 +347,7 @@ fn calls_fit_the_stack_that_the_header_names() {
         assert!(engine::text(file).is_ok());
         let model = include_bytes!("../../schools/small.model");
         assert!(engine::decode(file, model).is_ok());
+        assert!(engine::solver_text(file, &wrapped(model, 78)).is_ok());
         let proof = include_bytes!("../../schools/small.proof");
         assert!(engine::check(file, 7, proof).is_ok());
         assert!(engine::check_hard(file, proof).is_err());
@@ -433,6 +459,30 @@ fn any_formula(random: &mut Random) -> (Vec<u8>, Instance) {
         _ => any_file_of(random, &instance),
     };
     (file, instance)
+}
+
+/// A model printed in any form, damaged in one way or another, or words in any order.
+fn any_solver_text(random: &mut Random, model: &[u8]) -> Vec<u8> {
+    const WORDS: [&[u8]; 14] = [
+        b"v", b"c", b"o", b"s", b" ", b" ", b"\n", b"\n", b"0", b"-", b"1", b"2", b"x", b"\r",
+    ];
+    match random.below(8) {
+        0 => {
+            let text = printed(random, model).text();
+            damaged_bytes(random, &text)
+        }
+        1 => {
+            let text = wrapped(model, 2 + random.below(90));
+            damaged_bytes(random, &text)
+        }
+        // Longer ones are damaged byte by byte alone.
+        2..=4 if model.len() < 10_000 => damaged_text(random, model).text,
+        5 => {
+            let words = (0..random.below(30)).map(|_| random.pick(&WORDS));
+            words.collect::<Vec<_>>().concat()
+        }
+        _ => printed(random, model).text(),
+    }
 }
 
 /// The file of an instance; of ten files one is damaged.

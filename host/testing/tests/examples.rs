@@ -2,11 +2,11 @@
 
 mod support;
 
-use support::both::{check, decode, idle_step, read, score, sizes, text_program};
+use support::both::{check, decode, idle_step, read, score, sizes, solver_text, text_program};
 use support::{clauses, first_times, hex, numbers, refused, FILE_A, PROOF_A};
 use testing::generate::model;
 use testing::reference::{
-    deviation, read_number, Infeasibility, Instance, Kept, Objective, Range, Score,
+    deviation, print_model, read_number, Infeasibility, Instance, Kept, Objective, Range, Score,
 };
 
 fn scored<E>(infeasibility: u64, objective: u64) -> Result<Score, E> {
@@ -37,6 +37,62 @@ fn proofs_of_file_a() {
     assert_eq!(run(4, PROOF_A), refused(14, 1));
     assert_eq!(run(4, "61 13 00 05 04 02 06 0E 10 00"), refused(16, 1));
     assert_eq!(run(3, ""), refused(18, 0));
+}
+
+/// What solvers print, read for file A.
+#[test]
+fn solver_texts_of_file_a() {
+    let read_a = |text: &str| solver_text(&hex(FILE_A), text.as_bytes(), 4, 4);
+    for text in [
+        "v 1 2 3 4 0\n",
+        "v 1 2 3 4\n",
+        "v 1 2 3 4",
+        "c\r\ns\nv 1 2 \nox\nv  3 4 0\nv",
+    ] {
+        let filled = Ok((hex("01 01 01 01"), 2, Objective(4)));
+        assert_eq!(read_a(text), filled, "{text:?}");
+    }
+    for (text, number, value) in [
+        ("", 21, 1),
+        ("v", 21, 1),
+        ("\n", 20, 0),
+        (" v 1 2", 20, 0),
+        ("v 1 2 3 4\n\n", 20, 10),
+        ("v1", 20, 1),
+        ("v\t1", 20, 1),
+        ("v 1 2 0\nv 3 4", 20, 10),
+        ("v 1 2 3 4 0 0", 20, 12),
+        ("v 1 2x", 20, 4),
+        ("v 01", 20, 2),
+        ("v -0", 20, 2),
+        ("v +", 20, 2),
+        ("v -", 20, 2),
+        ("v 1\r\n", 20, 2),
+        ("v 5", 20, 2),
+        ("v 1 2 3 4 1", 21, 1),
+        ("v 1 2 3 4 -2", 21, 2),
+        ("v 1 3 4 3 4", 21, 2),
+        ("v 1 2 3 4 1 5", 20, 12),
+        ("v -1 2 3 4", 13, 1),
+        ("v 1 2 3 -4 0\n", 13, 6),
+    ] {
+        assert_eq!(read_a(text), refused(number, value), "{text:?}");
+    }
+}
+
+/// A text of another line, in lent models and stores of these lengths.
+#[test]
+fn lengths_for_a_solver_text_of_file_a() {
+    let read_x = |model, store| solver_text(&hex(FILE_A), b"x", model, store);
+    assert_eq!(read_x(3, 3), refused(9, 0));
+    assert_eq!(read_x(3, 4), refused(10, 4));
+    assert_eq!(read_x(5, 9), refused(10, 4));
+    assert_eq!(read_x(4, 9), refused(20, 0));
+}
+
+#[test]
+fn text_of_a_model() {
+    assert_eq!(print_model(&[1, 0]), b"v 1 -2 0\n");
 }
 
 #[test]

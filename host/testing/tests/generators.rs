@@ -4,10 +4,13 @@
 mod support;
 
 use std::collections::BTreeMap;
-use support::both::{check, decode, read, same_sheet, score, sizes, text, text_program, text_size};
+use support::both::{
+    check, decode, read, same_sheet, score, sizes, solver_text, text, text_program, text_size,
+};
 use testing::generate::{
-    damaged_instance, damaged_numbers, damaged_table, encode, instance, lent, model, number_starts,
-    proof, timetable, Random, Shape,
+    damaged_instance, damaged_numbers, damaged_table, damaged_text, damaged_texts, encode,
+    instance, lent, model, number_starts, printed, proof, timetable, wrapped, Line, Printed,
+    Random, Shape,
 };
 use testing::reference::{
     Constraint, Infeasibility, Instance, Kind, Range, Refusal, Sheet, LARGEST_GAP,
@@ -53,6 +56,7 @@ fn equal_seeds_give_equal_inputs() {
             (
                 encode(&instance),
                 damaged_table(&mut random, &table),
+                printed(&mut random, &table).text(),
                 table,
                 proof(&mut random, 10, 20),
             )
@@ -421,6 +425,7 @@ fn damaged_files_reach_refusals_1_to_6_and_19() {
                 assert_eq!(score(&file, &[]), Err(refusal));
                 assert_eq!(sizes(&file, Some(9_999)), Err(refusal));
                 assert_eq!(decode(&file, &[]), Err(refusal));
+                assert_eq!(solver_text(&file, b"x", 0, 0), Err(refusal));
                 assert_eq!(check(&file, 9_999, &[], 0, 0, 0), Err(refusal));
                 assert_eq!(text(&file, &mut []), Err(refusal));
                 let printed = format!("{} {}\n", refusal.number, refusal.value);
@@ -472,6 +477,163 @@ fn damaged_models_reach_refusals_10_11_and_13() {
     }
     println!("seeds 0..500: {seen:?}");
     assert_eq!(seen.numbers(), [0, 10, 11, 13]);
+}
+
+/// An instance of which many models are accepted, and a model.
+fn instance_with_model(random: &mut Random, seed: u64) -> (Instance, Vec<u8>) {
+    let soft = random.pick(&[60, 100]);
+    let instance = instance(
+        random,
+        &Shape {
+            soft,
+            ..shape(seed)
+        },
+    );
+    let model = model(&instance, &timetable(random, &instance));
+    (instance, model)
+}
+
+/// How a text is printed: a name for each thing that can be seen in it.
+fn forms(printed: &Printed) -> Vec<&'static str> {
+    let of_values = |line: &&Line| matches!(line, Line::Values { .. });
+    let values: Vec<&Line> = printed.lines.iter().filter(of_values).collect();
+    let zero = |line: &&Line| line.words().iter().any(|word| word.bytes == b"0");
+    let closing = values.iter().position(zero);
+    let filled = values.iter().filter(|line| !line.words().is_empty());
+    let late = closing.is_some_and(|line| line + 1 < values.len());
+    let mut forms = vec![
+        match closing {
+            None => "without a 0",
+            Some(line) if values[line].words().len() == 1 => "the 0 in a line of its own",
+            Some(_) => "the 0 behind a literal",
+        },
+        match filled.count() {
+            1 => "one line",
+            _ => "several lines",
+        },
+        match printed.ended {
+            true => "the last line ended",
+            false => "the last line not ended",
+        },
+    ];
+    forms.extend(late.then_some("a v alone after the 0"));
+    forms.extend(forms_of_lines(printed));
+    forms
+}
+
+/// What can be seen in its lines, one by one, and in its first literal.
+fn forms_of_lines(printed: &Printed) -> Vec<&'static str> {
+    let first = printed.words().next().expect("a literal");
+    let mut forms = Vec::new();
+    forms.extend((first != b"1" && first != b"-1").then_some("another order"));
+    for line in &printed.lines {
+        let Line::Values { words, after } = line else {
+            forms.push("other lines");
+            continue;
+        };
+        forms.extend(words.is_empty().then_some("a v alone"));
+        forms.extend((*after > 0).then_some("spaces at a line's end"));
+        let several = words.iter().any(|word| word.before > 1);
+        forms.extend(several.then_some("several spaces"));
+    }
+    forms
+}
+
+/// A model reads back from each of its texts; every sort of text is drawn.
+#[test]
+fn texts_of_every_form_are_drawn() {
+    let mut seen: BTreeMap<&str, usize> = BTreeMap::new();
+    for seed in 0..400 {
+        let mut random = Random::new(seed);
+        let (instance, model) = instance_with_model(&mut random, seed);
+        let file = encode(&instance);
+        let decoded = decode(&file, &model).map(|(part, cost)| (model.clone(), part.len(), cost));
+        for _ in 0..3 {
+            let printed = printed(&mut random, &model);
+            let text = printed.text();
+            let answer = solver_text(&file, &text, model.len(), model.len());
+            assert_eq!(answer, decoded, "seed {seed}");
+            for form in forms(&printed) {
+                *seen.entry(form).or_default() += 1;
+            }
+        }
+        let width = 2 + random.below(90);
+        let text = wrapped(&model, width);
+        let longest = text.split(|&byte| byte == b'\n').map(<[u8]>::len).max();
+        // A line of one literal may be longer.
+        assert!(longest <= Some(width.max(10)), "seed {seed}");
+        let answer = solver_text(&file, &text, model.len(), model.len());
+        assert_eq!(answer, decoded, "seed {seed}");
+    }
+    println!("seeds 0..400: {seen:?}");
+    assert_eq!(seen.len(), 13);
+    assert!(seen.values().all(|&count| count >= 20));
+}
+
+/// Each damaged text earns the refusal that is said of it, in each of these ways.
+#[test]
+fn damaged_texts_reach_refusals_20_and_21() {
+    let mut seen: BTreeMap<(u32, &str), usize> = BTreeMap::new();
+    for seed in 0..300 {
+        let mut random = Random::new(seed);
+        let (instance, model) = instance_with_model(&mut random, seed);
+        let file = encode(&instance);
+        for damaged in damaged_texts(&mut random, &model) {
+            let answer = solver_text(&file, &damaged.text, model.len(), model.len());
+            let shown = damaged.text.escape_ascii();
+            assert_eq!(
+                answer,
+                Err(damaged.refusal),
+                "seed {seed}, {}: {shown}",
+                damaged.name
+            );
+            *seen
+                .entry((damaged.refusal.number, damaged.name))
+                .or_default() += 1;
+        }
+    }
+    println!("seeds 0..300: {seen:?}");
+    let of = |number| seen.keys().filter(|(one, _)| *one == number).count();
+    assert_eq!((of(20), of(21)), (20, 7));
+    assert!(seen.values().all(|&count| count >= 20));
+}
+
+/// Lengths of a lent model and a store that fit or not, and models with a byte
+/// changed, beside texts that are damaged or not.
+#[test]
+fn texts_of_solvers_reach_refusals_9_10_13_20_and_21() {
+    let mut seen = Seen::default();
+    for seed in 0..300 {
+        let mut random = Random::new(seed);
+        let (instance, model) = instance_with_model(&mut random, seed);
+        let file = encode(&instance);
+        let variables = model.len();
+        let mut changed = model.clone();
+        changed[random.below(variables)] ^= 1;
+        let mut texts = Vec::new();
+        for model in [model, changed] {
+            texts.push(printed(&mut random, &model).text());
+            texts.push(damaged_text(&mut random, &model).text);
+        }
+        for text in &texts {
+            let fits = solver_text(&file, text, variables, variables);
+            seen.count(&fits);
+            assert_eq!(solver_text(&file, text, variables, variables + 7), fits);
+            for _ in 0..2 {
+                let [lent_model, store] =
+                    [(); 2].map(|()| lent(&mut random, variables as u64) as usize);
+                let answer = solver_text(&file, text, lent_model, store);
+                seen.count(&answer);
+                let number = answer.err().map_or(0, |refusal| refusal.number);
+                assert_eq!(number == 9, store < variables);
+                assert_eq!(number == 10, store >= variables && lent_model != variables);
+            }
+        }
+    }
+    println!("seeds 0..300: {seen:?}");
+    for number in [0, 9, 10, 13, 20, 21] {
+        assert!(seen.times(number) >= 20, "refusal {number}");
+    }
 }
 
 #[test]

@@ -3,10 +3,10 @@
 
 mod support;
 
-use support::both::{check, decode, read, score, sizes};
+use support::both::{check, decode, read, score, sizes, solver_text};
 use testing::generate::{
     encode, idle_limits, long_lengths, long_tail, many_ors, many_variables, model, planned_school,
-    Plan, Random,
+    scattered, wrapped, Plan, Random,
 };
 use testing::prover::{clause_list, lemmas};
 use testing::reference::{Infeasibility, Instance, Refusal};
@@ -80,6 +80,31 @@ fn many_variables_are_exactly_as_many() {
     let (instance, _) = many_variables(&mut Random::new(1), 8_000_000);
     let sizes = sizes(&encode(&instance), Some(0)).expect("as many as may be");
     assert_eq!(sizes.variables, 8_000_000);
+}
+
+/// Texts of a model of many variables, in lines as solvers print them and a line for
+/// each literal in any order, and without the last literal.
+#[test]
+fn texts_of_many_variables_are_read() {
+    let variables = 150_001;
+    let (instance, table) = many_variables(&mut Random::new(1), variables as u64);
+    let file = encode(&instance);
+    let model = model(&instance, &table);
+    let (_, cost) = decode(&file, &model).expect("a model");
+    let read = |text: &[u8]| solver_text(&file, text, variables, variables);
+    let filled = Ok((model.clone(), table.len(), cost));
+    let lines = wrapped(&model, 78);
+    assert!(lines
+        .split(|&byte| byte == b'\n')
+        .all(|line| line.len() <= 78));
+    assert_eq!(read(&lines), filled);
+    let scattered = scattered(&mut Random::new(1), &model, 2);
+    let count = scattered.iter().filter(|&&byte| byte == b'\n').count();
+    assert_eq!(count, variables + 1);
+    assert_eq!(read(&scattered), filled);
+    let missing = wrapped(&model[..variables - 1], 78);
+    let value = variables as u64;
+    assert_eq!(read(&missing), Err(Refusal { number: 21, value }));
 }
 
 #[test]

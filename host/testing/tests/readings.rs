@@ -2,18 +2,20 @@
 //! what it decides, and says which decision of docs/DECISIONS.md that is.
 //!
 //! What the lent stores hold before and after a call (decisions 51 and 52) is
-//! compared with every check: `support::both` lends stores that are not zero.
+//! compared with every check and every solver's text: `support::both` lends stores
+//! that are not zero.
 
 mod support;
 
 use support::both::{
-    check, check_hard, decode, idle_step, read, same_sheet, score, sizes, text, text_program,
-    text_size,
+    check, check_hard, decode, idle_step, read, same_sheet, score, sizes, solver_text, text,
+    text_program, text_size,
 };
 use support::{clauses, first_times, hex, numbers, oversized, refused, FILE_A, PROOF_A};
+use testing::generate::model;
 use testing::prover::{clause_list, solve, Verdict};
 use testing::reference::{
-    Infeasibility, Instance, Kept, Objective, Refusal, Score, Sizes, Summary,
+    print_model, Infeasibility, Instance, Kept, Objective, Refusal, Score, Sizes, Summary,
 };
 use testing::steps::encode_steps;
 
@@ -610,6 +612,142 @@ mod precedence {
         assert_eq!(gates(4, 0, 0), 2 * 3 + 2 * 2);
         assert_eq!(gates(125, 0, 0), 2 * 124 + 2 * 123);
         assert_eq!(gates(125, 0, 124), 2 * 124);
+    }
+}
+
+mod solver_texts {
+    use super::*;
+
+    type Answer = Result<(Vec<u8>, usize, Objective), Refusal>;
+
+    /// File A in a lent model and a store of just its four variables.
+    fn read_a(text: &str) -> Answer {
+        read_lent(text, [4, 4])
+    }
+
+    fn read_lent(text: &str, [model, store]: [usize; 2]) -> Answer {
+        solver_text(&hex(FILE_A), text.as_bytes(), model, store)
+    }
+
+    /// The only model of file A, its timetable of two bytes, and its cost.
+    fn model_a() -> Answer {
+        Ok((vec![1; 4], 2, Objective(4)))
+    }
+
+    /// Decision 87: The reader, 8, 9 for the store alone, 10 for the lent model, 20 and 21,
+    /// 13. A longer store is no fault, a longer model is, and what it holds is not looked at.
+    #[test]
+    fn checks_come_in_this_order() {
+        assert_eq!(read_a("v 1 2 3 4 0\n"), model_a());
+        assert_eq!(read_lent("x", [3, 3]), refused(9, 0));
+        assert_eq!(read_lent("x", [3, 4]), refused(10, 4));
+        assert_eq!(read_lent("x", [5, 9]), refused(10, 4));
+        assert_eq!(read_lent("x", [4, 9]), refused(20, 0));
+        assert_eq!(read_lent("v 1 2 3 4", [4, 9]), model_a());
+        assert_eq!(read_lent("v 1 2 3 4", [0, 0]), refused(9, 0));
+        let wrong = hex("01 01 00 01 00 01 00 01 03 04 01 02");
+        assert_eq!(solver_text(&wrong, b"x", 0, 0), refused(3, 11));
+        assert_eq!(solver_text(&oversized(), b"x", 0, 0), refused(8, 0));
+    }
+
+    /// Decision 88: The text's end begins no line; an empty line is a line of another kind.
+    #[test]
+    fn the_end_of_a_text_begins_no_line() {
+        assert_eq!(read_a(""), refused(21, 1));
+        assert_eq!(read_a("\n"), refused(20, 0));
+        assert_eq!(read_a("v 1 2 3 4\n"), model_a());
+        assert_eq!(read_a("v 1 2 3 4\n\n"), refused(20, 10));
+        assert_eq!(read_a("v 1 2 3 4"), model_a());
+    }
+
+    /// Decision 89: Lines of c, s and o go by their first byte alone.
+    #[test]
+    fn the_rest_of_other_lines_is_ignored() {
+        assert_eq!(read_a("cx\nsat\no\nv 1 2 3 4"), model_a());
+        assert_eq!(read_a("V 1"), refused(20, 0));
+        assert_eq!(read_a(" v 1"), refused(20, 0));
+    }
+
+    /// Decision 90: After v comes nothing or a space; anything else is 20 one byte on.
+    #[test]
+    fn a_space_follows_v() {
+        assert_eq!(read_a("v"), refused(21, 1));
+        assert_eq!(read_a("v  "), refused(21, 1));
+        assert_eq!(read_a("v1 2 3 4"), refused(20, 1));
+        assert_eq!(read_a("v\t1"), refused(20, 1));
+        assert_eq!(read_a("c\nv-1"), refused(20, 3));
+    }
+
+    /// Decision 91: One closing 0 for all lines of values: after it no word may come
+    /// there, but empty ones and other lines may.
+    #[test]
+    fn one_0_closes_all_lines_of_values() {
+        assert_eq!(read_a("v 1 2 3 0\nv 4 0"), refused(20, 12));
+        assert_eq!(read_a("v 1 2 3 4 0 0"), refused(20, 12));
+        assert_eq!(read_a("v 1 2 3 4 0\nv\nc\n"), model_a());
+        assert_eq!(read_a("v 1 2 3 4\nv 0\n"), model_a());
+        assert_eq!(read_a("v 0"), refused(21, 1));
+        assert_eq!(read_a("v 0 5"), refused(20, 4));
+    }
+
+    /// Decision 92: A malformed literal gives the offset of its first byte, whichever byte
+    /// is bad. A tab and byte 13 belong to it.
+    #[test]
+    fn a_malformed_literal_is_20_at_its_first_byte() {
+        assert_eq!(read_a("v 1 2x"), refused(20, 4));
+        assert_eq!(read_a("v 01"), refused(20, 2));
+        assert_eq!(read_a("v -0"), refused(20, 2));
+        assert_eq!(read_a("v +"), refused(20, 2));
+        assert_eq!(read_a("v -"), refused(20, 2));
+        assert_eq!(read_a("v +1"), refused(20, 2));
+        assert_eq!(read_a("v 1\r\n"), refused(20, 2));
+        assert_eq!(read_a("c\r\nv 1 2 3 4"), model_a());
+        assert_eq!(read_a("v 1\t2"), refused(20, 2));
+    }
+
+    /// Decision 93: A literal's variable is one of the formula without the tail, however
+    /// many digits stand there.
+    #[test]
+    fn a_literal_out_of_range_is_20() {
+        assert_eq!(read_a("v 5"), refused(20, 2));
+        assert_eq!(read_a("v -5"), refused(20, 2));
+        assert_eq!(read_a("v -99999999999999999999"), refused(20, 2));
+        assert_eq!(read_a("v 4294967297"), refused(20, 2));
+        assert_eq!(read_a("v 18446744073709551617"), refused(20, 2));
+    }
+
+    /// Decision 94: A variable given twice does not stop the reading. Equal and opposite
+    /// literals are both twice, and three times is too. Missing and twice share one order.
+    #[test]
+    fn the_lowest_variable_not_given_once_is_21_after_the_last_line() {
+        assert_eq!(read_a("v 1 1 2 3 4"), refused(21, 1));
+        assert_eq!(read_a("v 1 -1 2 3 4"), refused(21, 1));
+        assert_eq!(read_a("v 1 3 3 4"), refused(21, 2));
+        assert_eq!(read_a("v 1 1 5"), refused(20, 6));
+        assert_eq!(read_a("v 2 2 2 1 3 4"), refused(21, 2));
+        assert_eq!(read_a("v 1 1 3 4"), refused(21, 1));
+        assert_eq!(read_a("v 1 1 2 3 4\nx"), refused(20, 12));
+    }
+
+    /// Decision 95: 13 is that of decoding, after 21. `support::both` looks at the lent
+    /// model, which is then untouched as on 20 and 21, and at the store, which is zero.
+    #[test]
+    fn a_false_clause_is_13_after_21() {
+        assert_eq!(read_a("v -1 2 3 4"), refused(13, 1));
+        assert_eq!(read_a("v 1 2 3 -4"), refused(13, 6));
+        assert_eq!(read_a("v -1 2 3 3 4"), refused(21, 3));
+    }
+
+    /// Decision 96: The text of a model is one line with a literal for each variable in
+    /// turn and the closing 0; it reads back as that model.
+    #[test]
+    fn the_text_of_a_model_reads_back() {
+        assert_eq!(print_model(&[1, 0]), b"v 1 -2 0\n");
+        let file = hex(FILE_A);
+        let instance = Instance::read(&file).unwrap();
+        let model = model(&instance, &[1, 1]);
+        let text = print_model(&model);
+        assert_eq!(solver_text(&file, &text, 4, 4), model_a());
     }
 }
 

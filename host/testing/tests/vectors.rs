@@ -2,13 +2,15 @@
 
 mod support;
 
-use support::both::{check, decode, read, same_sheet, score, sizes, text, text_program, text_size};
+use support::both::{
+    check, decode, read, same_sheet, score, sizes, solver_text, text, text_program, text_size,
+};
 use support::cases::{self, Case};
 use testing::reference::Refusal;
 
 #[test]
 fn every_case_has_the_expected_answer() {
-    assert_eq!(cases::compare(|case| Some(answer(case))), 1_894);
+    assert_eq!(cases::compare(|case| Some(answer(case))), 2_741);
 }
 
 #[test]
@@ -23,6 +25,8 @@ fn unparsable_lines_are_seen() {
         "read 01 02 = refused 1 1",
         "sizing 01 some = refused 1 1",
         "check 01 0 - 1 1 = refused 1 1",
+        "solver_text 01 - 4 = refused 1 1",
+        "solver_text 01 - 4 -4 = refused 1 1",
         "solve 01 = refused 1 1",
     ] {
         assert!(cases::parse(line).is_none(), "{line}");
@@ -56,6 +60,10 @@ fn answer(case: &Case) -> Result<String, Refusal> {
             let (part, cost) = decode(file, model)?;
             assert_eq!(part, &model[..part.len()]);
             Ok(cases::decoded(part, cost))
+        }
+        Case::SolverText(file, text, [model, store]) => {
+            let (model, part, cost) = solver_text(file, text, *model, *store)?;
+            Ok(cases::filled(&model, part, cost))
         }
         Case::Check(file, bound, proof, [words, rows, marks]) => {
             check(file, *bound, proof, *words, *rows, *marks).map(cases::refuted)

@@ -117,6 +117,62 @@ fn decode_prints_the_cost_and_writes_the_timetable() {
     assert_eq!(fs::read(&written).expect("the decoded timetable"), table);
 }
 
+/// A model as a solver prints it, with so many literals to a line.
+fn printed_model(model: &[u8], width: usize) -> String {
+    let literals = model.iter().zip(1..).map(|(&value, variable)| match value {
+        1 => format!(" {variable}"),
+        _ => format!(" -{variable}"),
+    });
+    let literals: Vec<String> = literals.collect();
+    let lines = literals
+        .chunks(width)
+        .map(|line| format!("v{}\n", line.concat()));
+    format!(
+        "c a solver\ns OPTIMUM FOUND\n{}v 0\n",
+        lines.collect::<String>()
+    )
+}
+
+#[test]
+fn model_writes_the_model_that_a_solver_printed() {
+    for name in ["toy", "small"] {
+        let [instance, model] = ["instance", "model"].map(|kind| school(&format!("{name}.{kind}")));
+        let model = fs::read(model).expect("a model");
+        for width in [1, 20, model.len()] {
+            let text = printed_model(&model, width);
+            let text = file(&format!("{name}-{width}.out"), text.as_bytes());
+            let found = run(&["model", &instance, &text, "--out", "model-read"]);
+            assert_eq!((found.printed.as_str(), found.said.as_str()), ("", ""));
+            assert_eq!(found.status, 0);
+            let read = fs::read(folder().join("model-read")).expect("the model");
+            assert_eq!(read, model, "{name} {width}");
+        }
+    }
+}
+
+#[test]
+fn model_refuses_a_text_that_gives_a_variable_twice_or_breaks_a_clause() {
+    let toy = school("toy.instance");
+    let model = fs::read(school("toy.model")).expect("a model");
+    let mut broken = model.clone();
+    broken[0] ^= 1;
+    let decoded = run(&["decode", &toy, &file("broken.model", &broken)]);
+    assert!(decoded.printed.starts_with("refused 13 "));
+    let found = run(&[
+        "model",
+        &toy,
+        &file("broken.out", printed_model(&broken, 9).as_bytes()),
+    ]);
+    assert_eq!((found.printed, found.status), (decoded.printed, 1));
+    let twice = printed_model(&model, 9).replace(" 10 ", " 10 10 ");
+    let twice = twice.replace(" -10 ", " -10 -10 ");
+    let found = run(&["model", &toy, &file("twice.out", twice.as_bytes())]);
+    assert_eq!(
+        (found.printed.as_str(), found.status),
+        ("refused 21 10\n", 1)
+    );
+}
+
 #[test]
 fn check_says_no_timetable_for_a_refutation() {
     for (name, bound, printed) in [

@@ -170,6 +170,7 @@ fn events_that_are_one_are_told_of_the_instance() {
         vec!["score", &one, &other],
         vec!["same", &one, &other, &other],
         vec!["decode", &one, &other],
+        vec!["model", &one, &other],
         vec!["check", &one, "3", &other],
         vec!["best", &one, &other, &other],
         vec!["explain", &one],
@@ -590,6 +591,167 @@ fn a_step_is_told_with_its_place() {
     assert!(found.said.starts_with("timetable check: bound 4096: "));
 }
 
+/// What `model` says of a text for file A, which has four variables: the line for
+/// scripts, and the reason.
+#[test]
+fn refused_texts_of_solvers_are_told_by_line_and_column() {
+    let a = file("a-of-texts", &hex(FILE_A));
+    for (place, (text, printed, reason)) in [
+        (
+            "v1 2 3 4\n",
+            "refused 20 1\n",
+            "line 1, column 2: after v comes '1', not a space",
+        ),
+        (
+            "c x\nv\t1\n",
+            "refused 20 5\n",
+            "line 2, column 2: after v comes '\\t', not a space",
+        ),
+        (
+            "$ solver\nv 1 2 3 0\n",
+            "refused 20 0\n",
+            "line 1, column 1: the line begins with '$', not with c, s, o or v",
+        ),
+        (
+            "s SATISFIABLE\n\nv 1 2 3 0\n",
+            "refused 20 14\n",
+            "line 2, column 1: the line is empty; each begins with c, s, o or v",
+        ),
+        (
+            "v 1\nv 2 3x 4\n",
+            "refused 20 8\n",
+            "line 2, column 5: '3x' is no literal: a minus or no sign, and a number without \
+             leading zeros",
+        ),
+        (
+            "v 1 2 3 4 -0\n",
+            "refused 20 10\n",
+            "line 1, column 11: '-0' is no literal: a minus or no sign, and a number without \
+             leading zeros",
+        ),
+        (
+            "v 1 2 3 4\r\n",
+            "refused 20 8\n",
+            "line 1, column 9: '4\\r' is no literal: a minus or no sign, and a number without \
+             leading zeros",
+        ),
+        (
+            "v 1 2 3 5 0\n",
+            "refused 20 8\n",
+            "line 1, column 9: '5' is out of range: the variables are 1 to 4",
+        ),
+        (
+            "v 1 2 3 -1234567890123456789012345 0\n",
+            "refused 20 8\n",
+            "line 1, column 9: '-12345678901234567890123..' is out of range: the variables are 1 \
+             to 4",
+        ),
+        (
+            "v 1 2 3 0\nv 4 0\n",
+            "refused 20 12\n",
+            "line 2, column 3: '4' comes after the closing 0 of line 1, column 9",
+        ),
+        (
+            "v 1 2 3 4 0 0\n",
+            "refused 20 12\n",
+            "line 1, column 13: '0' comes after the closing 0 of line 1, column 11",
+        ),
+        (
+            "v 1 4 3 0\n",
+            "refused 21 2\n",
+            "variable 2 is missing in the lines v",
+        ),
+        (
+            "c x\nv 1 2 3",
+            "refused 21 4\n",
+            "variable 4 is missing in the lines v, and so is a closing 0: is the text cut short?",
+        ),
+        (
+            "v 4 2 3 4\nv 1 -4\n",
+            "refused 21 4\n",
+            "variable 4 is given 3 times, the second time in line 1, column 9",
+        ),
+        (
+            "v 1 2 3 -4\n",
+            "refused 13 6\n",
+            "block 4, constraint 1, kind preferred-times: its counter, in row 1, column 1, has a \
+             wrong value",
+        ),
+    ]
+    .into_iter()
+    .enumerate()
+    {
+        let name = file(&format!("text-{place}"), text.as_bytes());
+        let found = run(&["model", &a, &name, "-o", "no-model"]);
+        assert_eq!(
+            (found.printed.as_str(), found.status),
+            (printed, 1),
+            "{text}"
+        );
+        let said = format!("timetable model: {name}: refusal ");
+        assert!(found.said.starts_with(&said), "{}", found.said);
+        assert_eq!(below(&found.said)[0], reason, "{text}");
+        assert!(!folder().join("no-model").exists(), "{text}");
+    }
+}
+
+/// Of several models the last is read, and its faults are told by their places in
+/// the whole text.
+#[test]
+fn the_last_of_several_models_is_told_by_its_place_in_the_text() {
+    let a = file("a-of-models", &hex(FILE_A));
+    for (place, (last, printed, reason)) in [
+        (
+            "v 1 2\nv 03 4 0\n",
+            "refused 20 28\n",
+            "line 5, column 3: '03' is no literal: a minus or no sign, and a number without \
+             leading zeros",
+        ),
+        (
+            "v 1 2\nv 3 2 4 0\n",
+            "refused 21 2\n",
+            "variable 2 is given 2 times, the second time in line 5, column 5",
+        ),
+        (
+            "v 1 2 4 0\n",
+            "refused 21 3\n",
+            "variable 3 is missing in the lines v",
+        ),
+        (
+            "v -1 2 3 4 0\n",
+            "refused 13 1\n",
+            "block 1, event 1: it starts at time 1 and does not take it",
+        ),
+    ]
+    .into_iter()
+    .enumerate()
+    {
+        let text = format!("c x\nv 1 2 3 4 0\no 4\n{last}s OPTIMUM FOUND\n");
+        let name = file(&format!("models-{place}"), text.as_bytes());
+        let found = run(&["model", &a, &name]);
+        assert_eq!(
+            (found.printed.as_str(), found.status),
+            (printed, 1),
+            "{text}"
+        );
+        assert_eq!(below(&found.said)[0], reason, "{text}");
+    }
+}
+
+#[test]
+fn a_place_in_a_text_is_told_with_its_bytes() {
+    let a = file("a-with-a-text", &hex(FILE_A));
+    let text = file("malformed-text", b"s OPTIMUM FOUND\nv 1 +2 3 4 0\n");
+    assert_eq!(
+        run(&["model", &a, &text]).said,
+        "timetable model: malformed-text: refusal 20 20: a solver's text has a line of another \
+         kind, a literal out of range or malformed, or a number after the 0; it is at offset 20\n  \
+         line 2, column 5: '+2' is no literal: a minus or no sign, and a number without leading \
+         zeros\n  \
+         bytes from offset 12: .. 55 4e 44 0a 76 20 31 20 [2b] 32 20 33 20 34 20 30 0a\n"
+    );
+}
+
 #[test]
 fn a_file_of_another_sort_is_recognised() {
     let a = file("a-of-bytes", &hex(FILE_A));
@@ -637,7 +799,7 @@ fn a_file_of_another_sort_is_recognised() {
 #[test]
 fn every_refusal_is_told_in_words_with_its_numbers() {
     let mut told = Vec::new();
-    for number in 1..=19 {
+    for number in 1..=21 {
         let value = 1_000 + u64::from(number);
         let message = refusals::in_words(Refusal { number, value }, &[], &[]);
         assert!(message.starts_with(&format!("refusal {number} {value}: ")));
@@ -652,12 +814,12 @@ fn every_refusal_is_told_in_words_with_its_numbers() {
         );
         assert_eq!(
             message.contains("[end]"),
-            [1, 2, 3, 4, 5, 6, 11, 19].contains(&number),
+            [1, 2, 3, 4, 5, 6, 11, 19, 20].contains(&number),
             "{message}"
         );
         told.push(refusals::words(number));
     }
     told.sort_unstable();
     told.dedup();
-    assert_eq!(told.len(), 19);
+    assert_eq!(told.len(), 21);
 }

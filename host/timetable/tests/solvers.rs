@@ -62,6 +62,62 @@ fn every_recorded_model_is_decoded() {
     }
 }
 
+/// clasp prints a model for each better cost; the engine reads the lines of the last.
+#[test]
+fn the_last_of_clasps_models_is_read_by_the_engine() {
+    let toy = school("toy.instance");
+    let output = fs::read_to_string(recorded("clasp.out")).expect("a recording");
+    let (earlier, last) = output.split_once("c Answer: 4\n").expect("four models");
+    let model = |name: &str, output: String| {
+        run(&[
+            "model",
+            &toy,
+            &file(name, output.as_bytes()),
+            "-o",
+            "of-clasp",
+        ])
+    };
+    // What stands before the last model does not matter.
+    let damaged = earlier.replace("v -1 ", "v 1 ");
+    assert_ne!(damaged, earlier);
+    let found = model("damaged-earlier", format!("{damaged}c Answer: 4\n{last}"));
+    assert_eq!((found.printed.as_str(), found.status), ("", 0));
+    let found = run(&["decode", &toy, "of-clasp"]);
+    assert_eq!(found.printed, "objective 3\nbytes 108\n");
+    for (name, before, after, printed) in [
+        (
+            "one-twice",
+            "-1289 0\n",
+            "-1289 -1289 0\n",
+            "refused 21 1289\n",
+        ),
+        ("one-missing", " -1289 0\n", " 0\n", "refused 21 1289\n"),
+        ("one-wrong", "-1289 0\n", "1289 0\n", "refused 13 "),
+    ] {
+        let damaged = last.replace(before, after);
+        let found = model(name, format!("{earlier}c Answer: 4\n{damaged}"));
+        assert!(
+            found.printed.starts_with(printed),
+            "{name}: {}",
+            found.printed
+        );
+        assert_eq!(found.status, 1, "{name}");
+    }
+}
+
+/// Variables of a tail are passed over where every variable of the model is named.
+#[test]
+fn the_variables_of_a_tail_are_passed_over() {
+    let a = file("a-with-a-tail", &hex(FILE_A));
+    let found = run_with(&["model", &a, "-"], b"s SATISFIABLE\nv 1 2 3 4 5\nv -6 0\n");
+    assert_eq!(found.printed.as_bytes(), [1, 1, 1, 1]);
+    let found = run_with(&["model", &a, "-"], b"s SATISFIABLE\nv 1 2 3 5\nv -6 0\n");
+    assert_eq!(
+        (found.printed.as_str(), found.status),
+        ("refused 20 22\n", 1)
+    );
+}
+
 #[test]
 fn an_output_without_a_model_is_told() {
     for name in [

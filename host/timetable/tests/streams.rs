@@ -22,6 +22,20 @@ fn a_file_can_come_from_standard_input() {
 }
 
 #[test]
+fn what_a_solver_prints_can_be_piped() {
+    let a = file("piped-to", &hex(FILE_A));
+    let found = run_with(&["model", &a, "-"], b"c x\no 4\nv 1 2 3 4 0\n");
+    assert_eq!(found.printed.as_bytes(), [1, 1, 1, 1]);
+    assert_eq!((found.said.as_str(), found.status), ("", 0));
+    let found = run_with(&["model", &a, "-"], b"v 1 2 3 5 0\n");
+    assert_eq!(
+        (found.printed.as_str(), found.status),
+        ("refused 20 8\n", 1)
+    );
+    assert!(found.said.starts_with("timetable model: standard input: "));
+}
+
+#[test]
 fn a_file_that_cannot_be_read_is_told_without_the_usage() {
     let missing = school("no.instance");
     let found = run(&["read", &missing]);

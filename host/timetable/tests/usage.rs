@@ -112,12 +112,17 @@ fn help_names_every_subcommand_and_each_has_its_own() {
 
 #[test]
 fn help_lists_the_refusals_of_an_operation() {
-    let help = run(&["read", "--help"]).printed;
-    for number in (1..=6).chain([19]) {
-        let line = format!("\n{number:>4}  {}\n", refusals::words(number));
-        assert!(help.contains(&line), "{number}");
+    for (name, numbers) in [
+        ("read", vec![1, 2, 3, 4, 5, 6, 19]),
+        ("model", vec![1, 2, 3, 4, 5, 6, 8, 13, 19, 20, 21]),
+    ] {
+        let help = run(&[name, "--help"]).printed;
+        for facts in REFUSALS {
+            let line = format!("\n{:>4}  {}\n", facts.number, refusals::words(facts.number));
+            let listed = numbers.contains(&facts.number);
+            assert_eq!(help.contains(&line), listed, "{name} {}", facts.number);
+        }
     }
-    assert!(!help.contains(refusals::words(7)));
 }
 
 #[test]

@@ -9,7 +9,7 @@ use std::io::Read;
 use std::process::Stdio;
 use std::thread;
 use std::time::{Duration, Instant};
-use support::{command, file, folder, hex, recorded, run, school, stand_ins, Run};
+use support::{command, file, folder, hex, recorded, run, school, stand_ins, Run, FILE_A};
 
 /// clasp with its models of the toy school.
 const CLASP: (&str, &str) = ("clasp", "cat \"$R/clasp.out\"");
@@ -181,6 +181,48 @@ fn a_solvers_word_is_not_taken() {
             found.said.lines().count() > 1,
             "{name} is passed over in silence"
         );
+    }
+}
+
+/// A solver's model is read by the engine, and what it refuses is told in words.
+#[test]
+fn a_refused_model_is_told_with_the_reason() {
+    let a = file("a.instance", &hex(FILE_A));
+    for (name, line, note) in [
+        ("costs", "v 1 2 3 4 0", ""),
+        (
+            "twice",
+            "v 1 2 3 3 4 0",
+            "refused 21 3: variable 3 is given 2 times, the second time in line 1, column 9\n",
+        ),
+        (
+            "missing",
+            "v 1 2 4 0",
+            "refused 21 3: variable 3 is missing in the lines v\n",
+        ),
+        (
+            "zeros",
+            "v 01 2 3 4 0",
+            "refused 20 2: line 1, column 3: '01' is no literal: a minus or no sign, and a number \
+             without leading zeros\n",
+        ),
+        (
+            "false",
+            "v 1 -2 3 4 0",
+            "refused 13 2: block 1, event 1: it takes time 1 and does not start there\n",
+        ),
+    ] {
+        let script = format!("echo 's OPTIMUM FOUND'; echo '{line}'");
+        let solvers = stand_ins(name, &[("clasp", &script)]);
+        let found = solve_file(&a, &solvers, &format!("{name}-out"), &[]);
+        let known = match note {
+            "" => "costs 4; nothing refuted; open from 0 to 3\n",
+            _ => "no timetable found; nothing refuted\n",
+        };
+        assert!(found.printed.starts_with(known), "{}", found.printed);
+        let refused = "the engine refuses a solver's model: ";
+        assert_eq!(found.said.contains(refused), !note.is_empty());
+        assert!(found.said.contains(note), "{}", found.said);
     }
 }
 

@@ -1,12 +1,13 @@
 /*
- * plain JOB SPAN TURN INSTANCE [TABLE | MODEL | BOUND PROOF]
+ * plain JOB SPAN TURN INSTANCE [TABLE | MODEL | TEXT | BOUND PROOF]
  *
  * Does a job at least once untimed, then again and again in spans of at least
  * SPAN milliseconds until TURN milliseconds are over. Prints the refusal's number,
- * two numbers of the answer (for a text its length and a checksum), the bytes
- * of output and stores, the most bytes that the process held, and for each
- * span the microseconds of a call. Each time the instance file is read anew.
- * All times are the process's own time on a processor.
+ * two numbers of the answer (for a text its length and a checksum, for a solver's
+ * text the cost and a checksum of the model), the bytes of output and stores, the
+ * most bytes that the process held, and for each span the microseconds of a call.
+ * Each time the instance file is read anew. The job "lines" reads none: it counts
+ * the lines of the other file. All times are the process's own time on a processor.
  */
 #define _POSIX_C_SOURCE 199309L
 #include "plain.h"
@@ -97,8 +98,21 @@ static uint64_t peak(void)
     return 1024 * kilobytes;
 }
 
+/* How often byte 10 comes: the least that a walk over a text does. */
+static uint64_t lines(struct bytes text)
+{
+    uint64_t lines = 0;
+    for (size_t i = 0; i < text.length; i++)
+        lines += text.at[i] == '\n';
+    return lines;
+}
+
 static int once(struct task *t)
 {
+    if (!strcmp(t->job, "lines")) {
+        t->answer[0] = lines(t->other);
+        return 0;
+    }
     int bad = read_instance(&in, t->file.at, t->file.length);
     if (bad)
         return bad;
@@ -113,6 +127,8 @@ static int once(struct task *t)
         return text(&in, t->out, t->room, &t->answer[0]);
     if (!strcmp(t->job, "decode"))
         return decode(&in, t->other.at, t->other.length, &t->answer[0]);
+    if (!strcmp(t->job, "solver_text"))
+        return solver_text(&in, t->other.at, t->other.length, t->out, &t->answer[0]);
     if (!strcmp(t->job, "check"))
         return check(&in, t->bound, t->other.at, t->other.length, &t->stores, &t->answer[0]);
     return 0;
@@ -141,7 +157,7 @@ static void room(struct bytes proof, uint64_t *words, uint64_t *rows)
     }
 }
 
-/* Room for the text, or for the clauses and two bytes a variable. */
+/* Room for the text, for the model, or for the clauses and two bytes a variable. */
 static void lend(struct task *t)
 {
     if (read_instance(&in, t->file.at, t->file.length))
@@ -151,6 +167,10 @@ static void lend(struct task *t)
     if (!strcmp(t->job, "text")) {
         /* A weight has at most 10 digits, a literal 9 bytes; the last line may ask for 12 bytes a literal. */
         t->room = 64 + 13 * (s.clauses + s.units) + 9 * (s.words + s.units) + 16 * MOST_EVENTS;
+        t->out = lent(t, t->room);
+    }
+    if (!strcmp(t->job, "solver_text")) {
+        t->room = s.variables;
         t->out = lent(t, t->room);
     }
     if (!strcmp(t->job, "check")) {
@@ -209,8 +229,8 @@ int main(int count, char **words)
     in.store = malloc(sizeof(uint16_t) * (2 * t.file.length + 1));
     lend(&t);
     uint64_t batch = calls_in(&t, span / 20);
-    if (t.out)
-        t.answer[1] = checksum(t.out, t.answer[0]);
+    if (t.out && !t.refusal)
+        t.answer[1] = checksum(t.out, strcmp(t.job, "text") ? t.room : t.answer[0]);
     printf("%d %llu %llu %llu %llu", t.refusal, (unsigned long long)t.answer[0], (unsigned long long)t.answer[1],
         (unsigned long long)t.lent, (unsigned long long)peak());
     print_spans(&t, batch, span, turn);

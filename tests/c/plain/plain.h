@@ -65,6 +65,7 @@ struct sizes sizes_of(const struct instance *in);
 int score(const struct instance *in, const uint8_t *table, size_t length, uint64_t *infeasibility, uint64_t *objective);
 int text(const struct instance *in, uint8_t *out, size_t room, uint64_t *length);
 int decode(const struct instance *in, const uint8_t *model, size_t length, uint64_t *cost);
+int solver_text(const struct instance *in, const uint8_t *text, size_t length, uint8_t *model, uint64_t *number);
 int check(const struct instance *in, uint32_t bound, const uint8_t *proof, size_t length, struct stores *stores, uint64_t *steps);
 
 #endif

@@ -71,7 +71,7 @@ module _ (file : List ℕ) (B : ℕ) (proof : List ℕ) (s : Stores) where
             },
       )
 
-take-again : (n : ℕ) (xs : List ℕ) → take (length (take n xs)) xs ≡ take n xs
+pub take-again : (n : ℕ) (xs : List ℕ) → take (length (take n xs)) xs ≡ take n xs
 take-again zero xs = refl
 take-again (suc n) [] = refl
 take-again (suc n) (x ∷ xs) = ap (λ (ys : List ℕ). x ∷ ys) (take-again n xs)

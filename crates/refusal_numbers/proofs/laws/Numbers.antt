@@ -3,6 +3,7 @@ use Prim.Native.Nat.{ℕ, zero, suc}
 use mathlib.Core.Path.{_≡_, refl}
 use mathlib.Core.Bool.{true, false}
 use mathlib.Core.List.{List, [], _∷_}
+use mathlib.Core.Option.{none}
 use native.Mathlib.Omega.{arith}
 use lib.Dec.{leb, eqb}
 use lib.ListN.{length}
@@ -11,10 +12,11 @@ use Rattle.scope.specs.Cnf.{bit}
 use Rattle.scope.specs.Score.{firstAbove}
 use Rattle.scope.specs.Formula.{variables, hardOf, boundedVariables, boundedHard, mostBound, mostVariables}
 use Rattle.scope.specs.Text.{text}
-use Rattle.scope.specs.Operations.{readOf, scoreOf, sameSheetOf, sizesOf, textSizeOf, textOf, decodeOf, lowestFalse, Lent, formulaFits, limitsOf, against, checkOf, checkHardOf, nothingBelow, bestOf}
+use Rattle.scope.specs.Operations.{readOf, scoreOf, sameSheetOf, sizesOf, textSizeOf, textOf, decodeOf, solverTextOf, lowestFalse, Lent, formulaFits, limitsOf, against, checkOf, checkHardOf, nothingBelow, bestOf}
 use Rattle.calls.specs.Call.{called}
 use Rattle.refusal_numbers.proofs.laws.Within.{oneOf, Within, accepts, refuses, Reader, on-file, given-if, given-for, Timetables, on-timetable}
 use Rattle.refusal_numbers.proofs.laws.RunWithin.{Proofs, then-within, a-plain-run}
+use Rattle.refusal_numbers.proofs.laws.TextWithin.{model-then}
 
 -- an answer that is no refusal
 pub record Accepted {A : Type 0} (a : Answer A) : Type 0 where
@@ -27,8 +29,8 @@ pub zero-accepted : {ns : List ℕ} {A B : Type 0} {a : Answer A} (written : A �
     → Within ns a
     → called a written before .number ≡ 0
     → Accepted a
-zero-accepted written before none accepts z = record { result = _; eq = refl }
-zero-accepted {ns} written before none (refuses e) z =
+zero-accepted written before absent accepts z = record { result = _; eq = refl }
+zero-accepted {ns} written before absent (refuses e) z =
     let e′ = rw z at e in
     let contra : _≡_ {A = ℕ} 0 1 = cc in
     let f : ⊥ = omega arith in
@@ -96,6 +98,30 @@ decoding-within r e8 e10 e11 e13 file m =
 
 pub decode-numbers : (file m : List ℕ) → Within (fromFile (8 ∷ 10 ∷ 11 ∷ 13 ∷ [])) (decodeOf file m)
 decode-numbers file m = decoding-within (of-file _) refl refl refl refl file m
+
+-- what a solver printed: 1 to 6, 8 to 10, 13, 19 to 21, and never 11
+abbrev pub solverTextNumbers : List ℕ
+solverTextNumbers = fromFile (8 ∷ 9 ∷ 10 ∷ 13 ∷ 20 ∷ 21 ∷ [])
+
+-- a model of bytes 0 and 1 that is decoded
+filled-within : (file m : List ℕ) → firstAbove 0 m ≡ none → Within solverTextNumbers (decodeOf file m)
+unfolding decodeOf
+filled-within file m above =
+    on-file (of-file _) file
+    (λ i.
+    given-if (leb (variables i) mostVariables) 8 0 refl
+    (given-if (eqb (length m) (variables i)) 10 (variables i) refl
+    (rw above (given-for 13 (lowestFalse (bit m) 1 (hardOf i)) refl accepts))))
+
+pub solver-text-numbers : (file output : List ℕ) (model store : ℕ) → Within solverTextNumbers (solverTextOf file output model store)
+unfolding solverTextOf
+solver-text-numbers file output model store =
+    on-file (of-file _) file
+    (λ i.
+    given-if (leb (variables i) mostVariables) 8 0 refl
+    (given-if (leb (variables i) store) 9 0 refl
+    (given-if (eqb model (variables i)) 10 (variables i) refl
+    (model-then (variables i) output refl refl (λ m above. then-within (filled-within file m above) (λ d. accepts))))))
 
 -- a proof against clauses, among others: 9, 14 to 18
 against-within : {ns : List ℕ} → oneOf ns 9 ≡ true → Proofs ns → (last : ℕ) (f : List (List ℕ)) (proof : List ℕ) (l : Lent)

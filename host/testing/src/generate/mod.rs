@@ -1,7 +1,8 @@
-//! Seeded generators of test inputs: instance files, timetables, models and
-//! proofs, valid and damaged. Equal seeds give equal inputs.
+//! Seeded generators of test inputs: instance files, timetables, models, texts of
+//! solvers and proofs, valid and damaged. Equal seeds give equal inputs.
 
 mod damage;
+mod damaged_texts;
 mod file;
 mod instances;
 mod largest;
@@ -10,9 +11,11 @@ mod planned;
 mod proofs;
 mod random;
 mod school;
+mod solver_texts;
 mod timetables;
 
 pub use damage::{damaged_bytes, damaged_instance, damaged_numbers, damaged_table, number_starts};
+pub use damaged_texts::{damaged_text, damaged_texts, DamagedText};
 pub use file::encode;
 pub use instances::{instance, Shape};
 pub use largest::{idle_limits, long_lengths, long_tail, many_ors, many_variables};
@@ -21,4 +24,5 @@ pub use planned::{planned_school, Plan};
 pub use proofs::{lent, proof};
 pub use random::Random;
 pub use school::{school, school_of_every_kind};
+pub use solver_texts::{printed, scattered, wrapped, Line, Printed, Word};
 pub use timetables::timetable;

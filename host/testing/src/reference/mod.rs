@@ -2,7 +2,7 @@
 //!
 //! Each operation is a function over byte slices. It reads the instance file
 //! itself and answers its result or the first refusal, in the order of places:
-//! instance, sizing, timetable or model, proof. Idle times alone have no file:
+//! instance, sizing, timetable, solver's text or model, proof. Idle times alone have no file:
 //! they are counted in a row. The types of the answers are those of
 //! `timetable::engine`; nothing else is shared with it.
 
@@ -16,6 +16,7 @@ mod proof;
 mod refusal;
 mod score;
 mod sheet;
+mod solver_text;
 mod text;
 
 pub use best::best;
@@ -32,5 +33,6 @@ pub use number::{read_number, write_number};
 pub use proof::{check, check_hard, ADD, DELETE};
 pub use score::{deviation, score};
 pub use sheet::{same_sheet, Sheet};
+pub use solver_text::{print_model, solver_text};
 pub use text::{text, text_program, text_size, TEXT_PROGRAM_BYTES};
 pub use timetable::engine::{FormulaSize, Infeasibility, Kept, Objective, Refusal, Score, Summary};

@@ -85,6 +85,19 @@ pub fn decode<'a>(file: &[u8], model: &'a [u8]) -> Result<(&'a [u8], Objective),
     expected
 }
 
+/// The lent model and the store have these lengths.
+pub fn solver_text(
+    file: &[u8],
+    text: &[u8],
+    model: usize,
+    store: usize,
+) -> Result<(Vec<u8>, usize, Objective), Refusal> {
+    let expected = reference::solver_text(file, text, model, store);
+    #[cfg(feature = "engine")]
+    engine::solver_text(file, text, [model, store], &expected);
+    expected
+}
+
 pub fn check(
     file: &[u8],
     bound: u64,
@@ -259,6 +272,46 @@ mod engine {
         value.assert_is(expected.map(|(part, _)| part.len() as u64));
         lent[0].assert_holds(file);
         lent[1].assert_holds(model);
+    }
+
+    /// The lent model and the store have these lengths, and hold anything before.
+    pub fn solver_text(
+        file: &[u8],
+        text: &[u8],
+        [model, store]: [usize; 2],
+        expected: &Result<(Vec<u8>, usize, Objective), Refusal>,
+    ) {
+        let mut random = dirt(&[file, text]);
+        let lent = [file, text].map(|part| Lent::new(&mut random, part));
+        let mut model = Lent::<u8>::dirty(&mut random, model as u64);
+        let mut store = Lent::<u8>::dirty(&mut random, store as u64);
+        let model_before = model.part().to_vec();
+        let before = random.draw();
+        let mut objective = before;
+        let call = |value: &mut u64| {
+            call::solver_text(
+                lent[0].part(),
+                lent[1].part(),
+                model.part_mut(),
+                store.part_mut(),
+                &mut objective,
+                value,
+            )
+        };
+        let refusal = expected.as_ref().err().copied();
+        let value = Value::after(&mut random, call, refusal.map_or(Ok(()), Err));
+        let (model_after, objective_after) = match expected {
+            Ok((filled, part, cost)) => {
+                value.assert_is(Ok(*part as u64));
+                (filled, cost.0)
+            }
+            Err(_) => (&model_before, before),
+        };
+        assert_eq!(black_box(objective), objective_after);
+        model.assert_holds(model_after);
+        store.assert_zero();
+        lent[0].assert_holds(file);
+        lent[1].assert_holds(text);
     }
 
     /// The stores have these lengths.

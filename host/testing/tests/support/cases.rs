@@ -3,7 +3,7 @@
 use testing::reference::{Objective, Refusal, Score, Sizes, Summary};
 
 const LINES: &str = include_str!("../../../vectors/cases.txt");
-const COUNT: usize = 1_894;
+const COUNT: usize = 2_741;
 
 pub enum Case {
     Read(Vec<u8>),
@@ -13,6 +13,8 @@ pub enum Case {
     Wcnf(Vec<u8>, usize),
     TextProgram(Vec<u8>),
     Decode(Vec<u8>, Vec<u8>),
+    /// The lengths are those of the lent model and of the store.
+    SolverText(Vec<u8>, Vec<u8>, [usize; 2]),
     Check(Vec<u8>, u64, Vec<u8>, [u64; 3]),
 }
 
@@ -66,6 +68,11 @@ pub fn parse(line: &str) -> Option<(Case, &str)> {
         ["wcnf", file, length] => Case::Wcnf(bytes(file)?, length.parse().ok()?),
         ["text_program", input] => Case::TextProgram(bytes(input)?),
         ["decode", file, model] => Case::Decode(bytes(file)?, bytes(model)?),
+        ["solver_text", file, text, model, store] => Case::SolverText(
+            bytes(file)?,
+            bytes(text)?,
+            [model.parse().ok()?, store.parse().ok()?],
+        ),
         ["check", file, bound, proof, words, rows, marks] => Case::Check(
             bytes(file)?,
             bound.parse().ok()?,
@@ -114,6 +121,10 @@ pub fn printed(output: &[u8]) -> String {
 
 pub fn decoded(part: &[u8], cost: Objective) -> String {
     format!("decoded {} {}", part.len(), cost.0)
+}
+
+pub fn filled(model: &[u8], part: usize, cost: Objective) -> String {
+    format!("read {} {part} {}", hexadecimal(model), cost.0)
 }
 
 pub fn refuted(steps: u64) -> String {

@@ -3,6 +3,7 @@
 
 pub mod both;
 pub mod cases;
+pub mod hasty;
 pub mod models;
 
 use testing::prover::clause_list;

@@ -15,5 +15,7 @@ pub enum Sort {
     Instance,
     Timetable,
     Model,
+    /// What a solver printed, in the form that the engine reads.
+    SolverText,
     Proof,
 }

@@ -6,6 +6,7 @@ mod form;
 mod inputs;
 mod instance;
 pub mod outline;
+mod solver_text;
 mod step;
 mod table;
 
@@ -23,6 +24,8 @@ pub fn reasons(refusal: Refusal, inputs: &Inputs) -> Vec<String> {
         refusal::NOT_A_TIMETABLE => table::broken_event(inputs, refusal.value),
         refusal::CLAUSE_FALSE => false_clause(inputs, refusal.value),
         refusal::BAD_STEP..=refusal::BAD_END => step::reason(refusal, inputs),
+        refusal::BAD_SOLVER_TEXT => solver_text::bad_place(inputs, refusal.value),
+        refusal::NOT_GIVEN_ONCE => solver_text::not_given_once(inputs, refusal.value),
         _ => None,
     };
     let form = form::recognised(refusal, inputs).map(str::to_string);

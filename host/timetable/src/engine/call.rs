@@ -143,6 +143,34 @@ pub fn decode(file: &[u8], model: &[u8], objective: &mut u64, value: &mut u64) -
     }
 }
 
+/// 0 with the model filled from a solver's text, its cost in `objective` and in
+/// `value` how many of its bytes, from its first, are the timetable; or 1 to 6,
+/// 8 to 10, 13, 19 to 21 with `value` written. The store is zero after it.
+pub fn solver_text(
+    file: &[u8],
+    text: &[u8],
+    model: &mut [u8],
+    store: &mut [u8],
+    objective: &mut u64,
+    value: &mut u64,
+) -> u32 {
+    // SAFETY: see the head of this file.
+    unsafe {
+        c::timetable_solver_text(
+            file.as_ptr(),
+            file.len(),
+            text.as_ptr(),
+            text.len(),
+            model.as_mut_ptr(),
+            model.len(),
+            store.as_mut_ptr(),
+            store.len(),
+            objective,
+            value,
+        )
+    }
+}
+
 /// A row of the directory of clauses, C's `struct timetable_row`.
 #[repr(C)]
 #[derive(Clone, Copy, Debug, Default, PartialEq, Eq)]
@@ -323,6 +351,19 @@ mod c {
             file_length: usize,
             model: *const u8,
             model_length: usize,
+            objective: *mut u64,
+            value: *mut u64,
+        ) -> u32;
+
+        pub fn timetable_solver_text(
+            file: *const u8,
+            file_length: usize,
+            text: *const u8,
+            text_length: usize,
+            model: *mut u8,
+            model_length: usize,
+            store: *mut u8,
+            store_length: usize,
             objective: *mut u64,
             value: *mut u64,
         ) -> u32;

@@ -21,7 +21,8 @@ pub use answers::{FormulaSize, Infeasibility, Kept, Objective, Refusal, Score, S
 pub use limits::{LARGEST_BOUND, MOST_VARIABLES};
 #[cfg(feature = "engine")]
 pub use operations::{
-    best, check, check_hard, decode, idle_step, read, same_sheet, score, sizes, text, text_size,
+    best, check, check_hard, decode, idle_step, model_length, read, same_sheet, score, sizes,
+    solver_text, text, text_size,
 };
 pub use refusals::{is_of_instance, refusal, refusal_facts, RefusalFacts, REFUSALS};
 #[cfg(feature = "engine")]

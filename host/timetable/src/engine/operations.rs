@@ -88,6 +88,34 @@ pub fn decode<'a>(file: &[u8], model: &'a [u8]) -> Result<(&'a [u8], Objective),
     Ok((&model[..value as usize], Objective(objective)))
 }
 
+/// How many bytes a model has, one for each variable without the tail; or 1 to
+/// 6, 8, 19.
+pub fn model_length(file: &[u8]) -> Result<usize, Refusal> {
+    // Every instance has variables, so an empty model has the wrong length.
+    match decode(file, &[]) {
+        Err(refused) if refused.number == refusal::WRONG_LENGTH => Ok(refused.value as usize),
+        answer => answer.map(|(part, _)| part.len()),
+    }
+}
+
+/// The model that a solver's text gives, the length of its part that is the
+/// timetable, and its cost; or 1 to 6, 8, 13, 19 to 21.
+pub fn solver_text(file: &[u8], text: &[u8]) -> Result<(Vec<u8>, usize, Objective), Refusal> {
+    let length = model_length(file)?;
+    let (mut model, mut store) = (vec![0; length], vec![0; length]);
+    let (mut objective, mut value) = (0, 0);
+    let number = call::solver_text(
+        file,
+        text,
+        &mut model,
+        &mut store,
+        &mut objective,
+        &mut value,
+    );
+    accepted(number, value)?;
+    Ok((model, value as usize, Objective(objective)))
+}
+
 /// Checks that no timetable that keeps the hard constraints costs `bound` or
 /// less. Gives the number of steps, or 1 to 8, 14 to 16, 18, 19.
 pub fn check(file: &[u8], bound: u64, proof: &[u8]) -> Result<u64, Refusal> {
@@ -136,4 +164,39 @@ pub fn best(file: &[u8], model: &[u8], proof: &[u8]) -> Result<(Objective, u64),
         _ => FormulaSize::default(),
     };
     Store::for_proof(size, proof).best(file, model, proof)
+}
+
+#[cfg(test)]
+mod tests {
+    use super::*;
+
+    /// Document 01's file A.
+    const A: [u8; 12] = [1, 1, 0, 1, 0, 1, 0, 1, 3, 4, 1, 1];
+
+    fn refused<T>(number: u32, value: u64) -> Result<T, Refusal> {
+        Err(Refusal { number, value })
+    }
+
+    #[test]
+    fn a_model_has_a_byte_for_each_variable() {
+        assert_eq!(model_length(&A), Ok(4));
+        assert_eq!(model_length(&A[..11]), refused(refusal::BAD_NUMBER, 11));
+    }
+
+    #[test]
+    fn a_solvers_text_is_read_and_decoded() {
+        let model = vec![1, 1, 1, 1];
+        assert_eq!(
+            solver_text(&A, b"c x\nv 1 2\nv 3 4 0\n"),
+            Ok((model, 2, Objective(4)))
+        );
+        for (text, number, value) in [
+            (&b"v 1 +2 3 4"[..], refusal::BAD_SOLVER_TEXT, 4),
+            (b"v 1 2 2 4", refusal::NOT_GIVEN_ONCE, 2),
+            (b"v 1 2 3 -4", refusal::CLAUSE_FALSE, 6),
+        ] {
+            assert_eq!(solver_text(&A, text), refused(number, value));
+        }
+        assert_eq!(solver_text(&A[..3], b""), refused(refusal::BAD_NUMBER, 3));
+    }
 }

@@ -61,6 +61,10 @@ refusals! {
     17 CLAUSE_TOO_LONG "a clause does not fit the store" "step {}";
     18 BAD_END "the proof has no empty clause, or bytes after it" "{} steps were read";
     19 SAME_EVENT "both events of a precedence are one" "the constraint's kind is at offset {}";
+    20 BAD_SOLVER_TEXT "a solver's text has a line of another kind, a literal out of range or \
+        malformed, or a number after the 0" "it is at offset {}";
+    21 NOT_GIVEN_ONCE "a variable is missing in a solver's text, or given twice"
+        "variable {} is the lowest such";
 }
 
 #[cfg(test)]
@@ -72,7 +76,7 @@ mod tests {
         for (at, facts) in REFUSALS.iter().enumerate() {
             assert_eq!(facts.number as usize, at + 1);
         }
-        assert_eq!(refusal::SAME_EVENT as usize, REFUSALS.len());
+        assert_eq!(refusal::NOT_GIVEN_ONCE as usize, REFUSALS.len());
     }
 
     #[test]

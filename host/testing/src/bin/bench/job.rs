@@ -19,7 +19,7 @@ struct Task {
     span: Duration,
     turn: Duration,
     file: Vec<u8>,
-    /// A timetable, a model or a proof.
+    /// A timetable, a model, a solver's text or a proof.
     other: Vec<u8>,
     bound: u64,
 }
@@ -72,6 +72,7 @@ fn engine(job: &str, task: &Task) -> Run {
             run.answer[1] = checksum(&out);
             run
         }
+        "solver_text" => filled_by_engine(task),
         "check" => {
             let mut store = store(task);
             let lent = lent(&store);
@@ -100,6 +101,7 @@ fn by_reference(job: &str, task: &Task) -> Run {
             run.answer[1] = checksum(&out);
             run
         }
+        "solver_text" => filled_by_reference(task),
         "check" => {
             let size = engine::sizes(file, task.bound).expect("an accepted file");
             let added = room(other);
@@ -115,8 +117,38 @@ fn by_reference(job: &str, task: &Task) -> Run {
     }
 }
 
+/// A model filled from a solver's text.
+fn filled_by_engine(task: &Task) -> Run {
+    let Task { file, other, .. } = task;
+    let length = variables(task);
+    let [mut model, mut store] = [(); 2].map(|()| vec![0; length]);
+    let (mut cost, mut value) = (0, 0);
+    let mut run = timed(task, 2 * length, || {
+        let number = call::solver_text(file, other, &mut model, &mut store, &mut cost, &mut value);
+        match number {
+            0 => Ok([cost, 0]),
+            number => Err(Refusal { number, value }),
+        }
+    });
+    run.fills(&model);
+    run
+}
+
+fn filled_by_reference(task: &Task) -> Run {
+    let Task { file, other, .. } = task;
+    let length = variables(task);
+    let mut model = Vec::new();
+    let mut run = timed(task, 0, || {
+        let (filled, _, cost) = reference::solver_text(file, other, length, length)?;
+        model = filled;
+        Ok([cost.0, 0])
+    });
+    run.fills(&model);
+    run
+}
+
 /// Spans of calls. A proof without the empty clause is refused with 18 and its
-/// steps.
+/// steps, a text that lacks a literal with 21 and the variable.
 fn timed(task: &Task, lent: usize, mut once: impl FnMut() -> Answer) -> Run {
     let mut answer = Ok([0, 0]);
     let spans = measured(task.span, task.turn, || answer = black_box(once()));
@@ -137,6 +169,21 @@ fn steps(answer: Result<u64, Refusal>) -> Answer {
     answer.map(|steps| [steps, 0])
 }
 
+impl Run {
+    /// The second number of the answer where a model was filled.
+    fn fills(&mut self, model: &[u8]) {
+        if self.refusal == 0 {
+            self.answer[1] = checksum(model);
+        }
+    }
+}
+
+/// How many bytes a model has.
+fn variables(task: &Task) -> usize {
+    let sizes = reference::sizes(&task.file, None).expect("an accepted file");
+    sizes.variables as usize
+}
+
 fn room_for_text(task: &Task) -> Vec<u8> {
     let length = engine::text_size(&task.file).expect("an accepted file");
     vec![0; length as usize]
@@ -152,7 +199,7 @@ fn lent(store: &Store) -> usize {
     size_of_val(&store.words[..]) + size_of_val(&store.rows[..]) + size_of_val(&store.marks[..])
 }
 
-/// A number for all bytes of a text (FNV-1a), as the C program gives it.
+/// A number for all bytes of a text or a model (FNV-1a), as the C program gives it.
 fn checksum(text: &[u8]) -> u64 {
     text.iter().fold(0xcbf2_9ce4_8422_2325, |sum, &byte| {
         (sum ^ u64::from(byte)).wrapping_mul(0x0100_0000_01b3)

@@ -1,10 +1,11 @@
 //! Times the engine against plain C, tuned C and the reference: schools of
 //! growing size, formulas of many ORs, lengths of subevents, preferred times, lessons
-//! before others, proofs of many hints and with gaps in their ids, and the worst
-//! inputs that are accepted, with the memory of each.
+//! before others, proofs of many hints and with gaps in their ids, the worst
+//! inputs that are accepted, with the memory of each, and texts of solvers.
 //!
 //! `cargo run --release --offline --bin bench` prints the tables of
-//! docs/BENCHMARKS.md; with `-- --short` the same on small inputs. Each time is
+//! docs/BENCHMARKS.md; with `-- --short` the same on small inputs, and with
+//! `-- --solver-texts` the table of solvers' texts alone. Each time is
 //! time on a processor: a call is made again and again in spans of 20 ms, and
 //! the median of the spans of several turns counts, in which the sides
 //! alternate, so that a busy machine disturbs all alike. Each turn is a process
@@ -22,6 +23,7 @@ mod programs;
 mod proofs;
 mod schools;
 mod side;
+mod solver_texts;
 mod spans;
 mod table;
 mod worst;
@@ -53,6 +55,9 @@ pub struct Scale {
     precedence: usize,
     /// The worst inputs have one in so many of their constraints.
     part: usize,
+    /// Lessons of the school whose solver's text is read, and bytes of comments.
+    printed: usize,
+    comments: usize,
 }
 
 const WHOLE: Scale = Scale {
@@ -66,6 +71,8 @@ const WHOLE: Scale = Scale {
     preferred: 400,
     precedence: 400,
     part: 1,
+    printed: 400,
+    comments: 100_000_000,
 };
 
 const SHORT: Scale = Scale {
@@ -79,6 +86,8 @@ const SHORT: Scale = Scale {
     preferred: 100,
     precedence: 100,
     part: 64,
+    printed: 100,
+    comments: 1_500_000,
 };
 
 const MANY: Turns = Turns {
@@ -131,10 +140,16 @@ fn main() -> ExitCode {
     let (turns, scale) = match words.first().map(String::as_str) {
         None => (MANY, WHOLE),
         Some("--short") => (FEW, SHORT),
+        Some("--solver-texts") => {
+            let sides = Sides::new(MANY);
+            let scale = WHOLE;
+            solver_texts::table(&Bench { sides, scale });
+            return ExitCode::SUCCESS;
+        }
         Some("engine") => return done(Side::Engine, &words[1..]),
         Some("reference") => return done(Side::Reference, &words[1..]),
         Some(_) => {
-            eprintln!("bench: wanted is nothing, or --short");
+            eprintln!("bench: wanted is nothing, --short or --solver-texts");
             return ExitCode::from(2);
         }
     };
@@ -156,6 +171,7 @@ fn tables(turns: Turns, scale: Scale) {
     gaps::table(&bench, &learned);
     drop(learned);
     worst::table(&bench);
+    solver_texts::table(&bench);
     let minutes = begin.elapsed().as_secs_f64() / 60.0;
     let after = load();
     println!(

@@ -1,16 +1,17 @@
-//! The four that are compared, each as a program with the same arguments.
+//! Those that are compared, each as a program with the same arguments.
 
 use std::path::Path;
 use std::process::Command;
 
 /// Who does a job. Plain C is the yardstick, tuned C shows what is still to be
-/// had.
+/// had. Lines is plain C that counts the lines of a text and does no more.
 #[derive(Clone, Copy, Debug, PartialEq, Eq)]
 pub enum Side {
     Engine,
     Plain,
     Tuned,
     Reference,
+    Lines,
 }
 
 impl Side {
@@ -18,9 +19,17 @@ impl Side {
     fn word(self) -> &'static str {
         match self {
             Side::Engine => "engine",
-            Side::Plain => "plain",
+            Side::Plain | Side::Lines => "plain",
             Side::Tuned => "tuned",
             Side::Reference => "reference",
+        }
+    }
+
+    /// What the program is told to do where `job` is to be done.
+    pub fn job(self, job: &str) -> &str {
+        match self {
+            Side::Lines => "lines",
+            _ => job,
         }
     }
 }
@@ -29,7 +38,7 @@ impl Side {
 struct Compiled {
     side: Side,
     level: &'static str,
-    files: [&'static str; 6],
+    files: [&'static str; 7],
 }
 
 /// Tuned C has files of its own only where it differs from plain C.
@@ -44,6 +53,7 @@ const COMPILED: [Compiled; 2] = [
             "plain/text.c",
             "plain/decode.c",
             "plain/check.c",
+            "plain/solver_text.c",
         ],
     },
     Compiled {
@@ -56,6 +66,7 @@ const COMPILED: [Compiled; 2] = [
             "tuned/text.c",
             "tuned/decode.c",
             "tuned/check.c",
+            "plain/solver_text.c",
         ],
     },
 ];
@@ -78,7 +89,7 @@ pub fn compile(folder: &Path) {
 /// A side's program, without its arguments.
 pub fn command(side: Side, folder: &Path) -> Command {
     match side {
-        Side::Plain | Side::Tuned => Command::new(folder.join(side.word())),
+        Side::Plain | Side::Tuned | Side::Lines => Command::new(folder.join(side.word())),
         Side::Engine | Side::Reference => {
             let this = std::env::current_exe().expect("this program's path");
             let mut command = Command::new(this);

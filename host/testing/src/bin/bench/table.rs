@@ -78,6 +78,24 @@ impl Row {
         ])
     }
 
+    /// A line of the table of solvers' texts, for a text of so many bytes.
+    pub fn solver_text(&self, text: usize) -> String {
+        let [engine, plain] = [self.engine(), self.plain()];
+        let [reference, lines] = [Side::Reference, Side::Lines].map(|side| self.run(side));
+        line(&[
+            self.input.clone(),
+            grouped(text as u64),
+            time(engine),
+            time(plain),
+            reference.map_or(NONE.into(), time),
+            lines.map_or(NONE.into(), time),
+            ratio(engine, Some(plain)),
+            ratio(engine, reference),
+            ratio(engine, lines),
+            megabytes(engine.lent),
+        ])
+    }
+
     /// A line of the table of gaps, against the same proof without gaps.
     pub fn against(&self, without: &Row) -> String {
         let [engine, plain] = [self.engine(), self.plain()];
@@ -169,6 +187,19 @@ pub const WORST: [&str; 9] = [
     "plain C's process",
 ];
 
+pub const SOLVER_TEXTS: [&str; 10] = [
+    "formula, text",
+    "bytes of text",
+    "engine",
+    "plain C",
+    "reference",
+    "counting lines",
+    "engine / plain C",
+    "engine / reference",
+    "engine / counting lines",
+    "output and store",
+];
+
 fn time(run: &Run) -> String {
     match run.time() {
         few if few < 1e3 => format!("{few:.1} µs"),
@@ -197,6 +228,7 @@ pub fn grouped(number: u64) -> String {
 #[cfg(test)]
 mod tests {
     use super::*;
+    use crate::solver_texts::SIDES;
     use crate::{ALL, TWO, WITHOUT_TUNED};
 
     fn run(spans: &[f64], peak: u64) -> Run {
@@ -209,15 +241,16 @@ mod tests {
         }
     }
 
-    /// The medians are 30 µs of the engine, 20 µs of plain C, 12 µs of tuned C and
-    /// 1.2 ms of the reference; neither the fastest spans nor the means have these
-    /// ratios.
+    /// The medians are 30 µs of the engine, 20 µs of plain C, 12 µs of tuned C, 1.2 ms
+    /// of the reference and 4 µs of counting lines; neither the fastest spans nor the
+    /// means have these ratios.
     fn row(sides: &[Side]) -> Row {
         let run = |&side: &Side| match side {
             Side::Engine => (side, run(&[30.0, 1.0, 500.0], 6_000_000)),
             Side::Plain => (side, run(&[19.0, 900.0, 2.0, 21.0], 4_000_000)),
             Side::Tuned => (side, run(&[800.0, 12.0, 3.0], 5_000_000)),
             Side::Reference => (side, run(&[1_200.0], 9_000_000)),
+            Side::Lines => (side, run(&[4.0, 1.0, 70.0], 1_000_000)),
         };
         Row {
             job: "check",
@@ -234,6 +267,13 @@ mod tests {
         assert_eq!(row(&ALL).line(), line);
         let two = "| check | 6 lessons | 1,234,567 | 30.0 µs | 20.0 µs | – | – | 1.50 | – | – |";
         assert_eq!(row(&TWO).line(), two);
+    }
+
+    #[test]
+    fn a_solvers_text_is_set_against_counting_its_lines() {
+        let line = "| 6 lessons | 1,200,000 | 30.0 µs | 20.0 µs | 1.20 ms | 4.0 µs \
+                    | 1.50 | 0.03 | 7.50 | 1.5 MB |";
+        assert_eq!(row(&SIDES).solver_text(1_200_000), line);
     }
 
     #[test]
@@ -293,5 +333,6 @@ mod tests {
         assert_eq!(cells(row(&ALL).memory()), MEMORY.len());
         assert_eq!(cells(row(&ALL).against(&row(&ALL))), GAPS.len());
         assert_eq!(cells(row(&ALL).worst()), WORST.len());
+        assert_eq!(cells(row(&SIDES).solver_text(0)), SOLVER_TEXTS.len());
     }
 }

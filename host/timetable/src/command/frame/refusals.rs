@@ -54,8 +54,9 @@ fn operand_file<'a>(given: &'a Given, name: &str) -> Option<&'a File> {
 fn operands(number: u32) -> &'static [&'static str] {
     match number {
         7 => &["BOUND"],
-        10..=13 => &["TIMETABLE", "FIRST", "MODEL"],
+        10..=13 => &["TIMETABLE", "FIRST", "MODEL", "ANSWER"],
         14..=18 => &["PROOF"],
+        20..=21 => &["ANSWER"],
         _ => &["INSTANCE"],
     }
 }
@@ -65,6 +66,7 @@ fn sort(operand: &str) -> Sort {
     match operand {
         "TIMETABLE" | "FIRST" | "SECOND" => Sort::Timetable,
         "MODEL" => Sort::Model,
+        "ANSWER" => Sort::SolverText,
         "PROOF" => Sort::Proof,
         _ => Sort::Instance,
     }

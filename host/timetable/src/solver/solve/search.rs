@@ -215,16 +215,16 @@ struct Finding<'a, 'b> {
 
 impl Judge for Finding<'_, '_> {
     fn line(&mut self, line: &[u8]) -> Result<(), Fault> {
-        let model = match self.reading.line(line) {
-            Ok(model) => model,
+        let found = match self.reading.line(line) {
+            Ok(found) => found,
             Err(fault) => {
                 self.week.note(format!("a solver's output: {fault}"));
                 None
             }
         };
-        if let Some(model) = model {
+        if let Some(found) = found {
             let before = self.week.best_cost();
-            self.week.offer(model)?;
+            self.week.offer(found)?;
             if self.week.best_cost() != before {
                 self.improved = Instant::now();
             }

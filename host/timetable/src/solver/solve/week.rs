@@ -5,7 +5,9 @@ use super::claim::Claim;
 use super::folder::Folder;
 use super::outcome::{Best, Outcome, Refuted};
 use super::{Options, Progress, Watcher};
-use crate::engine;
+use crate::diagnosis::{reasons, Inputs, Sort};
+use crate::engine::{self, Objective, Refusal};
+use crate::solver::answers::Found;
 use crate::solver::formula::Formula;
 use crate::solver::proofs::{self, Observer};
 use crate::solver::Fault;
@@ -78,13 +80,13 @@ impl<'a> Week<'a> {
         }
     }
 
-    /// Has the engine decode a model, and keeps it if it is the best so far.
-    pub fn offer(&mut self, model: &[u8]) -> Result<(), Fault> {
-        let (timetable, cost) = match engine::decode(self.file, model) {
-            Ok((timetable, cost)) => (timetable, cost.0),
+    /// Has the engine read and decode a model, and keeps it if it is the best so far.
+    pub fn offer(&mut self, found: &Found) -> Result<(), Fault> {
+        let (model, length, cost) = match self.decoded(found) {
+            Ok((model, length, cost)) => (model, length, cost.0),
             Err(refusal) => {
-                let refused = Fault::from(refusal);
-                self.note(format!("the engine refuses a solver's model: {refused}"));
+                let words = self.in_words(refusal, found);
+                self.note(format!("the engine refuses a solver's model: {words}"));
                 return Ok(());
             }
         };
@@ -93,10 +95,39 @@ impl<'a> Week<'a> {
         }
         self.outcome.best = Some(Best {
             cost,
-            model: self.folder.write("best.model", model)?,
-            timetable: self.folder.write("best.timetable", timetable)?,
+            model: self.folder.write("best.model", &model)?,
+            timetable: self.folder.write("best.timetable", &model[..length])?,
         });
         Ok(())
+    }
+
+    /// A model, the length of its part that is the timetable, and its cost. The
+    /// engine reads the model's own lines, where it reads their form.
+    fn decoded(&self, found: &Found) -> Result<(Vec<u8>, usize, Objective), Refusal> {
+        if let Some(lines) = &found.lines {
+            return engine::solver_text(self.file, lines);
+        }
+        let (part, cost) = engine::decode(self.file, &found.model)?;
+        Ok((found.model.clone(), part.len(), cost))
+    }
+
+    /// The refusal of a model, with the reasons for it.
+    fn in_words(&self, refusal: Refusal, found: &Found) -> String {
+        let (file, sort) = match &found.lines {
+            Some(lines) => (lines, Sort::SolverText),
+            None => (&found.model, Sort::Model),
+        };
+        let inputs = Inputs {
+            instance: self.file,
+            bound: None,
+            file,
+            sort,
+        };
+        let mut words = Fault::from(refusal).to_string();
+        for reason in reasons(refusal, &inputs) {
+            words += &format!(": {reason}");
+        }
+        words
     }
 
     /// Turns a solver's proof of `claim`, which is one over `formula`, into steps
