@@ -1,8 +1,10 @@
 -- What is read of a text from an offset on: a variable, and a word with the offset after it.
 use Prim.Native.Nat.{ℕ, _+_}
 use mathlib.Core.Path.{_≡_}
+use mathlib.Core.Bool.{_||_, cond}
 use mathlib.Core.List.{List, [], _∷_}
 use mathlib.Core.Option.{Option, none, some}
+use lib.Dec.{eqb}
 use lib.ListN.{length, drop}
 use Rattle.scope.specs.Cnf.{pos, neg}
 use Rattle.scope.specs.SolverText.{until, numeral, atMost, variableIn, literal, closing, malformed, wordOf}
@@ -32,6 +34,10 @@ variableAt n s at = before (variableIn n (wordFrom s at)) (at + length (wordFrom
 abbrev pub variableSaid : Variable → Option (ℕ × ℕ)
 variableSaid (Variable.Of v next) = some (v, next)
 variableSaid Variable.Nothing = none
+
+-- a number of the value v that ends at a byte b, if it does
+abbrev pub endedBy : (b v at : ℕ) → Variable
+endedBy b v at = cond (eqb b 32 || eqb b 10) (Variable.Of v at) Variable.Nothing
 
 abbrev pub positiveOf : Variable → Word
 positiveOf (Variable.Of v next) = Word.Positive v next

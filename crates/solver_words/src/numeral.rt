@@ -1,6 +1,6 @@
 // A variable in decimal digits, from an offset of the text up to the next space or the line's end.
 ghost use mathlib.Core.Path.{_≡_};
-ghost use Rattle.solver_words.specs.Reading.{numeralAt, variableAt, variableSaid};
+ghost use Rattle.solver_words.specs.Reading.{endedBy, numeralAt, variableAt, variableSaid};
 
 const LINE_END: u8 = 10;
 
@@ -16,6 +16,19 @@ pub enum Variable {
     Nothing,
 }
 
+// What is told at a byte below the digits: a space or the line's end ends the number, any other makes it none.
+fn ended(b: u8, value: u32, at: usize) -> Variable
+    ensures { λ r. ⌜ r ≡ endedBy b value at ⌝ }
+{
+    if b == SPACE {
+        return Variable::Of(value, at);
+    }
+    if b == LINE_END {
+        return Variable::Of(value, at);
+    }
+    Variable::Nothing
+}
+
 // The number that the digits spell, if it is `most` at most. No more digits are read than such a number has.
 fn numeral(text: &[u8], from: usize, most: u32) -> Variable
     ensures { λ r. ⌜ variableSaid r ≡ numeralAt most (now (text .entry)) from ⌝ }
@@ -24,16 +37,9 @@ fn numeral(text: &[u8], from: usize, most: u32) -> Variable
     let mut at = from;
     while at < text.len() {
         let b = text[at];
-        if b == SPACE {
-            let v = value as u32;
-            return Variable::Of(v, at);
-        }
-        if b == LINE_END {
-            let v = value as u32;
-            return Variable::Of(v, at);
-        }
         if b < ZERO {
-            return Variable::Nothing;
+            let v = value as u32;
+            return ended(b, v, at);
         }
         if NINE < b {
             return Variable::Nothing;

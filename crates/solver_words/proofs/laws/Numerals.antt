@@ -1,17 +1,18 @@
 -- A number in decimal digits, digit by digit.
 use Prim.Native.Nat.{ℕ, suc, _+_, _-_, _*_, _≤_, _<_}
 use mathlib.Core.Path.{_≡_, refl, sym, _∙_}
-use mathlib.Core.Bool.{Bool, true, false, _&&_, cond}
+use mathlib.Core.Bool.{Bool, true, false, _&&_, _||_, cond}
 use mathlib.Core.List.{List, [], _∷_}
 use mathlib.Core.Option.{Option, none, some}
 use native.Mathlib.Omega.{arith}
-use lib.Dec.{leb}
+use lib.Dec.{leb, eqb}
 use lib.ListN.{length, getD}
-use borrow.Author.Tests.{le-leb, lt-leb}
+use borrow.Author.Tests.{le-leb, lt-leb, eqb-true, eqb-false}
 use Rattle.laws.specs.Booleans.{impossible}
 use Rattle.scope.specs.SolverText.{numeral, atMost}
-use Rattle.solver_words.specs.Reading.{wordFrom, numeralFrom}
-use Rattle.solver_words.proofs.laws.Words.{word-more}
+use Rattle.solver_words.specs.declared.numeral.Variable.{Variable}
+use Rattle.solver_words.specs.Reading.{wordFrom, numeralFrom, variableSaid, endedBy}
+use Rattle.solver_words.proofs.laws.Words.{word-space, word-line-end, word-more}
 
 -- a further digit makes no number smaller
 pub numeral-grows : (v : ℕ) (w : List ℕ) {x : ℕ} → numeral v w ≡ some x → v ≤ x
@@ -40,9 +41,21 @@ module _ (n : ℕ) (s : List ℕ) (v at : ℕ) {whole : Option (ℕ × ℕ)} (so
   numeral-end e h = let z : at + 0 ≡ at = omega arith in sym (so-far ∙ rw (e, le-leb v n h, z))
 
   -- no digit
-  pub numeral-low : at < length s → (getD s at 0 ≡ 32 → ⊥) → (getD s at 0 ≡ 10 → ⊥) → getD s at 0 < 48 → none ≡ whole
+  numeral-low : at < length s → (getD s at 0 ≡ 32 → ⊥) → (getD s at 0 ≡ 10 → ⊥) → getD s at 0 < 48 → none ≡ whole
   unfolding numeral
   numeral-low h d e l = sym (so-far ∙ rw (word-more s at h d e, lt-leb 48 (getD s at 0) l))
+
+  -- a byte below the digits
+  pub numeral-below : at < length s → getD s at 0 < 48 → v ≤ n → variableSaid (endedBy (getD s at 0) v at) ≡ whole
+  numeral-below h l few = space (eqb (getD s at 0) 32) refl
+    where
+      line : (t : Bool) → eqb (getD s at 0) 10 ≡ t → (getD s at 0 ≡ 32 → ⊥) → variableSaid (cond t (Variable.Of v at) Variable.Nothing) ≡ whole
+      line true e d = numeral-end (word-line-end s at h (eqb-true (getD s at 0) 10 e)) few
+      line false e d = numeral-low h d (eqb-false (getD s at 0) 10 e) l
+
+      space : (t : Bool) → eqb (getD s at 0) 32 ≡ t → variableSaid (cond (t || eqb (getD s at 0) 10) (Variable.Of v at) Variable.Nothing) ≡ whole
+      space true e = numeral-end (word-space s at h (eqb-true (getD s at 0) 32 e)) few
+      space false e = line (eqb (getD s at 0) 10) refl (eqb-false (getD s at 0) 32 e)
 
   pub numeral-high : at < length s → 57 < getD s at 0 → none ≡ whole
   unfolding numeral
@@ -65,4 +78,4 @@ module _ (n : ℕ) (s : List ℕ) (v at : ℕ) {whole : Option (ℕ × ℕ)} (so
     pub numeral-over : n < 10 * v + (getD s at 0 - 48) → none ≡ whole
     numeral-over o = sym (numeral-more ∙ rw (too-large n (10 * v + (getD s at 0 - 48)) (wordFrom s (at + 1)) o))
 
-pub ruleset numerals = (numeral-end, numeral-low, numeral-high, numeral-more, numeral-over)
+pub ruleset numerals = (numeral-high, numeral-more, numeral-over)

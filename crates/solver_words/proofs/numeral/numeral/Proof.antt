@@ -5,8 +5,8 @@ use native.Mathlib.Omega.{arith}
 use borrow.Author.Needs.{needs}
 use lib.ListN.{length}
 use Rattle.solver_words.specs.Reading.{numeralAt, numeralFrom}
-use Rattle.solver_words.proofs.laws.Words.{word-past, word-space, word-line-end}
-use Rattle.solver_words.proofs.laws.Numerals.{numerals, numeral-end}
+use Rattle.solver_words.proofs.laws.Words.{word-past}
+use Rattle.solver_words.proofs.laws.Numerals.{numerals, numeral-end, numeral-below}
 use Rattle.solver_words.proofs.numeral.numeral.Statement.{statement}
 use Rattle.solver_words.proofs.numeral.numeral.Tie as tie
 
@@ -25,32 +25,26 @@ shared-slice-read-b c = search needs
 cast-v : tie.Need-cast-v Inv-loop μ-loop
 cast-v c = search needs
 
-returns : tie.Need-returns Inv-loop μ-loop
-returns c = numeral-end _ _ _ _ (c .before .before .before .loop .inv .1) (word-space _ _ (c .before .before .loop-test .taken) (c .if1 .taken)) (c .before .before .before .loop .inv .0)
+ended-requires : tie.Need-ended-requires Inv-loop μ-loop
+ended-requires c κs = search needs
 
-cast-v-2 : tie.Need-cast-v-2 Inv-loop μ-loop
-cast-v-2 c = search needs
+returns : tie.Need-returns Inv-loop μ-loop
+returns c = rw (c .ended .ensures) (numeral-below _ _ _ _ (c .before .before .before .before .loop .inv .1) (c .before .before .before .loop-test .taken) (c .before .if1 .taken) (c .before .before .before .before .loop .inv .0))
 
 returns-2 : tie.Need-returns-2 Inv-loop μ-loop
-returns-2 c = numeral-end _ _ _ _ (c .before .before .before .before .loop .inv .1) (word-line-end _ _ (c .before .before .before .loop-test .taken) (c .if2 .taken)) (c .before .before .before .before .loop .inv .0)
-
-returns-3 : tie.Need-returns-3 Inv-loop μ-loop
-returns-3 c = search (needs, numerals)
-
-returns-4 : tie.Need-returns-4 Inv-loop μ-loop
-returns-4 c = search (needs, numerals)
+returns-2 c = search (needs, numerals)
 
 mul-value : tie.Need-mul-value Inv-loop μ-loop
 mul-value c = search needs
 
 cast-value : tie.Need-cast-value Inv-loop μ-loop
-cast-value c = omega (arith, c .before .before .before .before .shared-slice-known .given (c .before .before .before .before .before .before .loop .at))
+cast-value c = omega (arith, c .before .before .shared-slice-known2 .given (c .before .before .before .before .loop .at))
 
 add-value : tie.Need-add-value Inv-loop μ-loop
-add-value c = omega (arith, c .before .before .before .before .shared-slice-known .given (c .before .before .before .before .before .before .loop .at))
+add-value c = omega (arith, c .before .before .shared-slice-known2 .given (c .before .before .before .before .loop .at))
 
-returns-5 : tie.Need-returns-5 Inv-loop μ-loop
-returns-5 c = search (needs, numerals)
+returns-3 : tie.Need-returns-3 Inv-loop μ-loop
+returns-3 c = search (needs, numerals)
 
 add-at : tie.Need-add-at Inv-loop μ-loop
 add-at c = search needs
@@ -61,11 +55,11 @@ loop-less c = search needs
 loop-again : tie.Need-loop-again Inv-loop μ-loop
 loop-again c = search (needs, numerals)
 
-cast-v-3 : tie.Need-cast-v-3 Inv-loop μ-loop
-cast-v-3 c = search needs
+cast-v-2 : tie.Need-cast-v-2 Inv-loop μ-loop
+cast-v-2 c = search needs
 
-returns-6 : tie.Need-returns-6 Inv-loop μ-loop
-returns-6 c = numeral-end _ _ _ _ (c .before .loop .inv .1) (word-past _ _ (c .loop-test .left)) (c .before .loop .inv .0)
+returns-4 : tie.Need-returns-4 Inv-loop μ-loop
+returns-4 c = numeral-end _ _ _ _ (c .before .loop .inv .1) (word-past _ _ (c .loop-test .left)) (c .before .loop .inv .0)
 
 pub numeral-spec : {M : Type 1} → statement M
 numeral-spec =
@@ -76,17 +70,15 @@ numeral-spec =
     loop-holds
     shared-slice-read-b
     cast-v
+    ended-requires
     returns
-    cast-v-2
     returns-2
-    returns-3
-    returns-4
     mul-value
     cast-value
     add-value
-    returns-5
+    returns-3
     add-at
     loop-less
     loop-again
-    cast-v-3
-    returns-6)
+    cast-v-2
+    returns-4)

@@ -313,6 +313,7 @@ mod tests {
             ("Memory", &MEMORY),
             ("Gaps in ids", &GAPS),
             ("Worst accepted inputs", &WORST),
+            ("Texts of solvers", &SOLVER_TEXTS),
         ] {
             let (_, table) = page
                 .split_once(&format!("\n### {title}\n"))
