@@ -39,6 +39,8 @@
  *        after the 0
  *   21   a variable is missing in a solver's text, or given    lowest such variable, from 1
  *        twice
+ *   22   a count, period or window of a calendar breaks its    offset of its first byte; for
+ *        rules, or there are more than 125 periods or none     all periods that of the 0
  *
  * What every caller owes. A slice is a pointer and the number of its elements;
  * the pointer is good for that many elements. A pointer to an output is good
@@ -89,13 +91,15 @@ enum timetable_refusal {
     TIMETABLE_BAD_END = 18,
     TIMETABLE_SAME_EVENT = 19,
     TIMETABLE_BAD_SOLVER_TEXT = 20,
-    TIMETABLE_NOT_GIVEN_ONCE = 21
+    TIMETABLE_NOT_GIVEN_ONCE = 21,
+    TIMETABLE_BAD_CALENDAR = 22
 };
 
 /* The limits of an instance. */
 #define TIMETABLE_MOST_TIMES 125
 #define TIMETABLE_MOST_EVENTS 1024
 #define TIMETABLE_MOST_RESOURCES 99
+/* Of the groups that are written out; windows are groups too. */
 #define TIMETABLE_MOST_GROUPS 1024
 #define TIMETABLE_MOST_CONSTRAINTS 4096
 #define TIMETABLE_LARGEST_WEIGHT 1000
@@ -105,15 +109,29 @@ enum timetable_refusal {
 #define TIMETABLE_LARGEST_GAP 124
 #define TIMETABLE_LONGEST_LIST 255
 
+/* The limits of a calendar: its days, a day's periods, a day's minutes. */
+#define TIMETABLE_DAYS 7
+#define TIMETABLE_MOST_PERIODS 24
+#define TIMETABLE_LAST_MINUTE 1440
+#define TIMETABLE_MOST_WINDOWS 1024
+
 /* The limits of a check's bound and of a formula. */
 #define TIMETABLE_LARGEST_BOUND 4095
 #define TIMETABLE_MOST_VARIABLES 8000000
 
 /*
- * Reads an instance file.
- * Refusals: 1 to 6 and 19, by their places in the file, 19 before 5.
+ * Reads an instance file. It gives the number of times, or a 0 and a calendar:
+ * for each of seven days a count and its periods, each a start and an end in
+ * minutes, which the times number day by day. After its time groups stand the
+ * windows of a calendar, a count and each: a day from 1 to 7, from and to. A
+ * window is the group of that day's periods that start at from or later and end
+ * at to or earlier; windows are numbered on from the time groups.
+ * Refusals: 1 to 6, 19 and 22, by their places in the file, 19 before 5; 22 in
+ * place of 2 inside calendar and windows, and for the number of all periods
+ * after the last day.
  * Accepted: *times, *events, *resources, *groups and *constraints are how many
- * of each the instance has; *value is left alone.
+ * of each the instance has, with the periods of a calendar as times and windows
+ * among the groups; *value is left alone.
  */
 uint32_t timetable_read(const uint8_t *file, size_t file_length,
                         uint64_t *times, uint64_t *events,
@@ -123,7 +141,7 @@ uint32_t timetable_read(const uint8_t *file, size_t file_length,
 /*
  * What a proof check needs of the caller's stores at a bound: the sizes of the
  * hard clauses and the tail for the bound.
- * Refusals: 1 to 6 and 19 for the file, then 7, then 8, the tail included.
+ * Refusals: 1 to 6, 19 and 22 for the file, then 7, then 8, the tail included.
  * Accepted: *variables is how many variables there are, *clauses how many
  * clauses, and *words how many literals they have; *value is left alone.
  */
@@ -134,7 +152,7 @@ uint32_t timetable_sizes(const uint8_t *file, size_t file_length,
 
 /*
  * The score of a timetable: E x T bytes "taken", then E x T bytes "starts".
- * Refusals: 1 to 6 and 19 for the file, then 10 to 12 for the timetable.
+ * Refusals: 1 to 6, 19 and 22 for the file, then 10 to 12 for the timetable.
  * Accepted: *infeasibility is the sum of the deviations of hard constraints,
  * and *objective, the cost, the sum of weight x deviation of the others;
  * *value is left alone.
@@ -172,8 +190,8 @@ void timetable_idle_step(uint32_t idle, uint32_t since, uint32_t seen,
 
 /*
  * Whether two timetables are the same sheet: whether their bytes "taken" agree.
- * Refusals: 1 to 6 and 19 for the file, then 10 to 12 for the first timetable,
- * then 10 to 12 for the second.
+ * Refusals: 1 to 6, 19 and 22 for the file, then 10 to 12 for the first
+ * timetable, then 10 to 12 for the second.
  * Accepted: *value is 1 if they are the same sheet, and 0 if they are not.
  */
 uint32_t timetable_same_sheet(const uint8_t *file, size_t file_length,
@@ -183,7 +201,7 @@ uint32_t timetable_same_sheet(const uint8_t *file, size_t file_length,
 
 /*
  * How long the clauses are as text for solvers, in the older "p wcnf" form.
- * Refusals: 1 to 6 and 19 for the file, then 8.
+ * Refusals: 1 to 6, 19 and 22 for the file, then 8.
  * Accepted: *bytes is the text's length; *value is left alone.
  */
 uint32_t timetable_text_size(const uint8_t *file, size_t file_length,
@@ -191,8 +209,8 @@ uint32_t timetable_text_size(const uint8_t *file, size_t file_length,
 
 /*
  * Writes the clauses as text for solvers to the front of out.
- * Refusals: 1 to 6 and 19 for the file, then 8, then 9 if out is shorter than
- * the text.
+ * Refusals: 1 to 6, 19 and 22 for the file, then 8, then 9 if out is shorter
+ * than the text.
  * Accepted: *value is the text's length; the bytes of out after it are left
  * alone.
  */
@@ -202,7 +220,7 @@ uint32_t timetable_text(const uint8_t *file, size_t file_length, uint8_t *out,
 /*
  * Reads the timetable and its cost out of a model: a byte, 0 or 1, for each
  * variable of the clauses without the tail.
- * Refusals: 1 to 6 and 19 for the file, then 8, then 10, 11 and 13 for the
+ * Refusals: 1 to 6, 19 and 22 for the file, then 8, then 10, 11 and 13 for the
  * model.
  * Accepted: *objective is the weight of the soft clauses that the model
  * falsifies, which is the timetable's cost, and *value is how many bytes of
@@ -225,11 +243,11 @@ uint32_t timetable_decode(const uint8_t *file, size_t file_length,
  * a byte for each variable, and longer is no fault. What the two hold before the
  * call does not matter; after it, whatever it answers, every byte of store is
  * zero.
- * Refusals: 1 to 6 and 19 for the file, then 8, then 9 if store is too short,
- * then 10 for the model's length, then 20 and 21 for the text, then 13 for the
- * model that it gives. 20 gives where the line or the number begins, or the
- * offset after a v that no space follows; an empty line is one of another kind.
- * 21 comes after the last line.
+ * Refusals: 1 to 6, 19 and 22 for the file, then 8, then 9 if store is too
+ * short, then 10 for the model's length, then 20 and 21 for the text, then 13
+ * for the model that it gives. 20 gives where the line or the number begins,
+ * or the offset after a v that no space follows; an empty line is one of
+ * another kind. 21 comes after the last line.
  * Accepted: byte v - 1 of the model is 1 if the literal v was given, and 0 if
  * -v was; *objective is the model's cost, and *value is how many bytes of the
  * model, from its first, are the timetable.
@@ -260,8 +278,8 @@ struct timetable_row {
  * timetable_room what the proof adds: each of its clauses that is not empty
  * needs a row, and a word for each of its literals. What the stores hold before the call does not matter; after it,
  * whatever it answers, every word, mark and field of a row is zero.
- * Refusals: 1 to 6 and 19 for the file, then 7, then 8, then 9 if a store is
- * too short for the formula, then 14 to 18 for the proof, step by step.
+ * Refusals: 1 to 6, 19 and 22 for the file, then 7, then 8, then 9 if a store
+ * is too short for the formula, then 14 to 18 for the proof, step by step.
  * Accepted, which is the answer "no timetable": *value is the number of steps.
  */
 uint32_t timetable_check(const uint8_t *file, size_t file_length,
@@ -276,9 +294,9 @@ uint32_t timetable_check(const uint8_t *file, size_t file_length,
  * costs: one against the hard clauses alone, without the tail.
  * The stores are as for timetable_check. The hard clauses need no more than
  * timetable_sizes says at bound 0.
- * Refusals: 1 to 6 and 19 for the file, then 8 without the tail, then 9 if a
- * store is too short for the hard clauses, then 14 to 18 for the proof, step by
- * step.
+ * Refusals: 1 to 6, 19 and 22 for the file, then 8 without the tail, then 9 if
+ * a store is too short for the hard clauses, then 14 to 18 for the proof, step
+ * by step.
  * Accepted, which is the answer "no timetable": *value is the number of steps.
  */
 uint32_t timetable_check_hard(const uint8_t *file, size_t file_length,

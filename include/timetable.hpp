@@ -58,6 +58,7 @@ template <typename T> struct result {
     explicit operator bool() const { return refusal == TIMETABLE_ACCEPTED; }
 };
 
+/* The windows of a calendar are among the groups. */
 struct counts {
     std::uint64_t times, events, resources, groups, constraints;
 };

@@ -83,6 +83,93 @@ static void read_same_event(void)
     expect("constraints, events that are one", constraints, kept);
 }
 
+/*
+ * Day 1 with periods from 480 to 525 and from 530 to 575, no other day; one event of
+ * duration 1; a window of day 1 from 480 to 525, which is group 1; kind 3 of the event
+ * and that group at weight 4.
+ */
+static const uint8_t week[] = {0,    2, 0xe0, 3, 0x8d, 4, 0x92, 4, 0xbf, 4, 0, 0,
+                               0,    0, 0,    0, 1,    0, 1,    0, 0,    1, 1, 0xe0,
+                               3, 0x8d, 4,    1, 3,    4, 1,    1};
+
+static void read_calendar(void)
+{
+    uint64_t times = kept, events = kept, resources = kept, groups = kept;
+    uint64_t constraints = kept, value = kept;
+    uint32_t number = timetable_read(week, sizeof week, &times, &events, &resources,
+                                     &groups, &constraints, &value);
+    expect("read, a calendar", number, 0);
+    expect("times, a calendar", times, 2);
+    expect("events, a calendar", events, 1);
+    expect("resources, a calendar", resources, 0);
+    expect("groups, a calendar", groups, 1);
+    expect("constraints, a calendar", constraints, 1);
+    expect("value, a calendar", value, kept);
+}
+
+/* The first period's part of the day costs nothing, the second's the weight. */
+static void scored_calendar(void)
+{
+    static const uint8_t tables[2][4] = {{1, 0, 1, 0}, {0, 1, 0, 1}};
+    size_t i;
+    for (i = 0; i < 2; i++) {
+        uint64_t infeasibility = kept, objective = kept, value = kept;
+        uint32_t number = timetable_score(week, sizeof week, tables[i], sizeof tables[i],
+                                          &infeasibility, &objective, &value);
+        expect("score, a calendar", number, 0);
+        expect("infeasibility, a calendar", infeasibility, 0);
+        expect("objective, a calendar", objective, 4 * i);
+        expect("value, a calendar, scored", value, kept);
+    }
+}
+
+/* A byte of the calendar changed, and what is refused. */
+struct damage {
+    size_t at;
+    uint8_t byte;
+    uint32_t number;
+    uint64_t value;
+};
+
+static void calendar_refused(void)
+{
+    static const struct damage damages[] = {
+        {1, 25, TIMETABLE_BAD_CALENDAR, 1},      /* 25 periods */
+        {3, 0, TIMETABLE_BAD_NUMBER, 2},         /* overlong */
+        {3, 12, TIMETABLE_BAD_CALENDAR, 2},      /* a start of 1632 */
+        {5, 12, TIMETABLE_BAD_CALENDAR, 2},      /* an end of 1549 */
+        {5, 3, TIMETABLE_BAD_CALENDAR, 2},       /* an end of 397 */
+        {6, 0x8c, TIMETABLE_BAD_CALENDAR, 6},    /* a start of 524 */
+        {10, 24, TIMETABLE_BAD_CALENDAR, 11},    /* 0 to 0, on day 2 */
+        {18, 3, TIMETABLE_OUTSIDE_LIMIT, 18},    /* a duration of 3 */
+        {22, 0, TIMETABLE_BAD_CALENDAR, 22},     /* day 0 */
+        {22, 8, TIMETABLE_BAD_CALENDAR, 22},     /* day 8 */
+        {26, 12, TIMETABLE_BAD_CALENDAR, 22},    /* up to 1549 */
+        {31, 2, TIMETABLE_BAD_REFERENCE, 31},    /* group 2 */
+    };
+    static const uint8_t none[] = {0, 0, 0, 0, 0, 0, 0, 0, 1, 0};
+    uint64_t times = kept, events = kept, resources = kept, groups = kept;
+    uint64_t constraints = kept, value = kept;
+    uint32_t number;
+    size_t i;
+    for (i = 0; i < sizeof damages / sizeof *damages; i++) {
+        uint8_t damaged[sizeof week];
+        memcpy(damaged, week, sizeof week);
+        damaged[damages[i].at] = damages[i].byte;
+        value = kept;
+        number = timetable_read(damaged, sizeof damaged, &times, &events, &resources,
+                                &groups, &constraints, &value);
+        expect("read, a damaged calendar", number, damages[i].number);
+        expect("value, a damaged calendar", value, damages[i].value);
+        expect("times, a damaged calendar", times, kept);
+        expect("groups, a damaged calendar", groups, kept);
+    }
+    number = timetable_read(none, sizeof none, &times, &events, &resources, &groups,
+                            &constraints, &value);
+    expect("read, a calendar without periods", number, 22);
+    expect("value, a calendar without periods", value, 0);
+}
+
 static void sized(void)
 {
     uint64_t variables = kept, clauses = kept, words = kept, value = kept;
@@ -468,6 +555,9 @@ int main(void)
     read_accepted();
     read_refused();
     read_same_event();
+    read_calendar();
+    scored_calendar();
+    calendar_refused();
     sized();
     sizes_refused();
     scored();

@@ -18,6 +18,9 @@ static const bytes longer = {'a', 17, 6, 0, 5, 0, 'd', 5, 0, 'a', 18, 0, 17, 4, 
 /* The same file with its constraint hard, and a refutation of its hard clauses. */
 static const bytes hard = {1, 1, 0, 1, 0, 1, 0, 1, 3, 0, 1, 1};
 static const bytes hard_proof = {'a', 9, 0, 5, 4, 2, 6, 8, 0};
+/* Two periods of day 1, a window over the first, kind 3 of one event in it at weight 4. */
+static const bytes week = {0, 2, 0xe0, 3, 0x8d, 4, 0x92, 4, 0xbf, 4, 0, 0, 0,    0, 0, 0,
+                           1, 0, 1,    0, 0,    1, 1,    0xe0, 3, 0x8d, 4, 1, 3, 4, 1, 1};
 static const bytes nothing;
 
 static int failures = 0;
@@ -70,6 +73,21 @@ static void operations()
     expect("best", best && best.answer.objective == 4 && best.answer.steps == 1);
     refused("best, no model", timetable::best(file, no_model, proof), TIMETABLE_CLAUSE_FALSE,
             6);
+}
+
+/* A calendar with a window. */
+static void calendars()
+{
+    timetable::result<timetable::counts> counts = timetable::read(week);
+    expect("read, a calendar", counts && counts.answer.times == 2 && counts.answer.groups == 1);
+    timetable::result<timetable::amounts> amounts = timetable::score(week, bytes{0, 1, 0, 1});
+    expect("score, a calendar",
+           amounts && amounts.answer.infeasibility == 0 && amounts.answer.objective == 4);
+    bytes late = week;
+    late[6] = 0x8c;
+    refused("read, a period that starts early", timetable::read(late), TIMETABLE_BAD_CALENDAR,
+            6);
+    refused("check, no day", timetable::check(bytes(8), 3, proof), TIMETABLE_BAD_CALENDAR, 0);
 }
 
 /* What a solver printed. */
@@ -141,6 +159,7 @@ static void empty_slices()
 int main()
 {
     operations();
+    calendars();
     solver_texts();
     idle_times();
     empty_slices();

@@ -35,7 +35,7 @@ fn follow(
     }
 }
 
-// "No timetable" with the number of steps, or refusals 1 to 9 and 14 to 19; without the tail 7 is never given. What the stores
+// "No timetable" with the number of steps, or refusals 1 to 9, 14 to 19 and 22; without the tail 7 is never given. What the stores
 // hold does not matter; afterwards they are zero.
 pub fn check(
     file: &[u8],

@@ -1,10 +1,11 @@
 -- The walk over the constraints of a file: what it is lent, and what is known after each of them.
 use mathlib.Core.Path.{_≡_}
 use mathlib.Core.List.{List}
-use Prim.Native.Nat.{ℕ}
+use Prim.Native.Nat.{ℕ, _*_, _≤_}
 use lib.ListN.{length, take}
 use Rattle.scope.specs.Kinds.{Constraint}
 use Rattle.scope.specs.Cnf.{Item}
+use Rattle.tables.specs.Room.{groupRoom}
 use Rattle.constraint.specs.declared.kinds.Head.{Head}
 use Rattle.constraint.specs.Walk.{constraintsIn}
 use Rattle.instance.specs.Laws.{Accepted}
@@ -25,6 +26,6 @@ pub record Walkable (s d us tg list : List ℕ) (h : Head) (v : ℕ) : Type 0 wh
   pub accepted : Accepted s d resources tg h
   pub filled : Filled us (usersIn resources (h .events))
   pub durations-long : length d ≡ 1024
-  pub groups-long : length tg ≡ 129024
+  pub groups-long : groupRoom s * 126 ≤ length tg
   pub list-long : length list ≡ 2048
   pub room : Room v (itemsOf d us tg h (constraintsIn h s) v)

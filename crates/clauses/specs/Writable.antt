@@ -11,7 +11,7 @@ use Rattle.sink.specs.Lines.{Line, lines}
 
 pub record Writable (s d te tg list : List ℕ) (h : Head) : Type 0 where
   pub accepted : Accepted s d te tg h
-  pub stores : Stores d te tg list
+  pub stores : Stores s d te tg list
   pub few : variables (instanceOf s d te tg h) ≤ 8000000
 
 -- the lines of an instance's formula

@@ -14,7 +14,7 @@ pub struct Decoding<'a> {
     pub answer: DecodeAnswer,
 }
 
-// The part of the model that holds Y and S with the cost, or refusals 1 to 6, 8, 10, 11, 13 and 19.
+// The part of the model that holds Y and S with the cost, or refusals 1 to 6, 8, 10, 11, 13, 19 and 22.
 pub fn decode<'a>(file: &[u8], model: &'a [u8]) -> Decoding<'a>
     ensures { λ r. ⌜ (decodeMeans (now (r .part)) (r .answer) ≡ decodeOf (now (file .entry)) (now (model .entry)))
         × (now (r .part) ≡ partGiven (decodeOf (now (file .entry)) (now (model .entry)))) ⌝ }

@@ -3,3 +3,4 @@ pub mod Calls
 pub mod Beyond
 pub mod Drawn
 pub mod Printed
+pub mod Spelled

@@ -7,7 +7,7 @@ ghost use mathlib.Core.Path.{_≡_};
 ghost use Rattle.calls.specs.Call.{call};
 ghost use Rattle.operation_calls.specs.Operations.{checkHardCall};
 
-// "No timetable" at any cost, with the number of steps in *value; or 1 to 6, 8, 9, 14 to 19. The stores are zero afterwards.
+// "No timetable" at any cost, with the number of steps in *value; or 1 to 6, 8, 9, 14 to 19, 22. The stores are zero afterwards.
 #[no_mangle]
 pub extern "C" fn timetable_check_hard(
     file: &[u8],

@@ -37,7 +37,7 @@ ghost use Rattle.calls.specs.Call.{call, leaves};
 ghost use Rattle.calls.specs.Outputs.{amounts, formulaSize, instanceSize, leavesSameness};
 ghost use Rattle.operation_calls.specs.Operations.{checkCall, decodeCall, textCall};
 
-// Reads an instance file: how much it holds, or 1 to 6, 19.
+// Reads an instance file: how much it holds, or 1 to 6, 19, 22.
 #[no_mangle]
 pub extern "C" fn timetable_read(
     file: &[u8],
@@ -57,7 +57,7 @@ pub extern "C" fn timetable_read(
     leave_counts(answer, times, events, resources, groups, constraints, value)
 }
 
-// What stores the hard clauses and the tail for a bound need, or 1 to 8, 19.
+// What stores the hard clauses and the tail for a bound need, or 1 to 8, 19, 22.
 #[no_mangle]
 pub extern "C" fn timetable_sizes(
     file: &[u8],
@@ -75,7 +75,7 @@ pub extern "C" fn timetable_sizes(
     leave_sizes(answer, variables, clauses, words, value)
 }
 
-// The infeasibility and the objective of a timetable, or 1 to 6, 10 to 12, 19.
+// The infeasibility and the objective of a timetable, or 1 to 6, 10 to 12, 19, 22.
 #[no_mangle]
 pub extern "C" fn timetable_score(
     file: &[u8],
@@ -92,7 +92,7 @@ pub extern "C" fn timetable_score(
     leave_amounts(answer, infeasibility, objective, value)
 }
 
-// Whether two timetables are the same sheet, 1 or 0 in *value, or 1 to 6, 10 to 12, 19.
+// Whether two timetables are the same sheet, 1 or 0 in *value, or 1 to 6, 10 to 12, 19, 22.
 #[no_mangle]
 pub extern "C" fn timetable_same_sheet(
     file: &[u8],
@@ -107,7 +107,7 @@ pub extern "C" fn timetable_same_sheet(
     leave_sameness(answer, value)
 }
 
-// The length of the clauses as text, or 1 to 6, 8, 19.
+// The length of the clauses as text, or 1 to 6, 8, 19, 22.
 #[no_mangle]
 pub extern "C" fn timetable_text_size(file: &[u8], bytes: &mut u64, value: &mut u64) -> u32
     ensures { λ r. ⌜ call r (now (value .exit)) (now (bytes .exit))
@@ -117,7 +117,7 @@ pub extern "C" fn timetable_text_size(file: &[u8], bytes: &mut u64, value: &mut 
     leave_length(answer, bytes, value)
 }
 
-// The clauses as text at the front of out, their length in *value; or 1 to 6, 8, 9, 19.
+// The clauses as text at the front of out, their length in *value; or 1 to 6, 8, 9, 19, 22.
 #[no_mangle]
 pub extern "C" fn timetable_text(file: &[u8], out: &mut [u8], value: &mut u64) -> u32
     ensures { λ r. ⌜ call r (now (value .exit)) (now (out .exit)) ≡ textCall (now (file .entry)) (now (out .entry)) ⌝ }
@@ -126,7 +126,7 @@ pub extern "C" fn timetable_text(file: &[u8], out: &mut [u8], value: &mut u64) -
     leave_written(answer, value)
 }
 
-// How many bytes of a model, from its first, are the timetable, in *value, and its cost; or 1 to 6, 8, 10, 11, 13, 19.
+// How many bytes of a model, from its first, are the timetable, in *value, and its cost; or 1 to 6, 8, 10, 11, 13, 19, 22.
 #[no_mangle]
 pub extern "C" fn timetable_decode(
     file: &[u8],
@@ -141,7 +141,7 @@ pub extern "C" fn timetable_decode(
     leave_evaluation(answer, objective, value)
 }
 
-// "No timetable", with the number of steps in *value; or 1 to 9, 14 to 19. The stores are zero afterwards.
+// "No timetable", with the number of steps in *value; or 1 to 9, 14 to 19, 22. The stores are zero afterwards.
 #[no_mangle]
 pub extern "C" fn timetable_check(
     file: &[u8],

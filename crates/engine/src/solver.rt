@@ -6,7 +6,7 @@ ghost use Rattle.calls.specs.Call.{call};
 ghost use Rattle.operation_calls.specs.Operations.{solverTextCall};
 
 // The lent model filled from the text: how many of its bytes, from its first, are the timetable, in *value, and its cost; or 1 to 6, 8,
-// 9, 10, 13, 19 to 21, and the lent model as it was. The store is zero afterwards.
+// 9, 10, 13, 19 to 22, and the lent model as it was. The store is zero afterwards.
 #[no_mangle]
 pub extern "C" fn timetable_solver_text(
     file: &[u8],

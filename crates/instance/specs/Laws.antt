@@ -10,6 +10,7 @@ use Rattle.parsing.specs.Each.{Each}
 use Rattle.parsing.specs.Numbers.{Ascending}
 use Rattle.tables.specs.Rows.{rows, eventsOf}
 use Rattle.tables.specs.Reading.{EventIn}
+use Rattle.tables.specs.Room.{groupRoom}
 use Rattle.constraint.specs.declared.kinds.Head.{Head}
 use Rattle.constraint.specs.Answers.{countsIn}
 use Rattle.constraint.specs.Bounds.{lowOf, highOf}
@@ -33,7 +34,7 @@ pub record ConstraintOf (n : Counts) (t : Start) (c : Constraint) : Type 0 where
 pub record Accepted (s d te tg : List ℕ) (h : Head) : Type 0 where
   pub parsed : parse s ≡ got (instanceOf s d te tg h) (length s)
   pub sizes : SizesIn (h .times) (h .events) (h .resources)
-  pub groups-high : h .groups ≤ 1024
+  pub groups-high : h .groups ≤ groupRoom s
   pub constraints-high : h .constraints ≤ 4096
   pub events : Each (EventIn (h .times) (h .resources)) (eventsOf d te (h .events))
   pub groups : Each (Ascending (h .times) 0) (rows tg (h .groups))

@@ -1,20 +1,21 @@
 // Reading the whole file: sizes, events and groups into tables, then the constraints.
 use crate::walk::constraints_whole;
+use calendar::times_at;
 use constraint::Head;
 use number::Number;
 use number::limited;
 use number::refusal_of;
 use scope::Refusal;
 use table_lists::events_at;
-use table_lists::groups_at;
+use windows::all_groups_at;
 ghost use mathlib.Core.Path.{_≡_};
 ghost use mathlib.Core.List.{List};
 ghost use Prim.Native.Nat.{ℕ};
-ghost use Rattle.scope.specs.Instance.{sizesAt, parse};
+ghost use Rattle.scope.specs.Instance.{parse};
 ghost use Rattle.constraint_end.specs.Ready.{Lent};
 ghost use Rattle.instance.specs.declared.reader.SizesRead.{SizesRead};
 ghost use Rattle.instance.specs.Answers.{saidSizes, saidTables, saidFile, headOf};
-ghost use Rattle.instance.specs.File.{tablesAt};
+ghost use Rattle.instance.specs.File.{sizesIn, tablesAt};
 ghost use Rattle.instance.specs.Stores.{Tables, Stores};
 
 // How many times, events, resources and groups there are.
@@ -31,7 +32,7 @@ pub enum SizesRead {
     Refused(Refusal),
 }
 
-// A whole file, read into the tables: 1 to 6 and 19, or what its head says.
+// A whole file, read into the tables: 1 to 6, 19 and 22, or what its head says.
 pub enum File {
     Accepted(Head),
     Refused(Refusal),
@@ -39,9 +40,9 @@ pub enum File {
 
 // Times, events and resources; the groups come later.
 fn sizes_at(s: &[u8]) -> SizesRead
-    ensures { λ r. ⌜ saidSizes r ≡ sizesAt (now (s .entry)) ⌝ }
+    ensures { λ r. ⌜ saidSizes r ≡ sizesIn (now (s .entry)) ⌝ }
 {
-    let t = limited(s, 0, 1, 125);
+    let t = times_at(s);
     let Number::Value(times, a) = t else {
         return SizesRead::Refused(refusal_of(t));
     };
@@ -64,9 +65,9 @@ fn sizes_at(s: &[u8]) -> SizesRead
     )
 }
 
-// The sizes, and the events and groups into their tables.
+// The sizes, and the events, groups and windows into their tables.
 fn tables_at(s: &[u8], durations: &mut [u8], resources: &mut [u8], groups: &mut [u8]) -> SizesRead
-    requires { ⌜ Tables (now durations) (now resources) (now groups) ⌝ }
+    requires { ⌜ Tables (now s) (now durations) (now resources) (now groups) ⌝ }
     ensures { λ r. ⌜ saidTables (now (durations .exit)) (now (resources .exit)) (now (groups .exit)) r ≡ tablesAt (now (s .entry)) ⌝ }
 {
     let z = sizes_at(s);
@@ -77,7 +78,7 @@ fn tables_at(s: &[u8], durations: &mut [u8], resources: &mut [u8], groups: &mut 
     let Number::Value(_, b) = e else {
         return SizesRead::Refused(refusal_of(e));
     };
-    let g = groups_at(s, b, w.times, groups);
+    let g = all_groups_at(s, b, w.times, groups);
     let Number::Value(count, c) = g else {
         return SizesRead::Refused(refusal_of(g));
     };
@@ -131,7 +132,7 @@ pub fn read(
     groups: &mut [u8],
     list: &mut [u16],
 ) -> File
-    requires { ⌜ Stores (now durations) (now resources) (now groups) (now list) ⌝ }
+    requires { ⌜ Stores (now file) (now durations) (now resources) (now groups) (now list) ⌝ }
     ensures { λ r. ⌜ saidFile (now (file .entry)) (now (durations .exit)) (now (resources .exit)) (now (groups .exit)) r ≡ parse (now (file .entry)) ⌝ }
 {
     match tables_at(file, durations, resources, groups) {

@@ -9,7 +9,9 @@ use sizes::Measured;
 use sizes::measure;
 use sizing::Size;
 ghost use mathlib.Core.Path.{_≡_};
-ghost use Prim.Native.Nat.{_*_};
+ghost use Prim.Native.Nat.{_*_, _≤_};
+ghost use lib.ListN.{length};
+ghost use Rattle.tables.specs.Room.{groupRoom};
 ghost use Rattle.instance.specs.Start.{SizesIn};
 ghost use Rattle.instance.specs.Stores.{Stores};
 ghost use Rattle.sizes.specs.Measured.{SizedBy};
@@ -35,7 +37,7 @@ pub fn evaluate_read(
     groups: &[u8],
     list: &mut [u16],
 ) -> Evaluation
-    requires { ⌜ SizedBy (now file) (now durations) (now resources) (now groups) head size × Stores (now durations) (now resources) (now groups) (now list) ⌝ }
+    requires { ⌜ SizedBy (now file) (now durations) (now resources) (now groups) head size × Stores (now file) (now durations) (now resources) (now groups) (now list) ⌝ }
     ensures { λ r. ⌜ EvaluatedAs (now (file .entry)) (now (model .entry)) r ⌝ }
 {
     let form = form_of(model, size.variables);
@@ -49,16 +51,15 @@ pub fn evaluate_read(
     }
 }
 
-// The length of the part with Y and S and the falsified soft weight, or refusals 1 to 6, 8, 10, 11, 13 and 19. One run over the
-// clauses serves both; the work is linear in the formula.
-pub fn evaluate(file: &[u8], model: &[u8]) -> Evaluation
+// The evaluation, with a table for the groups that has the rows that the file may need.
+fn evaluate_in(file: &[u8], model: &[u8], groups: &mut [u8]) -> Evaluation
+    requires { ⌜ groupRoom (now file) * 126 ≤ length (now groups) ⌝ }
     ensures { λ r. ⌜ EvaluatedAs (now (file .entry)) (now (model .entry)) r ⌝ }
 {
     let mut durations = tables::durations();
     let mut resources = tables::resource_rows();
-    let mut groups = tables::group_rows();
     let mut list = tables::list();
-    let m = measure(file, &mut durations, &mut resources, &mut groups, &mut list);
+    let m = measure(file, &mut durations, &mut resources, groups, &mut list);
     match m {
         Measured::Sized(head, size) => evaluate_read(
             file,
@@ -67,9 +68,22 @@ pub fn evaluate(file: &[u8], model: &[u8]) -> Evaluation
             size,
             &durations,
             &resources,
-            &groups,
+            groups,
             &mut list,
         ),
         Measured::Refused(f) => Evaluation::Refused(f),
     }
+}
+
+// The length of the part with Y and S and the falsified soft weight, or refusals 1 to 6, 8, 10, 11, 13, 19 and 22. One run over the
+// clauses serves both; the work is linear in the formula.
+pub fn evaluate(file: &[u8], model: &[u8]) -> Evaluation
+    ensures { λ r. ⌜ EvaluatedAs (now (file .entry)) (now (model .entry)) r ⌝ }
+{
+    if tables::dated(file) {
+        let mut groups = tables::window_rows();
+        return evaluate_in(file, model, &mut groups);
+    }
+    let mut groups = tables::group_rows();
+    evaluate_in(file, model, &mut groups)
 }

@@ -21,7 +21,7 @@ pub fn truth_of(
     groups: &[u8],
     list: &mut [u16],
 ) -> Sink
-    requires { ⌜ SizedBy (now file) (now durations) (now resources) (now groups) head size × Stores (now durations) (now resources) (now groups) (now list) ⌝ }
+    requires { ⌜ SizedBy (now file) (now durations) (now resources) (now groups) head size × Stores (now file) (now durations) (now resources) (now groups) (now list) ⌝ }
     ensures { λ r. ⌜ TruthOf (instanceOf (now (file .entry)) (now (durations .entry)) (now (resources .entry)) (now (groups .entry)) head) (now (model .entry)) r ⌝ }
 {
     let mut text = [0u8; 1];

@@ -2,4 +2,5 @@
 pub mod Parsing
 pub mod Each
 pub mod Numbers
+pub mod Calendar
 pub mod ValidRows

@@ -3,6 +3,7 @@ use Prim.Native.Nat.{ℕ, _+_, _*_, _≤_}
 use mathlib.Core.Path.{_≡_}
 use mathlib.Core.List.{List}
 use lib.ListN.{length}
+use Rattle.tables.specs.Room.{groupRoom}
 use Rattle.constraint.specs.declared.kinds.Head.{Head}
 use Rattle.constraint.specs.Walk.{constraintsIn}
 use Rattle.instance.specs.Answers.{instanceOf}
@@ -25,7 +26,7 @@ pub record Walkable (s d us tg list store : List ℕ) (h : Head) (cols : ℕ) (b
   pub resources : List ℕ
   pub tabled : Tabled s d resources us tg h
   pub durations-long : length d ≡ 1024
-  pub groups-long : length tg ≡ 129024
+  pub groups-long : groupRoom s * 126 ≤ length tg
   pub list-long : length list ≡ 2048
   pub store-long : length store ≡ 34816
   pub columns : cols ≤ 4096

@@ -1,15 +1,17 @@
--- Demands 2 and 3, what is owed for the two operations beside them, what kinds 3, 9, 10 and 11 count, idle times in one walk, and what
--- is read of a solver's text, as types over the definitions. The upper crates prove them.
+-- Demands 2 and 3, what is owed for the two operations beside them, what kinds 3, 9, 10 and 11 count, idle times in one walk, what is
+-- read of a solver's text, and what a window stands for, as types over the definitions. The upper crates prove them.
 use mathlib.Core.Path.{_≡_}
-use mathlib.Core.Bool.{Bool, true, not, _||_, cond}
+use mathlib.Core.Bool.{Bool, true, not, _&&_, _||_, cond}
 use mathlib.Core.Logic.{_↔_}
 use mathlib.Core.List.{List, [], map, foldl, sum}
 use Prim.Native.Nat.{ℕ, _+_, _-_, _*_, _≤_, _<_}
 use lib.ListN.{length, getD, take}
-use lib.Dec.{ltb, eqb}
+use lib.Dec.{leb, ltb, eqb}
 use Rattle.scope.specs.Parsed.{got, answered}
 use Rattle.scope.specs.Kinds.{preferred, idle, distribute, lengths, precedence, Atom, Listed, entries, usesAt, gaps, member, eventOf, groupAt, fromOutside, ofLength, ofLengthOutside, early, late, gapOutside, rulesOf}
-use Rattle.scope.specs.Instance.{Instance, parse}
+use Rattle.scope.specs.Calendar.{Period, periodCount, windowOf}
+use Rattle.scope.specs.Instance.{Instance, fileUpTo, parse}
+use Rattle.scope.specs.SpelledOut.{spelledOut}
 use Rattle.scope.specs.Cnf.{gate, hardClauses, bit, clauses}
 use Rattle.scope.specs.Score.{deviation, count, deviations, rules, eventRight}
 use Rattle.scope.specs.Subevents.{subevents, timesHeld, lengthsFrom}
@@ -17,11 +19,11 @@ use Rattle.scope.specs.Gap.{timesTaken, gapWithin}
 use Rattle.scope.specs.Idle.{idleTimes, keptAfter, yes, idleStepOf}
 use Rattle.scope.specs.Formula.{nodeGate, variables, hardOf, words, mostVariables}
 use Rattle.scope.specs.SolverText.{modelIn, modelText}
-use Rattle.scope.specs.Operations.{scoreOf, decodeOf, part, falsifiedSoft, solverTextOf, checkOf, checkHardOf, bestOf, Lent}
+use Rattle.scope.specs.Operations.{readOf, scoreOf, sameSheetOf, sizesOf, textSizeOf, textOf, decodeOf, part, falsifiedSoft, solverTextOf, checkOf, checkHardOf, bestOf, Lent}
 use Rattle.scope.specs.Refutation.{NoTimetable, NoneAtAll}
 use Rattle.scope.specs.declared.Objective.{Objective}
 
--- "an accepted instance": the file gives none of 1 to 6 and 19
+-- "an accepted instance": the file gives none of 1 to 6, 19 and 22
 pub record Accepted (file : List ℕ) (i : Instance) : Type 0 where
   pub end : ℕ
   pub parsed : parse file ≡ got i end
@@ -171,3 +173,42 @@ pub record DemandSolverText : Type 0 where
   pub only-models : (file : List ℕ) (i : Instance) → Accepted file i → (output : List ℕ) (model store : ℕ) (m t : List ℕ) (cost : Objective)
       → solverTextOf file output model store ≡ answered (m, (t, cost))
       → (modelIn (variables i) output ≡ answered m) × Model i m × (part i m ≡ t) × KeepsHard file t cost
+
+-- two files for which every operation answers alike
+pub record Alike (a b : List ℕ) : Type 0 where
+  pub read : readOf a ≡ readOf b
+  pub score : (t : List ℕ) → scoreOf a t ≡ scoreOf b t
+  pub sheet : (t u : List ℕ) → sameSheetOf a t u ≡ sameSheetOf b t u
+  pub sizes : (B : ℕ) → sizesOf a B ≡ sizesOf b B
+  pub text-size : textSizeOf a ≡ textSizeOf b
+  pub text : (room : ℕ) → textOf a room ≡ textOf b room
+  pub decode : (m : List ℕ) → decodeOf a m ≡ decodeOf b m
+  pub solver-text : (output : List ℕ) (model store : ℕ) → solverTextOf a output model store ≡ solverTextOf b output model store
+  pub check : (B : ℕ) (proof : List ℕ) (l : Lent) → checkOf a B proof l ≡ checkOf b B proof l
+  pub check-hard : (proof : List ℕ) (l : Lent) → checkHardOf a proof l ≡ checkHardOf b proof l
+  pub best : (m proof : List ℕ) (l : Lent) → bestOf a m proof l ≡ bestOf b m proof l
+
+-- the periods of day number d, and the last time before it
+abbrev pub periodsOf : List (List Period) → ℕ → List Period
+periodsOf days d = getD days (d - 1) []
+
+abbrev pub timesBefore : List (List Period) → ℕ → ℕ
+timesBefore days d = periodCount (take (d - 1) days)
+
+-- Calendars and windows
+pub record DemandCalendar : Type 0 where
+  -- "A window (day, from, to) stands for the group of that day's periods that start at or after from and end at or before to": period
+  -- number k + 1 of the day is the time k + 1 after those of the days before
+  pub shows : (days : List (List Period)) (d from to k : ℕ) (p : Period) → k < length (periodsOf days d)
+      → member (timesBefore days d + (k + 1)) (windowOf days d from to)
+      ≡ (leb from (getD (periodsOf days d) k p .start) && leb (getD (periodsOf days d) k p .end) to)
+  -- and no other time
+  pub only : (days : List (List Period)) (d from to t : ℕ) → member t (windowOf days d from to) ≡ true
+      → (timesBefore days d < t) × (t ≤ timesBefore days d + length (periodsOf days d))
+  -- "Files with windows score as if their groups were spelled out, the limit of 1,024 groups aside": spelled out, an accepted file is
+  -- read as the same instance where 2,048 groups are allowed
+  pub spelled-out : (file : List ℕ) (i : Instance) → Accepted file i
+      → (s : List ℕ) × (end : ℕ) × (spelledOut file ≡ got s end) × (fileUpTo 2048 s ≡ got i (length s))
+  -- and where it has up to 1,024 of them, every operation answers for it as for the file itself
+  pub alike : (file : List ℕ) (i : Instance) (s : List ℕ) (end : ℕ) → Accepted file i → spelledOut file ≡ got s end
+      → length (i .groups) ≤ 1024 → Alike file s

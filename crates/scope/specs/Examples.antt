@@ -9,7 +9,9 @@ use lib.Dec.{eqb, ltb}
 use Rattle.scope.specs.Parsed.{Parsed, got, refused, Answer, answered, refusal, repeat}
 use Rattle.scope.specs.Number.{group, front, within, number, limited, reference, references, listed}
 use Rattle.scope.specs.Kinds.{Atom, Y, S, X, Rule, rule, Listed, atom, entriesNodes, entriesMembers, entries, spread, limit, upTo, usesAt, from, member, usersFrom, outside, groupAt, gapsAfter, gaps, reached, reachesNodes, reachesMembers, fromOutside, goingOn, span, timeByTime, ofLength, ofLengthOutside, orMore, orChain, down, begun, tooSoon, lasting, tooLate, eitherWay, gapOutside, countedOf, rulesOf, longest}
-use Rattle.scope.specs.Instance.{eventAt, fieldsRead, fieldsTable, ended, constraintAt, sizesAt, groupsAt, constraintsAt, parse}
+use Rattle.scope.specs.Instance.{eventAt, fieldsRead, fieldsTable, ended, constraintAt, timesAt, sizesAt, groupsAt, allGroupsAt, constraintsAt, fileUpTo, parse}
+use Rattle.scope.specs.Calendar.{Period, limitedIn, periodAt, periodsAt, dayAt, periodCount, calendarAt, shown, windowOf, windowAt, windowsAt}
+use Rattle.scope.specs.SpelledOut.{spelt as speltBytes, spelledOut}
 use Rattle.scope.specs.Cnf.{pos, Item, gate, bit, lit, clause, clauses, hasTrue, withoutFalse, tidy, pairs, gateClauses, hardClauses, softUnits, falsified}
 use Rattle.scope.specs.Score.{layoutAt, varAt, trues, any, all, deviation, charged, valuesAfter, count, deviations, truth, eventRight, firstWrong, infeasibilityOf, objectiveOf, firstAbove}
 use Rattle.scope.specs.Subevents.{before, subevents, heldFrom, timesHeld, lengthsFrom}
@@ -447,5 +449,83 @@ cases =
 
 -- the definitions compute what the paper says
 pub examples : map (λ c. c .computed) cases ≡ map (λ c. c .expected) cases
-unfolding repeat group front within number limited reference references listed from member usersFrom outside gapsAfter gaps reached reachesNodes reachesMembers fromOutside goingOn span timeByTime ofLength ofLengthOutside orMore orChain down begun tooSoon lasting tooLate eitherWay gapOutside takenAmong gapWithin entriesNodes entriesMembers countedOf longest eventAt fieldsRead fieldsTable ended constraintAt sizesAt groupsAt constraintsAt parse bit lit clause clauses hasTrue withoutFalse tidy pairs gateClauses hardClauses softUnits falsified trues any all deviation charged valuesAfter count deviations truth eventRight firstWrong infeasibilityOf objectiveOf firstAbove row counter lastRow lowUnits highUnits shortUnits boundItems countInto ruleItems rulesItems starts uses durationRules constraintRules formula variables hardOf softOf tail bounded boundedVariables boundedHard words digits literalText line sumWeights top headerLine text numbers stepAt literalsOk wellFormed hintsShow deleted perform run start plainRun readOf scoreOf sameBytes sameSheetOf sizesOf textSizeOf textOf programPrints lowestFalse decodeOf until linesAfter wordsAfter tokens numeral wordOf gathered timesGiven notOnce modelIn literalsFrom modelText solverTextOf formulaFits checkOf checkHardOf bestOf fileA fileHardA fileFree proofA listingA numberSaid stepsSaid scoreSaid decodeSaid solverSaid bestSaid sizeSaid ample checkA roomA bestA lentA solverA vOneTwo threeFour thenZero busyTimes startAt1 counter3 holds3 timesFile spelt listFile six idleSix before subevents heldFrom timesHeld lengthsFrom idleTimes keptAfter drawn keptSaid lengthFile preferredFile chainListing bothListing membersOf doubles softNine readNine readTen nodeListing nineListing tenListing threeStarts gapFile readEleven gapScore spaced gapListing cases flatMap
+unfolding repeat group front within number limited reference references listed from member usersFrom outside gapsAfter gaps reached reachesNodes reachesMembers fromOutside goingOn span timeByTime ofLength ofLengthOutside orMore orChain down begun tooSoon lasting tooLate eitherWay gapOutside takenAmong gapWithin entriesNodes entriesMembers countedOf longest eventAt fieldsRead fieldsTable ended constraintAt timesAt sizesAt groupsAt allGroupsAt constraintsAt fileUpTo parse bit lit clause clauses hasTrue withoutFalse tidy pairs gateClauses hardClauses softUnits falsified trues any all deviation charged valuesAfter count deviations truth eventRight firstWrong infeasibilityOf objectiveOf firstAbove row counter lastRow lowUnits highUnits shortUnits boundItems countInto ruleItems rulesItems starts uses durationRules constraintRules formula variables hardOf softOf tail bounded boundedVariables boundedHard words digits literalText line sumWeights top headerLine text numbers stepAt literalsOk wellFormed hintsShow deleted perform run start plainRun readOf scoreOf sameBytes sameSheetOf sizesOf textSizeOf textOf programPrints lowestFalse decodeOf until linesAfter wordsAfter tokens numeral wordOf gathered timesGiven notOnce modelIn literalsFrom modelText solverTextOf formulaFits checkOf checkHardOf bestOf fileA fileHardA fileFree proofA listingA numberSaid stepsSaid scoreSaid decodeSaid solverSaid bestSaid sizeSaid ample checkA roomA bestA lentA solverA vOneTwo threeFour thenZero busyTimes startAt1 counter3 holds3 timesFile spelt listFile six idleSix before subevents heldFrom timesHeld lengthsFrom idleTimes keptAfter drawn keptSaid lengthFile preferredFile chainListing bothListing membersOf doubles softNine readNine readTen nodeListing nineListing tenListing threeStarts gapFile readEleven gapScore spaced gapListing cases flatMap
 examples = refl
+
+-- two periods on the first day, one on the second
+fewDays : List (List Period)
+fewDays =
+    (record { start = 0; end = 5 } ∷ record { start = 5; end = 9 } ∷ [])
+    ∷ (record { start = 0; end = 5 } ∷ [])
+    ∷ []
+
+-- a calendar of one period, from 0 to 5, and one event, before windows and constraints; a window on day d
+onePeriod : List ℕ
+onePeriod = 0x00 ∷ 0x01 ∷ 0x00 ∷ 0x05 ∷ 0x00 ∷ 0x00 ∷ 0x00 ∷ 0x00 ∷ 0x00 ∷ 0x00 ∷ 0x01 ∷ 0x00 ∷ 0x01 ∷ 0x00 ∷ 0x00 ∷ []
+
+-- the same days as above; an event of two times with one resource, a group of time 3, a window of the first day from 0 to 8, and kind
+-- 2 at weight 7 over the window
+fileWindow : List ℕ
+fileWindow =
+    0x00 ∷ 0x02 ∷ 0x00 ∷ 0x05 ∷ 0x05 ∷ 0x09 ∷ 0x01 ∷ 0x00 ∷ 0x05 ∷ 0x00 ∷ 0x00 ∷ 0x00 ∷ 0x00 ∷ 0x00
+    ∷ 0x01 ∷ 0x01 ∷ 0x02 ∷ 0x01 ∷ 0x01 ∷ 0x01 ∷ 0x01 ∷ 0x03 ∷ 0x01 ∷ 0x01 ∷ 0x00 ∷ 0x08
+    ∷ 0x01 ∷ 0x02 ∷ 0x07 ∷ 0x01 ∷ 0x02 ∷ []
+
+-- that file with its groups spelled out
+fileSpelled : List ℕ
+fileSpelled =
+    0x03 ∷ 0x01 ∷ 0x01 ∷ 0x02 ∷ 0x01 ∷ 0x01 ∷ 0x02 ∷ 0x01 ∷ 0x03 ∷ 0x01 ∷ 0x01 ∷ 0x01 ∷ 0x02 ∷ 0x07 ∷ 0x01 ∷ 0x02 ∷ []
+
+bytesSaid : Parsed (List ℕ) → List ℕ
+bytesSaid (got bs end) = bs
+bytesSaid (refused k v) = k ∷ v ∷ []
+
+-- calendars and windows: a table of its own, since a table that is refused takes time by its length
+pub calendarCases : List Case
+calendarCases =
+    -- a window shows the periods that lie within it, both ends included, by their times: none that only overlaps it
+    shows (windowOf fewDays 1 0 9) (1 ∷ 2 ∷ [])
+    ∷ shows (windowOf fewDays 1 0 8) (1 ∷ [])
+    ∷ shows (windowOf fewDays 1 1 9) (2 ∷ [])
+    ∷ shows (windowOf fewDays 2 0 5) (3 ∷ [])
+    ∷ shows (windowOf fewDays 1 9 0) []
+    ∷ shows (windowOf fewDays 3 0 1440) []
+    -- 22 at the first byte of the period, as soon as a number is above its limit; 1 at the number's own
+    ∷ shows (sizeSaid (readOf (0x00 ∷ 0x01 ∷ 0x00 ∷ 0xA1 ∷ 0x0B ∷ []))) (22 ∷ 2 ∷ [])
+    ∷ shows (sizeSaid (readOf (0x00 ∷ 0x01 ∷ 0xA1 ∷ 0x0B ∷ []))) (22 ∷ 2 ∷ [])
+    ∷ shows (sizeSaid (readOf (0x00 ∷ 0x01 ∷ 0x05 ∷ 0x80 ∷ []))) (1 ∷ 3 ∷ [])
+    -- start below end; no earlier than the end before it
+    ∷ shows (sizeSaid (readOf (0x00 ∷ 0x01 ∷ 0x05 ∷ 0x05 ∷ []))) (22 ∷ 2 ∷ [])
+    ∷ shows (sizeSaid (readOf (0x00 ∷ 0x02 ∷ 0x00 ∷ 0x05 ∷ 0x04 ∷ 0x09 ∷ []))) (22 ∷ 4 ∷ [])
+    -- 25 periods of a day; no number at all; an overlong 0; 126 times
+    ∷ shows (sizeSaid (readOf (0x00 ∷ 0x19 ∷ []))) (22 ∷ 1 ∷ [])
+    ∷ shows (sizeSaid (readOf (0x00 ∷ []))) (1 ∷ 1 ∷ [])
+    ∷ shows (sizeSaid (readOf (0x80 ∷ 0x00 ∷ []))) (1 ∷ 0 ∷ [])
+    ∷ shows (sizeSaid (readOf (0x7E ∷ []))) (2 ∷ 0 ∷ [])
+    -- no period at all: the offset of the 0
+    ∷ shows (sizeSaid (readOf (replicate 8 0x00))) (22 ∷ 0 ∷ [])
+    -- periods may touch, and those of two days are not compared
+    ∷ shows
+    (sizeSaid (readOf (0x00 ∷ 0x02 ∷ 0x00 ∷ 0x05 ∷ 0x05 ∷ 0x09 ∷ 0x01 ∷ 0x00 ∷ 0x05 ∷ (replicate 5 0x00 ++ 0x01 ∷ 0x00 ∷ 0x01 ∷ 0x00 ∷ 0x00 ∷ 0x00 ∷ 0x00 ∷ []))))
+    (0 ∷ 3 ∷ 1 ∷ 0 ∷ 0 ∷ 0 ∷ [])
+    -- windows stand in a file with a calendar alone
+    ∷ shows (sizeSaid (readOf (0x01 ∷ 0x01 ∷ 0x00 ∷ 0x01 ∷ 0x00 ∷ 0x00 ∷ 0x00 ∷ []))) (0 ∷ 1 ∷ 1 ∷ 0 ∷ 0 ∷ 0 ∷ [])
+    -- 22 of windows: their count, a day, a number above its limit, at the window's first byte
+    ∷ shows (sizeSaid (readOf (onePeriod ++ 0x81 ∷ 0x08 ∷ []))) (22 ∷ 15 ∷ [])
+    ∷ shows (sizeSaid (readOf (onePeriod ++ 0x01 ∷ 0x00 ∷ 0x00 ∷ 0x00 ∷ 0x00 ∷ []))) (22 ∷ 16 ∷ [])
+    ∷ shows (sizeSaid (readOf (onePeriod ++ 0x01 ∷ 0x01 ∷ 0x00 ∷ 0xA1 ∷ 0x0B ∷ 0x00 ∷ []))) (22 ∷ 16 ∷ [])
+    -- a from above to is no fault; a window is a group: number 1 here, and there is no group 2
+    ∷ shows (sizeSaid (readOf (onePeriod ++ 0x01 ∷ 0x01 ∷ 0x05 ∷ 0x00 ∷ 0x00 ∷ []))) (0 ∷ 1 ∷ 1 ∷ 0 ∷ 1 ∷ 0 ∷ [])
+    ∷ shows
+    (sizeSaid (readOf (onePeriod ++ 0x01 ∷ 0x01 ∷ 0x00 ∷ 0x05 ∷ 0x01 ∷ 0x03 ∷ 0x00 ∷ 0x01 ∷ 0x01 ∷ [])))
+    (0 ∷ 1 ∷ 1 ∷ 0 ∷ 1 ∷ 1 ∷ [])
+    ∷ shows (sizeSaid (readOf (onePeriod ++ 0x01 ∷ 0x01 ∷ 0x00 ∷ 0x05 ∷ 0x01 ∷ 0x03 ∷ 0x00 ∷ 0x01 ∷ 0x02 ∷ []))) (3 ∷ 23 ∷ [])
+    -- a file with a window, spelled out, and the score of both
+    ∷ shows (bytesSaid (spelledOut fileWindow)) fileSpelled
+    ∷ shows (scoreSaid (scoreOf fileWindow (1 ∷ 1 ∷ 0 ∷ 1 ∷ 0 ∷ 0 ∷ []))) (0 ∷ 0 ∷ 7 ∷ [])
+    ∷ shows (scoreSaid (scoreOf fileSpelled (1 ∷ 1 ∷ 0 ∷ 1 ∷ 0 ∷ 0 ∷ []))) (0 ∷ 0 ∷ 7 ∷ [])
+    ∷ []
+
+pub calendar-examples : map (λ c. c .computed) calendarCases ≡ map (λ c. c .expected) calendarCases
+unfolding repeat group front within number limited reference references listed from member usersFrom gapsAfter gaps entriesNodes entriesMembers countedOf longest eventAt fieldsRead fieldsTable ended constraintAt timesAt sizesAt groupsAt allGroupsAt constraintsAt fileUpTo parse limitedIn periodAt periodsAt dayAt periodCount calendarAt shown windowOf windowAt windowsAt speltBytes spelledOut fromOutside reached reachesNodes reachesMembers bit trues any all deviation charged valuesAfter count deviations truth eventRight firstWrong infeasibilityOf objectiveOf firstAbove readOf scoreOf sizeSaid scoreSaid bytesSaid fewDays onePeriod fileWindow fileSpelled calendarCases flatMap
+calendar-examples = refl

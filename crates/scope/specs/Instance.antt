@@ -1,11 +1,13 @@
--- The instance file, and refusals 1 to 6 and 19 in file order.
+-- The instance file, and refusals 1 to 6, 19 and 22 in file order.
 use Prim.Native.Nat.{ℕ, _-_}
-use mathlib.Core.Bool.{Bool, true, not}
-use mathlib.Core.List.{List, [], _∷_}
+use mathlib.Core.Bool.{Bool, true, not, cond}
+use mathlib.Core.List.{List, [], _∷_, _++_}
+use mathlib.Core.Option.{Option, none, some}
 use lib.ListN.{length, getD}
 use lib.Dec.{leb, eqb}
 use Rattle.scope.specs.Parsed.{Parsed, got, andThen, unless, repeat}
 use Rattle.scope.specs.Number.{limited, reference, listed}
+use Rattle.scope.specs.Calendar.{Period, periodCount, calendarAt, windowsAfter}
 use Rattle.scope.specs.Kinds.{Event, Kind, clash, unavailable, preferred, split, spread, busy, cluster, idle, distribute, lengths, precedence, Constraint, Counted, durationOf, users, groupAt, countedOf, longest}
 
 pub record Instance : Type 0 where
@@ -119,31 +121,55 @@ constraintAt T R es gs s at =
     (λ weight more.
     andThen (fieldsRead (fieldsOf (countsOf T R es gs) kind) s more) (λ k end. endedAs at (countedOf T (durationOf es) (λ r. users r es) (groupAt gs) k) weight k end)))
 
--- times 1..125, events 1..1,024, resources 0..99
-unfoldable pub sizesAt : List ℕ → Parsed (ℕ × ℕ × ℕ)
-sizesAt s =
-    andThen (limited 1 125 s 0)
-    (λ T a. andThen (limited 1 1024 s a) (λ E b. andThen (limited 0 99 s b) (λ R c. got (T, E, R) c)))
+-- how many times there are, and the days of the calendar that they come from, if there is one
+pub record Times : Type 0 where
+  pub count : ℕ
+  pub days : Option (List (List Period))
 
--- up to 1,024 time groups
-unfoldable pub groupsAt : ℕ → List ℕ → ℕ → Parsed (List (List ℕ))
-groupsAt T s at = andThen (limited 0 1024 s at) (λ count next. repeat count (listed T s) next)
+-- times 1..125; "A 0 in place of T says that a calendar follows"
+unfoldable pub timesAt : List ℕ → Parsed Times
+timesAt s =
+    andThen (limited 0 125 s 0)
+    (λ T next.
+    cond (eqb T 0)
+    (andThen (calendarAt s next) (λ days end. got (record { count = periodCount days; days = some days }) end))
+    (got (record { count = T; days = none }) next))
+
+-- events 1..1,024, resources 0..99
+unfoldable pub sizesAt : List ℕ → ℕ → Parsed (ℕ × ℕ)
+sizesAt s at = andThen (limited 1 1024 s at) (λ E next. andThen (limited 0 99 s next) (λ R end. got (E, R) end))
+
+-- up to so many time groups
+unfoldable pub groupsAt : (most T : ℕ) → List ℕ → ℕ → Parsed (List (List ℕ))
+groupsAt most T s at = andThen (limited 0 most s at) (λ count next. repeat count (listed T s) next)
+
+-- and the windows of a calendar, which "stand after the time groups and are numbered on from them"
+unfoldable pub allGroupsAt : (most : ℕ) → Times → List ℕ → ℕ → Parsed (List (List ℕ))
+allGroupsAt most t s at =
+    andThen (groupsAt most (t .count) s at)
+    (λ gs next. andThen (windowsAfter (t .days) s next) (λ ws end. got (gs ++ ws) end))
 
 -- up to 4,096 constraints
 unfoldable pub constraintsAt : ℕ → ℕ → List Event → List (List ℕ) → List ℕ → ℕ → Parsed (List Constraint)
 constraintsAt T R es gs s at =
     andThen (limited 0 4096 s at) (λ count next. repeat count (constraintAt T R es gs s) next)
 
--- the whole file; 6 where bytes are left over
-unfoldable pub parse : List ℕ → Parsed Instance
-parse s =
-    andThen (sizesAt s)
-    (λ n a.
-    andThen (repeat (n .1) (eventAt (n .0) (n .2) s) a)
-    (λ es b.
-    andThen (groupsAt (n .0) s b)
-    (λ gs c.
-    andThen (constraintsAt (n .0) (n .2) es gs s c)
+-- the whole file, with up to so many time groups; 6 where bytes are left over
+unfoldable pub fileUpTo : (most : ℕ) → List ℕ → Parsed Instance
+fileUpTo most s =
+    andThen (timesAt s)
+    (λ t a.
+    andThen (sizesAt s a)
+    (λ n b.
+    andThen (repeat (n .0) (eventAt (t .count) (n .1) s) b)
+    (λ es c.
+    andThen (allGroupsAt most t s c)
+    (λ gs d.
+    andThen (constraintsAt (t .count) (n .1) es gs s d)
     (λ cs end.
     unless (leb (length s) end) 6 end
-    (got (record { times = n .0; resources = n .2; events = es; groups = gs; constraints = cs }) end)))))
+    (got (record { times = t .count; resources = n .1; events = es; groups = gs; constraints = cs }) end))))))
+
+-- with up to 1,024
+unfoldable pub parse : List ℕ → Parsed Instance
+parse s = fileUpTo 1024 s

@@ -1,7 +1,9 @@
 pub mod Parsed
 pub mod Number
 pub mod Kinds
+pub mod Calendar
 pub mod Instance
+pub mod SpelledOut
 pub mod Cnf
 pub mod Score
 pub mod Subevents

@@ -18,7 +18,7 @@ use Rattle.scope.specs.declared.Objective.{Objective}
 use Rattle.scope.specs.declared.InstanceSize.{InstanceSize}
 use Rattle.scope.specs.declared.FormulaSize.{FormulaSize}
 
--- reading: 1 to 6, 19
+-- reading: 1 to 6, 19, 22
 abbrev pub instanceSize : Instance → InstanceSize
 instanceSize i =
     record {
@@ -32,11 +32,11 @@ instanceSize i =
 unfoldable pub readOf : List ℕ → Answer InstanceSize
 readOf file = with (parse file) (λ i. answered (instanceSize i))
 
--- scoring: 1 to 6, 10 to 12, 19
+-- scoring: 1 to 6, 10 to 12, 19, 22
 unfoldable pub scoreOf : List ℕ → List ℕ → Answer (Infeasibility × Objective)
 scoreOf file b = with (parse file) (λ i. ofTimetable i b (answered (infeasibility i b, objective i b)))
 
--- "Two timetables are the same sheet if their Y bytes agree": 1 to 6, 19, then 10 to 12 for the first, then for the second
+-- "Two timetables are the same sheet if their Y bytes agree": 1 to 6, 19, 22, then 10 to 12 for the first, then for the second
 unfoldable pub sameBytes : List ℕ → List ℕ → Bool
 sameBytes [] [] = true
 sameBytes [] (b ∷ bs) = false
@@ -55,7 +55,7 @@ ofSize i a = provided (leb (variables i) mostVariables) 8 0 a
 abbrev pub ofBound : {A : Type 0} → Instance → ℕ → Answer A → Answer A
 ofBound i B a = provided (leb B mostBound) 7 B (provided (leb (boundedVariables i B) mostVariables) 8 0 a)
 
--- what hard clauses and tail need of the stores: 1 to 8, 19
+-- what hard clauses and tail need of the stores: 1 to 8, 19, 22
 abbrev pub formulaSize : Instance → ℕ → FormulaSize
 formulaSize i B =
     record { variables = boundedVariables i B; clauses = length (boundedHard i B); words = words (boundedHard i B) }
@@ -63,7 +63,7 @@ formulaSize i B =
 unfoldable pub sizesOf : List ℕ → ℕ → Answer FormulaSize
 sizesOf file B = with (parse file) (λ i. ofBound i B (answered (formulaSize i B)))
 
--- the text: 1 to 6, 8, 19; 9 where the lent output is too short
+-- the text: 1 to 6, 8, 19, 22; 9 where the lent output is too short
 unfoldable pub textSizeOf : List ℕ → Answer ℕ
 textSizeOf file = with (parse file) (λ i. ofSize i (answered (length (text i))))
 
@@ -83,7 +83,7 @@ unfoldable pub lowestFalse : Assignment → ℕ → List (List ℕ) → Option �
 lowestFalse ν n [] = none
 lowestFalse ν n (c ∷ cs) = cond (clause ν c) (lowestFalse ν (suc n) cs) (some n)
 
--- decoding: 1 to 6, 8, 10, 11, 13, 19; the part that holds Y and S, and the falsified soft weight
+-- decoding: 1 to 6, 8, 10, 11, 13, 19, 22; the part that holds Y and S, and the falsified soft weight
 abbrev pub part : Instance → List ℕ → List ℕ
 part i m = take (primary i) m
 
@@ -97,7 +97,7 @@ decodeOf file m =
     ofSize i
     (ofBytes (variables i) m (unlessFound 13 (lowestFalse (bit m) 1 (hardOf i)) (answered (part i m, falsifiedSoft i m)))))
 
--- Reading what a solver printed, for a lent model of so many bytes, with a store of so many: 1 to 6, 8 and 19, "9 is for that store
+-- Reading what a solver printed, for a lent model of so many bytes, with a store of so many: 1 to 6, 8, 19 and 22, "9 is for that store
 -- alone, and 10 for a lent model of any wrong length", 20, 21, 13. "The engine fills a lent model .. and decodes it": the model, and
 -- what decoding gives of it
 unfoldable pub solverTextOf : (file output : List ℕ) (model store : ℕ) → Answer (List ℕ × (List ℕ × Objective))
@@ -126,11 +126,11 @@ limitsOf last l = record { lastVariable = last; wordsLent = l .words; rowsLent =
 abbrev pub against : ℕ → List (List ℕ) → List ℕ → Lent → Answer ℕ
 against last f proof l = provided (formulaFits last f l) 9 0 (plainRun (limitsOf last l) f proof)
 
--- checking a bound proof: 1 to 9, 14 to 19
+-- checking a bound proof: 1 to 9, 14 to 19, 22
 unfoldable pub checkOf : List ℕ → ℕ → List ℕ → Lent → Answer ℕ
 checkOf file B proof l = with (parse file) (λ i. ofBound i B (against (boundedVariables i B) (boundedHard i B) proof l))
 
--- the same without the tail, at any cost (no operation of document 01): 1 to 6, 8, 9, 14 to 19
+-- the same without the tail, at any cost (no operation of document 01): 1 to 6, 8, 9, 14 to 19, 22
 unfoldable pub checkHardOf : List ℕ → List ℕ → Lent → Answer ℕ
 checkHardOf file proof l = with (parse file) (λ i. ofSize i (against (variables i) (hardOf i) proof l))
 

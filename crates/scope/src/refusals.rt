@@ -44,3 +44,5 @@ pub const SAME_EVENT: u8 = 19;
 pub const BAD_SOLVER_TEXT: u8 = 20;
 // a variable "that is missing or given twice", in a solver's text
 pub const NOT_GIVEN_ONCE: u8 = 21;
+// "a count, period or window that breaks these rules", in a calendar and its windows (order 6)
+pub const BAD_CALENDAR: u8 = 22;

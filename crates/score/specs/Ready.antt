@@ -16,7 +16,7 @@ use Rattle.score.specs.Amounts.{decodedOf}
 -- a timetable's bytes b can be scored
 pub record Scorable (s b te tg l : List ℕ) (h : Head) : Type 0 where
   pub sizes : SizesIn (h .times) (h .events) (h .resources)
-  pub groups-high : h .groups ≤ 1024
+  pub groups-high : h .groups ≤ 2048
   pub constraints-high : h .constraints ≤ 4096
   pub table : length b ≡ 2 * (h .events * h .times)
   pub event-rows : RowsIn te (h .events)

@@ -18,13 +18,13 @@ ghost use Rattle.instance.specs.Stores.{Stores};
 ghost use Rattle.sizing.specs.Sums.{sum, Fits64};
 ghost use Rattle.sizes.specs.Measured.{judgedSize, judgedTotal, measuredAs, boundedAs};
 
-// The formula's size without its tail, or refusals 1 to 6, 8 and 19.
+// The formula's size without its tail, or refusals 1 to 6, 8, 19 and 22.
 pub enum Measured {
     Sized(Head, Size),
     Refused(Refusal),
 }
 
-// The formula's size without its tail, and with the tail for a bound; or refusals 1 to 8 and 19.
+// The formula's size without its tail, and with the tail for a bound; or refusals 1 to 8, 19 and 22.
 pub enum Bounded {
     Sized(Head, Size, FormulaSize),
     Refused(Refusal),
@@ -69,7 +69,7 @@ pub fn measure(
     groups: &mut [u8],
     list: &mut [u16],
 ) -> Measured
-    requires { ⌜ Stores (now durations) (now resources) (now groups) (now list) ⌝ }
+    requires { ⌜ Stores (now file) (now durations) (now resources) (now groups) (now list) ⌝ }
     ensures { λ r. ⌜ measuredAs (now (file .entry)) (now (durations .exit)) (now (resources .exit)) (now (groups .exit)) r ⌝ }
 {
     let f = read(file, durations, resources, groups, list);
@@ -92,7 +92,7 @@ pub fn measure_bound(
     groups: &mut [u8],
     list: &mut [u16],
 ) -> Bounded
-    requires { ⌜ Stores (now durations) (now resources) (now groups) (now list) ⌝ }
+    requires { ⌜ Stores (now file) (now durations) (now resources) (now groups) (now list) ⌝ }
     ensures { λ r. ⌜ boundedAs (now (file .entry)) bound (now (durations .exit)) (now (resources .exit)) (now (groups .exit)) r ⌝ }
 {
     let f = read(file, durations, resources, groups, list);

@@ -10,7 +10,9 @@ use sizing::Size;
 use solver_model::Given;
 use solver_model::fill;
 ghost use mathlib.Core.Path.{_≡_};
+ghost use Prim.Native.Nat.{_*_, _≤_};
 ghost use lib.ListN.{length, replicate};
+ghost use Rattle.tables.specs.Room.{groupRoom};
 ghost use Rattle.instance.specs.Stores.{Stores};
 ghost use Rattle.sizes.specs.Measured.{SizedBy};
 ghost use Rattle.solver_text.specs.Read.{ReadAs, ReadInto};
@@ -28,7 +30,7 @@ fn read_sized(
     groups: &[u8],
     list: &mut [u16],
 ) -> Evaluation
-    requires { ⌜ SizedBy (now file) (now durations) (now resources) (now groups) head size × Stores (now durations) (now resources) (now groups) (now list)
+    requires { ⌜ SizedBy (now file) (now durations) (now resources) (now groups) head size × Stores (now file) (now durations) (now resources) (now groups) (now list)
         × (now store ≡ replicate (length (now store)) 0) ⌝ }
     ensures { λ r. ⌜ ReadAs (now (file .entry)) (now (output .entry)) «model_length» (now (store .entry)) (now (store .exit)) r ⌝ }
 {
@@ -48,16 +50,22 @@ fn read_sized(
     }
 }
 
-// The same with the file's own refusals and 8 before; the store holds zeros.
-fn read_zeroed(file: &[u8], output: &[u8], model_length: usize, store: &mut [u8]) -> Evaluation
+// The same with the file's own refusals and 8 before; the store holds zeros, and the groups' table has the rows that the file may need.
+fn read_zeroed_in(
+    file: &[u8],
+    output: &[u8],
+    model_length: usize,
+    store: &mut [u8],
+    groups: &mut [u8],
+) -> Evaluation
+    requires { ⌜ groupRoom (now file) * 126 ≤ length (now groups) ⌝ }
     requires { ⌜ now store ≡ replicate (length (now store)) 0 ⌝ }
     ensures { λ r. ⌜ ReadAs (now (file .entry)) (now (output .entry)) «model_length» (now (store .entry)) (now (store .exit)) r ⌝ }
 {
     let mut durations = tables::durations();
     let mut resources = tables::resource_rows();
-    let mut groups = tables::group_rows();
     let mut list = tables::list();
-    let m = measure(file, &mut durations, &mut resources, &mut groups, &mut list);
+    let m = measure(file, &mut durations, &mut resources, groups, &mut list);
     match m {
         Measured::Sized(head, size) => read_sized(
             file,
@@ -68,15 +76,28 @@ fn read_zeroed(file: &[u8], output: &[u8], model_length: usize, store: &mut [u8]
             size,
             &durations,
             &resources,
-            &groups,
+            groups,
             &mut list,
         ),
         Measured::Refused(f) => Evaluation::Refused(f),
     }
 }
 
+// The same, with the table that the file needs.
+fn read_zeroed(file: &[u8], output: &[u8], model_length: usize, store: &mut [u8]) -> Evaluation
+    requires { ⌜ now store ≡ replicate (length (now store)) 0 ⌝ }
+    ensures { λ r. ⌜ ReadAs (now (file .entry)) (now (output .entry)) «model_length» (now (store .entry)) (now (store .exit)) r ⌝ }
+{
+    if tables::dated(file) {
+        let mut groups = tables::window_rows();
+        return read_zeroed_in(file, output, model_length, store, &mut groups);
+    }
+    let mut groups = tables::group_rows();
+    read_zeroed_in(file, output, model_length, store, &mut groups)
+}
+
 // The lent model is filled from the text and decoded: the length of its part with Y and S and its cost; or 1 to 6, 8, 9, 10, 13 and
-// 19 to 21, and the lent model as it was. The literals are gathered in the store, which is zero afterwards. One pass over the text.
+// 19 to 22, and the lent model as it was. The literals are gathered in the store, which is zero afterwards. One pass over the text.
 pub fn solver_text(file: &[u8], output: &[u8], model: &mut [u8], store: &mut [u8]) -> Evaluation
     ensures { λ r. ⌜ ReadInto (now (file .entry)) (now (output .entry)) (now (model .entry)) (now (store .entry)) (now (model .exit)) (now (store .exit)) r ⌝ }
 {

@@ -1,3 +1,2 @@
 pub mod laws
 mod Stops
-mod Writing

@@ -1,2 +1,3 @@
 -- Laws, for other crates to use.
 pub mod Sequence
+pub mod Writing

@@ -24,6 +24,13 @@ pub fn group_rows() -> [u8; 129024]
     [0; 129024]
 }
 
+// Rows for 1,024 groups and 1,024 windows of a calendar.
+pub fn window_rows() -> [u8; 258048]
+    ensures { λ r. ⌜ 2048 * 126 ≡ length r ⌝ }
+{
+    [0; 258048]
+}
+
 // A constraint's list of up to 1,024 events or groups, with room for as many windows of a calendar (document 02).
 pub fn list() -> [u16; 2048]
     ensures { λ r. ⌜ 2048 ≡ length r ⌝ }

@@ -8,4 +8,4 @@ use Rattle.sizes.specs.Measured.{SizedBy}
 
 pub record Ready (s d te tg list : List ℕ) (h : Head) (z : Size) : Type 0 where
   pub sized : SizedBy s d te tg h z
-  pub stores : Stores d te tg list
+  pub stores : Stores s d te tg list

@@ -8,10 +8,12 @@ use sizes::Measured;
 use sizes::measure;
 use sizing::Size;
 ghost use mathlib.Core.Path.{_≡_};
+ghost use Prim.Native.Nat.{_*_, _≤_};
 ghost use lib.ListN.{length};
 ghost use Rattle.scope.specs.Text.{text};
 ghost use Rattle.scope.specs.Answers.{textMeans};
 ghost use Rattle.scope.specs.Operations.{textSizeOf};
+ghost use Rattle.tables.specs.Room.{groupRoom};
 ghost use Rattle.instance.specs.Answers.{instanceOf};
 ghost use Rattle.text.specs.Ready.{Ready};
 
@@ -46,20 +48,32 @@ pub fn text_length(
     header_size(z.variables, clauses, top) + lines
 }
 
-// How many bytes the text takes, or refusals 1 to 6, 8 and 19.
-pub fn text_size(file: &[u8]) -> TextAnswer
+// The text's length, with a table for the groups that has the rows that the file may need.
+fn text_size_in(file: &[u8], groups: &mut [u8]) -> TextAnswer
+    requires { ⌜ groupRoom (now file) * 126 ≤ length (now groups) ⌝ }
     ensures { λ r. ⌜ textMeans r ≡ textSizeOf (now (file .entry)) ⌝ }
 {
     let mut durations = tables::durations();
     let mut resources = tables::resource_rows();
-    let mut groups = tables::group_rows();
     let mut list = tables::list();
-    let m = measure(file, &mut durations, &mut resources, &mut groups, &mut list);
+    let m = measure(file, &mut durations, &mut resources, groups, &mut list);
     match m {
         Measured::Sized(head, z) => {
-            let n = text_length(file, head, z, &durations, &resources, &groups, &mut list);
+            let n = text_length(file, head, z, &durations, &resources, groups, &mut list);
             TextAnswer::Bytes(n as u64)
         }
         Measured::Refused(x) => TextAnswer::Refused(x),
     }
+}
+
+// How many bytes the text takes, or refusals 1 to 6, 8, 19 and 22.
+pub fn text_size(file: &[u8]) -> TextAnswer
+    ensures { λ r. ⌜ textMeans r ≡ textSizeOf (now (file .entry)) ⌝ }
+{
+    if tables::dated(file) {
+        let mut groups = tables::window_rows();
+        return text_size_in(file, &mut groups);
+    }
+    let mut groups = tables::group_rows();
+    text_size_in(file, &mut groups)
 }

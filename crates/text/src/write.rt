@@ -11,10 +11,12 @@ use sizes::Measured;
 use sizes::measure;
 use sizing::Size;
 ghost use mathlib.Core.Path.{_≡_};
+ghost use Prim.Native.Nat.{_*_, _≤_};
 ghost use lib.ListN.{length};
 ghost use Rattle.scope.specs.Text.{text};
 ghost use Rattle.scope.specs.Answers.{textMeans};
 ghost use Rattle.scope.specs.Operations.{textOf};
+ghost use Rattle.tables.specs.Room.{groupRoom};
 ghost use Rattle.instance.specs.Answers.{instanceOf};
 ghost use Rattle.sink.specs.Run.{Ran, out, put};
 ghost use Rattle.text.specs.Ready.{Ready};
@@ -91,15 +93,15 @@ fn fit_text(
     })
 }
 
-// The text in the first bytes of the output, or refusals 1 to 6, 8, 9 and 19, with no byte changed.
-pub fn text(file: &[u8], out: &mut [u8]) -> TextAnswer
+// The text, with a table for the groups that has the rows that the file may need.
+fn text_in(file: &[u8], out: &mut [u8], groups: &mut [u8]) -> TextAnswer
+    requires { ⌜ groupRoom (now file) * 126 ≤ length (now groups) ⌝ }
     ensures { λ r. ⌜ (textMeans r, now (out .exit)) ≡ written (textOf (now (file .entry)) (length (now (out .entry)))) (now (out .entry)) ⌝ }
 {
     let mut durations = tables::durations();
     let mut resources = tables::resource_rows();
-    let mut groups = tables::group_rows();
     let mut list = tables::list();
-    let m = measure(file, &mut durations, &mut resources, &mut groups, &mut list);
+    let m = measure(file, &mut durations, &mut resources, groups, &mut list);
     match m {
         Measured::Sized(head, z) => fit_text(
             out,
@@ -108,9 +110,21 @@ pub fn text(file: &[u8], out: &mut [u8]) -> TextAnswer
             z,
             &durations,
             &resources,
-            &groups,
+            groups,
             &mut list,
         ),
         Measured::Refused(x) => TextAnswer::Refused(x),
     }
+}
+
+// The text in the first bytes of the output, or refusals 1 to 6, 8, 9, 19 and 22, with no byte changed.
+pub fn text(file: &[u8], out: &mut [u8]) -> TextAnswer
+    ensures { λ r. ⌜ (textMeans r, now (out .exit)) ≡ written (textOf (now (file .entry)) (length (now (out .entry)))) (now (out .entry)) ⌝ }
+{
+    if tables::dated(file) {
+        let mut groups = tables::window_rows();
+        return text_in(file, out, &mut groups);
+    }
+    let mut groups = tables::group_rows();
+    text_in(file, out, &mut groups)
 }

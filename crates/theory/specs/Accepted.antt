@@ -34,7 +34,7 @@ pub record ValidInstance (i : Instance) : Type 0 where
   pub event-count : Within 1 1024 (length (i .events))
   pub resources : Within 0 99 (i .resources)
   pub events : All (ValidEvent (i .times) (i .resources)) (i .events)
-  pub group-count : Within 0 1024 (length (i .groups))
+  pub group-count : Within 0 2048 (length (i .groups))
   pub groups : All (Ascending (i .times) 0) (i .groups)
   pub constraint-count : Within 0 4096 (length (i .constraints))
   pub constraints : All (ValidConstraint (i .times) (i .resources) (i .events) (i .groups)) (i .constraints)

@@ -21,7 +21,7 @@ pub fn score_read(
     groups: &[u8],
     list: &mut [u16],
 ) -> ScoreAnswer
-    requires { ⌜ Accepted (now file) (now durations) (now resources) (now groups) head × Stores (now durations) (now resources) (now groups) (now list) ⌝ }
+    requires { ⌜ Accepted (now file) (now durations) (now resources) (now groups) head × Stores (now file) (now durations) (now resources) (now groups) (now list) ⌝ }
     ensures { λ r. ⌜ scoreMeans r ≡ scoreOf (now (file .entry)) (now (bytes .entry)) ⌝ }
 {
     let v = verdict_of(bytes, durations, head);

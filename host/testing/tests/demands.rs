@@ -94,7 +94,7 @@ impl Drawn {
 
 #[test]
 fn feasible_timetables_and_models_match_one_to_one() {
-    const SEEDS: u64 = 400;
+    const SEEDS: u64 = 500;
     let mut drawn_kinds = Drawn::default();
     let (mut timetables, mut broken, mut costly) = (0, 0, 0);
     for seed in 0..SEEDS {

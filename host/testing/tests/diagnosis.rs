@@ -8,8 +8,8 @@ use std::collections::BTreeMap;
 use support::{long_list, oversized};
 use testing::forgeries::forgeries;
 use testing::generate::{
-    damaged_bytes, damaged_instance, damaged_numbers, damaged_table, encode, instance, model,
-    proof, timetable, Random, Shape,
+    damaged_bytes, damaged_calendar, damaged_instance, damaged_numbers, damaged_table, encode,
+    instance, model, proof, timetable, Random, Shape,
 };
 use testing::prover::{clause_list, solve, Verdict};
 use testing::reference::{self, Instance};
@@ -67,9 +67,10 @@ fn of_instances() {
     for seed in 0..4_000 {
         let mut random = Random::new(seed);
         let good = tiny_or_small(&mut random);
-        let file = match random.below(3) {
-            0 => encode(&damaged_instance(&mut random, &good)),
-            1 => damaged_numbers(&mut random, &encode(&good)),
+        let file = match (random.below(4), damaged_calendar(&mut random, &good)) {
+            (0, _) => encode(&damaged_instance(&mut random, &good)),
+            (1, _) => damaged_numbers(&mut random, &encode(&good)),
+            (2, Some(damaged)) => damaged.file,
             _ => damaged_bytes(&mut random, &encode(&good)),
         };
         met.answer(
@@ -92,7 +93,7 @@ fn of_instances() {
         engine::text(&large),
         &inputs(&large, None, &large, Sort::Instance),
     );
-    met.all(&[1, 2, 3, 4, 5, 6, 8, 19]);
+    met.all(&[1, 2, 3, 4, 5, 6, 8, 19, 22]);
 }
 
 #[test]

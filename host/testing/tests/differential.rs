@@ -17,8 +17,9 @@ use support::both::{
 use support::{long_list, oversized, same_event};
 use testing::forgeries::forgeries;
 use testing::generate::{
-    damaged_bytes, damaged_instance, damaged_numbers, damaged_table, damaged_text, encode,
-    instance, lent, model, printed, proof, school_of_every_kind, timetable, wrapped, Random, Shape,
+    damaged_bytes, damaged_calendar, damaged_instance, damaged_numbers, damaged_table,
+    damaged_text, encode, idle_limits_in_windows, in_clock_time, instance, lent, model, printed,
+    proof, school_of_every_kind, timetable, wrapped, Random, Shape,
 };
 use testing::prover::{clause_list, solve, Verdict};
 use testing::reference::{self, Instance, Refusal, Sizes};
@@ -37,7 +38,7 @@ fn files_are_read_alike() {
         let file = any_file(random);
         number_of(read(&file))
     });
-    assert_eq!(seen, [0, 1, 2, 3, 4, 5, 6, 19]);
+    assert_eq!(seen, [0, 1, 2, 3, 4, 5, 6, 19, 22]);
 }
 
 #[test]
@@ -51,7 +52,7 @@ fn formulas_are_sized_alike() {
         let bound = any_bound(random);
         number_of(sizes(&file, Some(bound)))
     });
-    assert_eq!(seen, [0, 1, 2, 3, 4, 5, 6, 7, 8, 19]);
+    assert_eq!(seen, [0, 1, 2, 3, 4, 5, 6, 7, 8, 19, 22]);
 }
 
 #[test]
@@ -61,7 +62,7 @@ fn timetables_are_scored_alike() {
         let table = any_table(random, &instance);
         number_of(score(&file, &table))
     });
-    assert_eq!(seen, [0, 1, 2, 3, 4, 5, 6, 10, 11, 12, 19]);
+    assert_eq!(seen, [0, 1, 2, 3, 4, 5, 6, 10, 11, 12, 19, 22]);
 }
 
 #[test]
@@ -76,7 +77,7 @@ fn timetables_are_compared_alike() {
         };
         number_of(same_sheet(&file, &first, &second))
     });
-    assert_eq!(seen, [0, 1, 2, 3, 4, 5, 6, 10, 11, 12, 19]);
+    assert_eq!(seen, [0, 1, 2, 3, 4, 5, 6, 10, 11, 12, 19, 22]);
 }
 
 #[test]
@@ -92,7 +93,7 @@ fn texts_are_written_alike() {
         }
         number_of(answer)
     });
-    assert_eq!(seen, [0, 1, 2, 3, 4, 5, 6, 8, 9, 19]);
+    assert_eq!(seen, [0, 1, 2, 3, 4, 5, 6, 8, 9, 19, 22]);
 }
 
 #[test]
@@ -108,7 +109,7 @@ fn models_are_decoded_alike() {
         assert_eq!(engine::decode(&file, &model), answer);
         number_of(answer)
     });
-    assert_eq!(seen, [0, 1, 2, 3, 4, 5, 6, 8, 10, 11, 13, 19]);
+    assert_eq!(seen, [0, 1, 2, 3, 4, 5, 6, 8, 10, 11, 13, 19, 22]);
 }
 
 #[test]
@@ -133,7 +134,7 @@ fn texts_of_solvers_are_read_alike() {
         let [model, store] = [(); 2].map(|()| lent(random, variables as u64) as usize);
         number_of(solver_text(&file, &text, model, store))
     });
-    assert_eq!(seen, [0, 1, 2, 3, 4, 5, 6, 8, 9, 10, 13, 19, 20, 21]);
+    assert_eq!(seen, [0, 1, 2, 3, 4, 5, 6, 8, 9, 10, 13, 19, 20, 21, 22]);
 }
 
 #[test]
@@ -167,7 +168,10 @@ fn proofs_are_checked_alike() {
         let [words, rows, bytes] = scant_for(random, sizes, &proof);
         number_of(check(&file, bound, &proof, words, rows, bytes))
     });
-    assert_eq!(seen, [0, 1, 2, 3, 4, 5, 6, 7, 8, 9, 14, 15, 16, 17, 18, 19]);
+    assert_eq!(
+        seen,
+        [0, 1, 2, 3, 4, 5, 6, 7, 8, 9, 14, 15, 16, 17, 18, 19, 22]
+    );
 }
 
 #[test]
@@ -199,7 +203,10 @@ fn proofs_without_the_tail_are_checked_alike() {
             _ => number_of(check_hard(&file, &proof, scant_for(random, sizes, &proof))),
         }
     });
-    assert_eq!(seen, [0, 1, 2, 3, 4, 5, 6, 8, 9, 14, 15, 16, 17, 18, 19]);
+    assert_eq!(
+        seen,
+        [0, 1, 2, 3, 4, 5, 6, 8, 9, 14, 15, 16, 17, 18, 19, 22]
+    );
 }
 
 #[test]
@@ -253,7 +260,7 @@ fn best_models_are_found_alike() {
     });
     assert_eq!(
         seen,
-        [0, 1, 2, 3, 4, 5, 6, 7, 8, 9, 10, 11, 13, 14, 15, 16, 17, 18, 19]
+        [0, 1, 2, 3, 4, 5, 6, 7, 8, 9, 10, 11, 13, 14, 15, 16, 17, 18, 19, 22]
     );
 }
 
@@ -263,9 +270,12 @@ fn large_timetables_are_scored_alike() {
         let mut random = Random::new(first_seed());
         let instance = school_of_every_kind(&mut random, events);
         let file = encode(&instance);
+        let in_windows = encode(&in_clock_time(&instance));
         for _ in 0..20 {
             let table = timetable(&mut random, &instance);
-            assert!(score(&file, &table).is_ok());
+            let scored = score(&file, &table);
+            assert!(scored.is_ok());
+            assert_eq!(score(&in_windows, &table), scored);
             assert_eq!(same_sheet(&file, &table, &table), Ok(true));
             let damaged = damaged_table(&mut random, &table);
             let _ = score(&file, &damaged);
@@ -337,7 +347,12 @@ fn every_byte_of_a_proof_changed_is_checked_alike() {
 /// The stack that include/timetable.h names is enough.
 #[test]
 fn calls_fit_the_stack_that_the_header_names() {
-    let calls = thread::Builder::new().stack_size(1024 * 1024).spawn(|| {
+    // As many groups and windows as there may be.
+    let (instance, placed) = idle_limits_in_windows(&mut Random::new(1), 1);
+    let most_groups = encode(&instance);
+    let filled = model(&instance, &placed);
+    let stack = 1024 * 1024;
+    let calls = thread::Builder::new().stack_size(stack).spawn(move || {
         let file = include_bytes!("../../schools/small.instance");
         let table = include_bytes!("../../schools/small.timetable");
         assert!(engine::read(file).is_ok());
@@ -352,6 +367,10 @@ fn calls_fit_the_stack_that_the_header_names() {
         assert!(engine::check(file, 7, proof).is_ok());
         assert!(engine::check_hard(file, proof).is_err());
         assert!(engine::best(file, model, proof).is_ok());
+        assert!(engine::score(&most_groups, &placed).is_ok());
+        assert!(engine::text(&most_groups).is_ok());
+        assert!(engine::decode(&most_groups, &filled).is_ok());
+        assert!(engine::check(&most_groups, 7, &[]).is_err());
     });
     calls.expect("a thread").join().expect("the calls return");
 }
@@ -417,7 +436,7 @@ fn any_instance(random: &mut Random) -> Instance {
     instance(random, &Shape { feasible, ..shape })
 }
 
-/// An instance and its file; of ten files one is damaged.
+/// An instance and its file, which may be damaged.
 fn mostly_accepted(random: &mut Random) -> (Vec<u8>, Instance) {
     let instance = any_instance(random);
     (any_file_of(random, &instance), instance)
@@ -485,13 +504,20 @@ fn any_solver_text(random: &mut Random, model: &[u8]) -> Vec<u8> {
     }
 }
 
-/// The file of an instance; of ten files one is damaged.
+/// The file of an instance; of ten files one is damaged, and more with a calendar.
 fn any_file_of(random: &mut Random, instance: &Instance) -> Vec<u8> {
     match random.below(20) {
         0 => encode(&damaged_instance(random, instance)),
         1 => damaged_numbers(random, &encode(instance)),
+        2 => with_damaged_calendar(random, instance),
         _ => encode(instance),
     }
+}
+
+/// The file of an instance, of which the calendar is damaged if there is one.
+fn with_damaged_calendar(random: &mut Random, instance: &Instance) -> Vec<u8> {
+    let damaged = damaged_calendar(random, instance).map(|damaged| damaged.file);
+    damaged.unwrap_or_else(|| encode(instance))
 }
 
 /// A proof for the formula of an instance, with its tail if there is a bound,
@@ -550,11 +576,12 @@ fn reference_cost(instance: &Instance, model: &[u8]) -> u64 {
 /// An instance file, valid or damaged, or any bytes.
 fn any_file(random: &mut Random) -> Vec<u8> {
     let instance = any_instance(random);
-    match random.below(6) {
+    match random.below(7) {
         0 => encode(&instance),
         1 => encode(&damaged_instance(random, &instance)),
         2 => damaged_bytes(random, &encode(&instance)),
         3 => (0..random.below(40)).map(|_| random.draw() as u8).collect(),
+        4 => with_damaged_calendar(random, &instance),
         _ => damaged_numbers(random, &encode(&instance)),
     }
 }

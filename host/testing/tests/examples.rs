@@ -386,6 +386,38 @@ fn numbers_in_groups_of_seven_bits() {
     assert_eq!(read(&hex("80 00")), refused(1, 0));
 }
 
+/// A week of six periods: 8:00 to 8:45, 8:50 to 9:35 and 10:00 to 11:30 on days 1 and 5;
+/// windows in the morning of day 5, over its second and third period, and of day 2.
+#[test]
+fn windows_are_groups_of_periods() {
+    let periods = [3, 480, 525, 530, 575, 600, 690];
+    let mut values = vec![0];
+    values.extend(periods);
+    values.extend([0, 0, 0]);
+    values.extend(periods);
+    values.extend([0, 0, 1, 1, 1, 1, 1]);
+    // One group, then the windows: groups 2 to 4.
+    values.extend([1, 2, 1, 4, 3]);
+    values.extend([5, 480, 575, 5, 530, 690, 2, 0, 1_440]);
+    let constraints = |group| [1, 2, 7, 1, group];
+    let objective = |group, time: usize| {
+        let file = numbers(&[&values[..], &constraints(group)].concat());
+        let mut table = vec![0; 12];
+        (table[time - 1], table[6 + time - 1]) = (1, 1);
+        score(&file, &table).map(|score| score.objective.0 / 7)
+    };
+    let members = |group| -> Vec<usize> {
+        let with = |time: &usize| objective(group, *time) == Ok(1);
+        (1..=6).filter(with).collect()
+    };
+    assert_eq!(members(1), [1, 4]);
+    assert_eq!(members(2), [4, 5]);
+    assert_eq!(members(3), [5, 6]);
+    assert_eq!(members(4), [0; 0]);
+    let beyond = numbers(&[&values[..], &constraints(5)].concat());
+    assert_eq!(read(&beyond), refused(3, beyond.len() as u64 - 1));
+}
+
 #[test]
 fn limits() {
     let with_times = |times| read(&numbers(&[times, 1, 0, 1, 0, 0, 0]));

@@ -8,12 +8,13 @@ use support::both::{
     check, decode, read, same_sheet, score, sizes, solver_text, text, text_program, text_size,
 };
 use testing::generate::{
-    damaged_instance, damaged_numbers, damaged_table, damaged_text, damaged_texts, encode,
-    instance, lent, model, number_starts, printed, proof, timetable, wrapped, Line, Printed,
-    Random, Shape,
+    damaged_calendars, damaged_instance, damaged_numbers, damaged_table, damaged_text,
+    damaged_texts, encode, instance, lent, model, number_starts, printed, proof, timetable,
+    wrapped, Line, Printed, Random, Shape,
 };
 use testing::reference::{
-    Constraint, Infeasibility, Instance, Kind, Range, Refusal, Sheet, LARGEST_GAP,
+    Calendar, Constraint, Infeasibility, Instance, Kind, Period, Range, Refusal, Sheet, Window,
+    LARGEST_GAP, LAST_MINUTE,
 };
 
 /// How often each refusal was given; 0 stands for acceptance.
@@ -74,6 +75,124 @@ fn instances_are_accepted_and_read_back() {
         assert_eq!(Instance::read(&file), Ok(instance), "seed {seed}");
         assert!(number_starts(&file).len() <= file.len());
     }
+}
+
+/// What days and their periods are like: a name for each case.
+fn cases_of_days(calendar: &Calendar) -> Vec<&'static str> {
+    let mut cases = vec![match calendar.times() {
+        1 => "one period",
+        125 => "125 periods",
+        _ => "several periods",
+    }];
+    for periods in &calendar.days {
+        cases.push(match periods.len() {
+            0 => "an empty day",
+            24 => "a full day",
+            _ => "a day",
+        });
+        for pair in periods.windows(2) {
+            cases.push(match pair[0].end == pair[1].start {
+                true => "no break",
+                false => "a break",
+            });
+        }
+        let begins = periods.first().is_some_and(|period| period.start == 0);
+        let ends = periods
+            .last()
+            .is_some_and(|period| period.end == LAST_MINUTE);
+        cases.extend(begins.then_some("from the first minute"));
+        cases.extend(ends.then_some("to the last minute"));
+    }
+    cases
+}
+
+/// What windows are like: a name for each case.
+fn cases_of_windows(calendar: &Calendar) -> Vec<&'static str> {
+    let mut cases = vec![match calendar.windows.len() {
+        0 => "no window",
+        _ => "windows",
+    }];
+    for &window in &calendar.windows {
+        let Window { day, from, to } = window;
+        let periods = &calendar.days[day as usize - 1];
+        let inside = calendar.group(window).len();
+        cases.push(match inside {
+            0 if periods.is_empty() => "of an empty day",
+            0 => "of no period",
+            1 => "of one period",
+            all if all == periods.len() => "of all periods of several",
+            _ => "of some periods",
+        });
+        cases.extend((from > to).then_some("from above to"));
+        let cut = |period: &Period| {
+            let overlaps = period.end > from && period.start < to;
+            overlaps && (period.start < from || period.end > to)
+        };
+        cases.extend(periods.iter().any(cut).then_some("a period cut"));
+        let first = periods.iter().any(|period| period.start == from);
+        let last = periods.iter().any(|period| period.end == to);
+        cases.extend((first && last && inside > 0).then_some("at a start and an end"));
+    }
+    cases
+}
+
+#[test]
+fn calendars_of_every_sort_are_drawn() {
+    let mut seen: BTreeMap<&str, usize> = BTreeMap::new();
+    let long = Shape {
+        times: 120..=125,
+        ..Shape::small()
+    };
+    let mut with_calendar = 0;
+    for seed in 0..4_000 {
+        let mut random = Random::new(seed);
+        let shape = match seed % 4 {
+            0 => long.clone(),
+            _ => shape(seed),
+        };
+        let feasible = false;
+        let instance = instance(&mut random, &Shape { feasible, ..shape });
+        let Some(calendar) = &instance.calendar else {
+            continue;
+        };
+        with_calendar += 1;
+        assert_eq!(calendar.times(), instance.times);
+        let cases = [cases_of_days(calendar), cases_of_windows(calendar)];
+        for case in cases.concat() {
+            *seen.entry(case).or_default() += 1;
+        }
+    }
+    println!("seeds 0..4_000: {with_calendar} calendars, {seen:?}");
+    assert!((1_000..1_400).contains(&with_calendar));
+    assert_eq!(seen.len(), 10 + 10);
+    assert!(seen.values().all(|&count| count >= 20));
+}
+
+/// Each damaged calendar earns the refusal that is said of it, in each of these ways.
+#[test]
+fn damaged_calendars_reach_refusals_1_and_22() {
+    let mut seen: BTreeMap<(u32, &str), usize> = BTreeMap::new();
+    for seed in 0..400 {
+        let mut random = Random::new(seed);
+        let calendars = 50;
+        let shape = shape(seed);
+        let instance = instance(&mut random, &Shape { calendars, ..shape });
+        let all = damaged_calendars(&mut random, &instance);
+        assert_eq!(all.is_empty(), instance.calendar.is_none());
+        for damaged in all {
+            let case = (damaged.refusal.number, damaged.name);
+            assert_eq!(
+                read(&damaged.file),
+                Err(damaged.refusal),
+                "seed {seed}, {case:?}"
+            );
+            *seen.entry(case).or_default() += 1;
+        }
+    }
+    println!("seeds 0..400: {seen:?}");
+    let of = |number| seen.keys().filter(|(one, _)| *one == number).count();
+    assert_eq!((of(1), of(22)), (8, 15));
+    assert!(seen.values().all(|&count| count >= 20));
 }
 
 /// What instances have of kinds 9 and 10: a name for each case.
@@ -394,7 +513,7 @@ fn timetables_are_accepted_and_models_decode_to_their_score() {
 }
 
 #[test]
-fn damaged_files_reach_refusals_1_to_6_and_19() {
+fn damaged_files_reach_refusals_1_to_6_19_and_22() {
     let mut seen = Seen::default();
     let long_lists = Shape {
         times: 100..=125,
@@ -434,7 +553,7 @@ fn damaged_files_reach_refusals_1_to_6_and_19() {
         }
     }
     println!("seeds 0..2_000: {seen:?}");
-    for number in (0..=6).chain([19]) {
+    for number in (0..=6).chain([19, 22]) {
         assert!(seen.times(number) >= 20, "refusal {number}");
     }
 }

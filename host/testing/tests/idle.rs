@@ -183,6 +183,7 @@ fn one_resource(times: usize, durations: &[usize], groups: Vec<Vec<usize>>) -> I
     Instance {
         times,
         resources: 1,
+        calendar: None,
         events: durations.iter().map(event).collect(),
         constraints: vec![idle(1, 0, (0..groups.len()).collect())],
         groups,

@@ -6,8 +6,8 @@ mod support;
 use std::collections::BTreeSet;
 use support::long_list;
 use testing::generate::{
-    damaged_bytes, damaged_instance, damaged_numbers, encode, instance, number_starts, Random,
-    Shape,
+    damaged_bytes, damaged_calendar, damaged_instance, damaged_numbers, encode, instance,
+    number_starts, Random, Shape,
 };
 use testing::reference;
 use timetable::instance::{field_at, read, write, Entry, Part};
@@ -22,8 +22,10 @@ fn accepted(random: &mut Random) -> Vec<u8> {
 fn damaged(random: &mut Random) -> Vec<u8> {
     let shape = Shape::small();
     let whole = instance(random, &shape);
+    let in_calendar = damaged_calendar(random, &whole);
     match random.below(8) {
         0 => long_list(),
+        1..=3 if in_calendar.is_some() => in_calendar.map_or_else(Vec::new, |found| found.file),
         1 | 2 => encode(&damaged_instance(random, &whole)),
         3 | 4 => damaged_bytes(random, &encode(&whole)),
         _ => damaged_numbers(random, &encode(&whole)),
@@ -56,7 +58,7 @@ fn files_are_refused_as_by_the_reference() {
             (typed, answer) => panic!("seed {seed}: {typed:?} and {answer:?}"),
         }
     }
-    assert_eq!(seen, BTreeSet::from([1, 2, 3, 4, 5, 6, 19]));
+    assert_eq!(seen, BTreeSet::from([1, 2, 3, 4, 5, 6, 19, 22]));
 }
 
 #[test]

@@ -5,11 +5,11 @@ mod support;
 
 use support::both::{check, decode, read, score, sizes, solver_text};
 use testing::generate::{
-    encode, idle_limits, long_lengths, long_tail, many_ors, many_variables, model, planned_school,
-    scattered, wrapped, Plan, Random,
+    encode, idle_limits, idle_limits_in_windows, in_clock_time, long_lengths, long_tail, many_ors,
+    many_variables, model, planned_school, scattered, school, wrapped, Plan, Random,
 };
 use testing::prover::{clause_list, lemmas};
-use testing::reference::{Infeasibility, Instance, Refusal};
+use testing::reference::{Infeasibility, Instance, Refusal, LONGEST_LIST};
 use testing::steps::{encode_steps, renumbered, with_gaps, Step};
 
 /// The timetable keeps the hard constraints, and its model decodes to it.
@@ -44,6 +44,39 @@ fn the_longest_file_of_idle_limits_has_8_megabytes() {
     assert_eq!(read(&file).map(|summary| summary.constraints), Ok(4_096));
     let sizes = sizes(&file, Some(10)).expect("a formula that is small enough");
     assert!(sizes.clauses > 130_000_000);
+}
+
+/// 1,024 groups and 1,024 windows, all of them in each of 4,096 lists: the longest file.
+#[test]
+fn the_longest_file_of_a_calendar_has_16_megabytes() {
+    let (instance, table) = idle_limits_in_windows(&mut Random::new(1), 3);
+    keeps(&instance, &table);
+    let lists = instance.constraints.iter();
+    let mut lengths = lists.map(|one| instance.list_length(&one.kind));
+    assert!(lengths.all(|length| length == LONGEST_LIST));
+    let (instance, table) = idle_limits_in_windows(&mut Random::new(1), 4_096);
+    let file = encode(&instance);
+    assert!((16_200_000..16_400_000).contains(&file.len()));
+    let found = read(&file).expect("as long as it may be");
+    assert_eq!((found.times, found.groups), (125, 2_048));
+    assert_eq!(found.constraints, 4_096);
+    let score = score(&file, &table).expect("a timetable");
+    assert_eq!(score.infeasibility, Infeasibility(0));
+}
+
+/// The windows of a school in clock time are the groups of the same school without it.
+#[test]
+fn schools_in_clock_time_have_the_same_groups() {
+    for lessons in [20, 100] {
+        let school = school(&mut Random::new(1), lessons);
+        let timed = in_clock_time(&school);
+        assert_eq!(timed.groups, school.groups);
+        assert!(timed.time_groups().is_empty());
+        let [file, other] = [&timed, &school].map(encode);
+        assert_eq!(Instance::read(&file).as_ref(), Ok(&timed));
+        assert_eq!(read(&file), read(&other));
+        assert_eq!(sizes(&file, Some(10)), sizes(&other, Some(10)));
+    }
 }
 
 /// A start of kind 9 at time t has 3 × (T + 2 − t) + 1 words; M has 7 × (T − 1) + 1.

@@ -77,6 +77,166 @@ mod general {
     }
 }
 
+mod calendars {
+    use super::*;
+
+    /// One period on day 1 from 0 to 5, one event and no group, then `rest`.
+    fn one_period(rest: &str) -> Vec<u8> {
+        hex(&format!(
+            "00 01 00 05 00 00 00 00 00 00 01 00 01 00 00 {rest}"
+        ))
+    }
+
+    fn accepted(file: &[u8]) -> Option<(usize, usize)> {
+        let found = read(file).ok()?;
+        Some((found.times, found.groups))
+    }
+
+    /// Decision 98: 22 gives the first byte of the count, period or window, whichever of
+    /// its numbers breaks a rule.
+    #[test]
+    fn a_fault_stands_at_the_period_or_window() {
+        assert_eq!(read_of("00 01 00 A1 0B"), refused(22, 2));
+        assert_eq!(read(&one_period("01 01 00 A1 0B 00")), refused(22, 16));
+        assert_eq!(read(&one_period("01 01 A1 0B 00 00")), refused(22, 16));
+        // Of the second period and the second window.
+        assert_eq!(read_of("00 02 00 05 05 A1 0B"), refused(22, 4));
+        assert_eq!(
+            read(&one_period("02 01 00 05 01 00 A1 0B")),
+            refused(22, 19)
+        );
+        assert_eq!(read_of("00 00 19"), refused(22, 2));
+    }
+
+    /// Decision 99: A limit is looked at as its number is read, order after the period's
+    /// end; a bad number is 1 with its own offset.
+    #[test]
+    fn limits_come_before_the_next_number_and_order_after_the_end() {
+        assert_eq!(read_of("00 01 A1 0B"), refused(22, 2));
+        assert_eq!(read_of("00 01 A1 0B 80"), refused(22, 2));
+        assert_eq!(read_of("00 01 05 05"), refused(22, 2));
+        assert_eq!(read_of("00 01 06 05"), refused(22, 2));
+        assert_eq!(read_of("00 01 05 80"), refused(1, 3));
+        assert_eq!(read_of("00 01 05"), refused(1, 3));
+        assert_eq!(read_of("00 02 00 05 04 09"), refused(22, 4));
+        assert_eq!(read_of("00 02 00 05 04 80"), refused(1, 5));
+        assert_eq!(read_of("00 02 00 05 04"), refused(1, 5));
+        // A period cannot start at the day's end, which is no limit of its start.
+        assert_eq!(read_of("00 01 A0 0B 80"), refused(1, 4));
+        assert_eq!(read_of("00 01 A0 0B A0 0B"), refused(22, 2));
+        assert_eq!(read_of("00 19"), refused(22, 1));
+        assert_eq!(read_of("00"), refused(1, 1));
+        assert_eq!(read_of("80 00"), refused(1, 0));
+        assert_eq!(read_of("7E"), refused(2, 0));
+        // In windows too.
+        assert_eq!(read(&one_period("01 08")), refused(22, 16));
+        assert_eq!(read(&one_period("01 01 A1 0B 80")), refused(22, 16));
+        assert_eq!(read(&one_period("01 01 80")), refused(1, 17));
+    }
+
+    /// Decision 100: No period or more than 125 are seen after day 7 and before the
+    /// events, and give the offset of the 0 in place of T.
+    #[test]
+    fn the_number_of_periods_is_looked_at_after_the_last_day() {
+        assert_eq!(read_of("00 00 00 00 00 00 00 00"), refused(22, 0));
+        assert_eq!(read_of("00 00 00 00 00 00 00 00 80"), refused(22, 0));
+        assert_eq!(read_of("00 00 00 00 00 00 00"), refused(1, 7));
+        // A fault of day 7 comes first: its count, and one of its periods.
+        let six_days = {
+            let mut values = vec![0];
+            for _ in 0..6 {
+                values.push(24);
+                values.extend((0..24).flat_map(|at| [at, at + 1]));
+            }
+            values
+        };
+        let with = |rest: &[u32]| read(&numbers(&[&six_days[..], rest].concat()));
+        let length = six_days.len() as u64;
+        assert_eq!(with(&[0]), refused(22, 0));
+        assert_eq!(with(&[25]), refused(22, length));
+        assert_eq!(with(&[1, 5, 5]), refused(22, length + 1));
+        assert_eq!(with(&[1, 5]), refused(1, length + 2));
+    }
+
+    /// Decision 101: Periods of a day may touch; those of two days have nothing to do
+    /// with each other.
+    #[test]
+    fn neighbours_may_touch_and_days_are_apart() {
+        let touching = hex("00 02 00 05 05 09 00 00 00 00 00 00 01 00 01 00 00 00 00");
+        assert_eq!(accepted(&touching), Some((2, 0)));
+        let overlapping = hex("00 02 00 05 04 09 00 00 00 00 00 00 01 00 01 00 00 00 00");
+        assert_eq!(read(&overlapping), refused(22, 4));
+        let apart = hex("00 01 04 05 01 00 05 00 00 00 00 00 01 00 01 00 00 00 00");
+        assert_eq!(accepted(&apart), Some((2, 0)));
+    }
+
+    /// Decision 102: Only a file with a calendar has a count of windows.
+    #[test]
+    fn a_file_that_gives_its_times_has_no_windows() {
+        let plain = hex("01 01 00 01 00 00 00");
+        assert_eq!(accepted(&plain), Some((1, 0)));
+        assert_eq!(read_of("01 01 00 01 00 00 00 00"), refused(6, 7));
+        // With a calendar the count of constraints comes after it.
+        assert_eq!(read(&one_period("00")), refused(1, 16));
+        assert_eq!(accepted(&one_period("00 00")), Some((1, 0)));
+    }
+
+    /// Decision 103: Day, from, to and the count are limits of 22; from above to is no
+    /// fault. The count of time groups stays 2.
+    #[test]
+    fn numbers_of_windows_have_limits() {
+        assert_eq!(read(&one_period("01 00 00 00 00")), refused(22, 16));
+        assert_eq!(read(&one_period("01 08 00 00 00")), refused(22, 16));
+        assert_eq!(read(&one_period("81 08")), refused(22, 15));
+        assert_eq!(accepted(&one_period("01 01 05 00 00")), Some((1, 1)));
+        assert_eq!(accepted(&one_period("01 07 00 A0 0B 00")), Some((1, 1)));
+        let groups = "00 01 00 05 00 00 00 00 00 00 01 00 01 00 81 08";
+        assert_eq!(read_of(groups), refused(2, 14));
+    }
+
+    /// Decision 104: A window is a group after the time groups: references, lists of
+    /// groups and lengths of lists go by that.
+    #[test]
+    fn windows_are_groups() {
+        let empty =
+            "00 01 00 05 00 00 00 00 00 00 01 01 01 01 01 00 01 01 05 00 01 06 00 01 01 01 01";
+        assert_eq!(read_of(empty), refused(5, 21));
+        let whole =
+            "00 01 00 05 00 00 00 00 00 00 01 01 01 01 01 00 01 01 00 05 01 06 00 01 01 01 01";
+        assert_eq!(accepted(&hex(whole)), Some((1, 1)));
+        assert_eq!(
+            read(&one_period("01 01 00 05 01 03 00 01 02")),
+            refused(3, 23)
+        );
+        assert_eq!(
+            accepted(&one_period("01 01 00 05 01 03 00 01 01")),
+            Some((1, 1))
+        );
+        // Two groups of one resource, of which the second is a window.
+        let listed = "00 01 00 05 00 00 00 00 00 00 01 01 01 01 01 01 00 01 01 00 05 01 07 00 01";
+        let with = |groups: &str| read_of(&format!("{listed} {groups} 00 02"));
+        assert!(with("02 01 02").is_ok());
+        assert_eq!(with("03 01 02 03"), refused(2, 25));
+        assert_eq!(with("02 01 03"), refused(3, 27));
+    }
+
+    /// Decision 105: A period that begins with its window and ends with it belongs to it.
+    #[test]
+    fn both_ends_count() {
+        // Kind 2 at weight 1 for the only resource, which is used at the only time.
+        let charged = |from: u8, to: u8| {
+            let file = format!(
+                "00 01 03 05 00 00 00 00 00 00 01 01 01 01 01 00 01 01 {from:02X} {to:02X} 01 02 01 01 01"
+            );
+            score(&hex(&file), &[1, 1])
+        };
+        assert_eq!(charged(3, 5), scored(0, 1));
+        assert_eq!(charged(2, 6), scored(0, 1));
+        assert_eq!(charged(4, 5), scored(0, 0));
+        assert_eq!(charged(3, 4), scored(0, 0));
+    }
+}
+
 mod reader {
     use super::*;
 
@@ -892,7 +1052,7 @@ mod sizing {
         assert_eq!(check(&file, 4_096, &[], 0, 0, 0), refused(7, 4_096));
         assert_eq!(check(&file, 0, &[], 0, 0, 0), refused(8, 0));
         assert_eq!(check(&hex(FILE_A), 0, &[], 0, 0, 0), refused(9, 0));
-        assert_eq!(check(&hex("00"), 4_096, &[], 0, 0, 0), refused(2, 0));
+        assert_eq!(check(&hex("7E"), 4_096, &[], 0, 0, 0), refused(2, 0));
     }
 
     /// Decision 30: Only proof checks count the tail for 8; 8,000,000 variables pass.
@@ -1099,7 +1259,8 @@ mod text_for_solvers {
     #[test]
     fn a_longer_file_is_9() {
         assert_eq!(text_program(&[0; 65_537]), b"9 0\n");
-        assert_eq!(text_program(&[0; 65_536]), b"2 0\n");
+        assert_eq!(text_program(&[126; 65_536]), b"2 0\n");
+        assert_eq!(text_program(&[0; 65_536]), b"22 0\n");
     }
 
     /// Decision 54: Without soft units top is 1.

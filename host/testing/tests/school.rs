@@ -3,9 +3,10 @@
 
 use std::collections::HashSet;
 use testing::generate::{encode, instance, school_of_every_kind, Random, Shape};
-use timetable::instance::{read, write, Counts};
+use timetable::instance::{read, write, Instance, DAYS};
 use timetable::school::{
-    parse, print, read_names, write_names, Day, Names, Resource, ResourceSort, School,
+    calendar_days, parse, print, read_names, write_names, Day, Names, Resource, ResourceSort,
+    School,
 };
 
 const CASES: u64 = 3_000;
@@ -48,8 +49,8 @@ fn any_names_come_back() {
     for seed in 0..CASES {
         let random = &mut Random::new(seed);
         let file = file(random);
-        let counts = read(&file).expect("an instance").counts();
-        let names = any_names(random, counts);
+        let instance = read(&file).expect("an instance");
+        let names = any_names(random, &instance);
         comes_back(&file, Some(names), &format!("seed {seed}"));
     }
 }
@@ -79,7 +80,8 @@ fn names_for_other_bytes_are_refused() {
 }
 
 /// Names with spaces, quotes, words of the language and other hard cases.
-fn any_names(random: &mut Random, counts: Counts) -> Names {
+fn any_names(random: &mut Random, instance: &Instance) -> Names {
+    let counts = instance.counts();
     let mut used = HashSet::new();
     let mut fresh = |random: &mut Random| loop {
         let name = any_name(random);
@@ -87,25 +89,13 @@ fn any_names(random: &mut Random, counts: Counts) -> Names {
             return name;
         }
     };
-    let mut days = Vec::new();
-    let mut left = counts.times;
-    while left > 0 {
-        let count = 1 + random.below(left);
-        let before = days
-            .last()
-            .map_or(Vec::new(), |day: &Day| day.periods.clone());
-        let periods = match random.chance(60) && (1..=left).contains(&before.len()) {
-            true => before,
-            false => (0..count).map(|_| fresh(random)).collect(),
-        };
-        let count = periods.len();
-        let name = random.chance(90).then(|| fresh(random));
-        if name.is_none() && days.iter().any(|day: &Day| day.periods == periods) {
-            continue; // times of no day with the names of others
+    let days = match &instance.calendar {
+        Some(calendar) => {
+            let week: Vec<String> = (0..DAYS).map(|_| fresh(random)).collect();
+            calendar_days(&week, calendar)
         }
-        days.push(Day { name, periods });
-        left -= count;
-    }
+        None => any_days(random, counts.times, &mut fresh),
+    };
     let resource = |name, random: &mut Random| Resource {
         sort: random.pick(&ResourceSort::ALL),
         name,
@@ -123,6 +113,34 @@ fn any_names(random: &mut Random, counts: Counts) -> Names {
         lessons: list(random, counts.events),
         groups: list(random, counts.groups),
     }
+}
+
+/// Days of so many times, some of them without a name.
+fn any_days(
+    random: &mut Random,
+    times: usize,
+    fresh: &mut impl FnMut(&mut Random) -> String,
+) -> Vec<Day> {
+    let mut days = Vec::new();
+    let mut left = times;
+    while left > 0 {
+        let count = 1 + random.below(left);
+        let before = days
+            .last()
+            .map_or(Vec::new(), |day: &Day| day.periods.clone());
+        let periods = match random.chance(60) && (1..=left).contains(&before.len()) {
+            true => before,
+            false => (0..count).map(|_| fresh(random)).collect(),
+        };
+        let count = periods.len();
+        let name = random.chance(90).then(|| fresh(random));
+        if name.is_none() && days.iter().any(|day: &Day| day.periods == periods) {
+            continue; // times of no day with the names of others
+        }
+        days.push(Day { name, periods });
+        left -= count;
+    }
+    days
 }
 
 fn any_name(random: &mut Random) -> String {

@@ -365,7 +365,7 @@ fn drawn_call(random: &mut Random) -> (Vec<u8>, Vec<Vec<u8>>, [usize; 2]) {
 fn readers_that_make_a_mistake_are_found_by_drawn_texts() {
     let mut found: BTreeMap<String, usize> = BTreeMap::new();
     let mut texts = 0;
-    for seed in 0..100 {
+    for seed in 0..150 {
         let (file, drawn, lengths) = drawn_call(&mut Random::new(seed));
         for text in drawn {
             texts += 1;
@@ -378,7 +378,7 @@ fn readers_that_make_a_mistake_are_found_by_drawn_texts() {
             }
         }
     }
-    println!("seeds 0..100: {texts} texts, found by so many: {found:?}");
+    println!("seeds 0..150: {texts} texts, found by so many: {found:?}");
     for (mistake, count) in found {
         assert!(count >= 5, "{mistake}");
     }

@@ -94,6 +94,10 @@ fn the_macros_are_the_limits() {
         ("MOST_EVENTS", u64::from(instance::MOST_EVENTS)),
         ("MOST_RESOURCES", u64::from(instance::MOST_RESOURCES)),
         ("MOST_GROUPS", u64::from(instance::MOST_GROUPS)),
+        ("DAYS", u64::from(instance::DAYS)),
+        ("MOST_PERIODS", u64::from(instance::MOST_PERIODS)),
+        ("LAST_MINUTE", u64::from(instance::LAST_MINUTE)),
+        ("MOST_WINDOWS", u64::from(instance::MOST_WINDOWS)),
         ("MOST_CONSTRAINTS", u64::from(instance::MOST_CONSTRAINTS)),
         ("LARGEST_WEIGHT", u64::from(instance::LARGEST_WEIGHT)),
         (

@@ -68,7 +68,7 @@ fn refused_instances_are_told_by_field_value_and_limit() {
         (
             "7E",
             "refused 2 0\n",
-            "number of times: 126 is not from 1 to 125",
+            "number of times: 126 is not from 0 to 125",
         ),
         (
             "02 01 00 03 00",
@@ -799,7 +799,7 @@ fn a_file_of_another_sort_is_recognised() {
 #[test]
 fn every_refusal_is_told_in_words_with_its_numbers() {
     let mut told = Vec::new();
-    for number in 1..=21 {
+    for number in 1..=22 {
         let value = 1_000 + u64::from(number);
         let message = refusals::in_words(Refusal { number, value }, &[], &[]);
         assert!(message.starts_with(&format!("refusal {number} {value}: ")));
@@ -814,12 +814,12 @@ fn every_refusal_is_told_in_words_with_its_numbers() {
         );
         assert_eq!(
             message.contains("[end]"),
-            [1, 2, 3, 4, 5, 6, 11, 19, 20].contains(&number),
+            [1, 2, 3, 4, 5, 6, 11, 19, 20, 22].contains(&number),
             "{message}"
         );
         told.push(refusals::words(number));
     }
     told.sort_unstable();
     told.dedup();
-    assert_eq!(told.len(), 21);
+    assert_eq!(told.len(), 22);
 }

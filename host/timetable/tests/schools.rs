@@ -6,11 +6,18 @@ mod support;
 use std::collections::BTreeSet;
 use std::fs;
 use std::path::{Path, PathBuf};
-use support::{command, folder, host, repository, stand_ins, Run};
+use support::{command, folder, hex, host, repository, stand_ins, Run};
 use timetable::instance::KINDS;
+use timetable::school::{parse, School};
 
 /// Each example with the cost of its timetable.
-const EXAMPLES: [(&str, u64); 4] = [("village", 4), ("town", 3), ("evening", 4), ("college", 0)];
+const EXAMPLES: [(&str, u64); 5] = [
+    ("village", 4),
+    ("town", 3),
+    ("evening", 4),
+    ("college", 0),
+    ("lakeside", 3),
+];
 
 fn run(folder: &Path, words: &[&str]) -> Run {
     let output = command(words).current_dir(folder).output();
@@ -110,6 +117,20 @@ fn the_village_is_shown_as_expected() {
     is_as_expected(&show(&[]), "village.txt");
     is_as_expected(&visible(&show(&["--html"])), "village.html.txt");
     is_as_expected(&show(&["--csv", "--class", "Lower"]), "village.csv");
+}
+
+#[test]
+fn the_lakeside_is_shown_by_the_clock() {
+    let folder = compiled("clock", "lakeside");
+    let show = |words: &[&str]| {
+        accepted(
+            &folder,
+            &[&["show", "a.instance", "a.timetable"], words].concat(),
+        )
+    };
+    is_as_expected(&show(&[]), "lakeside.txt");
+    is_as_expected(&visible(&show(&["--html"])), "lakeside.html.txt");
+    is_as_expected(&show(&["--csv", "--teacher", "Okoye"]), "lakeside.csv");
 }
 
 #[test]
@@ -457,6 +478,7 @@ fn the_format_is_as_it_is_described() {
     doubles_are_as_described(&folder, &format);
     preferred_times_are_as_described(&folder, &format);
     gaps_are_as_described(&folder, &format);
+    calendars_are_as_described(&folder, &format);
     for facts in KINDS {
         let row = format!("| {} | `{} hard ", facts.number, facts.name);
         assert!(format.contains(&row), "{row}");
@@ -539,6 +561,34 @@ fn gaps_are_as_described(folder: &Path, format: &str) {
         told += usize::from(shown.contains(words.expect("what show tells")));
     }
     assert_eq!(told, 1, "what is said of show is of one of the rows");
+}
+
+/// Each row of that section's table: a group or window, its number and its times; and the
+/// bytes that the section shows.
+fn calendars_are_as_described(folder: &Path, format: &str) {
+    let section = format.split_once("## A week in clock time");
+    let section = section.expect("a section").1;
+    let text = section.split("```").nth(1).expect("a school");
+    let School { instance, names } = parse(text).expect("a school");
+    let times = names.times();
+    let rows = section.lines().filter(|line| line.starts_with("| `"));
+    let groups = names.groups.iter().zip(&instance.groups);
+    for (number, ((name, members), row)) in (1..).zip(groups.zip(rows)) {
+        let members = members.iter().map(|&time| format!("`{}`", times[time]));
+        let members = match members.collect::<Vec<_>>().join(", ") {
+            none if none.is_empty() => "none".to_string(),
+            some => some,
+        };
+        assert_eq!(row, format!("| `{name}` | {number} | {members} |"));
+    }
+    assert!(section.contains(&format!("| {} | none |\n\n", names.groups.len())));
+    fs::write(folder.join("f.school"), text).expect("a file");
+    accepted(folder, &["compile", "f.school", "-o", "f.instance"]);
+    let shown = section.split("```").nth(3).expect("the bytes").lines();
+    // What a line means stands after two spaces.
+    let shown = shown.filter_map(|line| line.split("  ").next());
+    let shown: Vec<u8> = shown.flat_map(hex).collect();
+    assert_eq!(fs::read(folder.join("f.instance")).expect("a file"), shown);
 }
 
 /// Each row of that section's table: its parts placed, and what it says they cost.

@@ -113,8 +113,8 @@ fn help_names_every_subcommand_and_each_has_its_own() {
 #[test]
 fn help_lists_the_refusals_of_an_operation() {
     for (name, numbers) in [
-        ("read", vec![1, 2, 3, 4, 5, 6, 19]),
-        ("model", vec![1, 2, 3, 4, 5, 6, 8, 13, 19, 20, 21]),
+        ("read", vec![1, 2, 3, 4, 5, 6, 19, 22]),
+        ("model", vec![1, 2, 3, 4, 5, 6, 8, 13, 19, 20, 21, 22]),
     ] {
         let help = run(&[name, "--help"]).printed;
         for facts in REFUSALS {

@@ -1,4 +1,4 @@
-/* Reading an instance file: refusals 1 to 6 and 19. */
+/* Reading an instance file: refusals 1 to 6, 19 and 22. */
 #include "plain.h"
 
 #include <string.h>
@@ -152,14 +152,75 @@ static void fill_users(struct instance *in)
         }
 }
 
-/* The store has room for a number for each byte of the file and each use of a resource. */
+/* A day's periods in minutes, and how many times come before the first of them. */
+struct day {
+    uint32_t before, count, start[MOST_PERIODS], end[MOST_PERIODS];
+};
+
+/* A number of a calendar or a window. */
+static int in_clock_time(struct reader *r, uint32_t least, uint32_t most, uint32_t *value)
+{
+    int bad = limited(r, least, most, value);
+    return bad == 2 ? 22 : bad;
+}
+
+static int read_day(struct reader *r, struct day *d)
+{
+    int bad = in_clock_time(r, 0, MOST_PERIODS, &d->count);
+    for (uint32_t i = 0; !bad && i < d->count; i++) {
+        if ((bad = in_clock_time(r, 0, LAST_MINUTE, &d->start[i])) || (bad = in_clock_time(r, 0, LAST_MINUTE, &d->end[i])))
+            return bad;
+        if (d->start[i] >= d->end[i] || (i && d->start[i] < d->end[i - 1]))
+            return 22;
+    }
+    return bad;
+}
+
+/* The calendar after the 0 in place of the number of times. */
+static int read_calendar(struct instance *in, struct reader *r, struct day *days)
+{
+    for (uint32_t d = 0; d < DAYS; d++) {
+        int bad = read_day(r, &days[d]);
+        if (bad)
+            return bad;
+        days[d].before = in->times;
+        in->times += days[d].count;
+    }
+    return in->times < 1 || in->times > MOST_TIMES ? 22 : 0;
+}
+
+/* The windows of a calendar as groups: of a day's periods those that lie inside. */
+static int read_windows(struct instance *in, struct reader *r, const struct day *days)
+{
+    uint32_t count, day, from, to;
+    int bad = in_clock_time(r, 0, MOST_WINDOWS, &count);
+    for (uint32_t w = 0; !bad && w < count; w++) {
+        if ((bad = in_clock_time(r, 1, DAYS, &day)) || (bad = in_clock_time(r, 0, LAST_MINUTE, &from))
+            || (bad = in_clock_time(r, 0, LAST_MINUTE, &to)))
+            return bad;
+        const struct day *d = &days[day - 1];
+        struct list *group = &in->group[in->groups++];
+        group->first = in->used;
+        for (uint32_t i = 0; i < d->count; i++)
+            if (d->start[i] >= from && d->end[i] <= to)
+                in->store[in->used++] = (uint16_t)(d->before + i + 1);
+        group->count = in->used - group->first;
+    }
+    return bad;
+}
+
+/* The store has room for a number for each byte of the file, each use of a resource and each window's periods. */
 int read_instance(struct instance *in, const uint8_t *file, size_t length)
 {
     struct reader r = {file, length, 0};
     int bad;
     uint32_t value;
+    struct day days[DAYS];
     in->used = 0;
-    if ((bad = limited(&r, 1, MOST_TIMES, &in->times)) || (bad = limited(&r, 1, MOST_EVENTS, &in->events))
+    if ((bad = limited(&r, 0, MOST_TIMES, &in->times)))
+        return bad;
+    int calendar = !in->times;
+    if ((calendar && (bad = read_calendar(in, &r, days))) || (bad = limited(&r, 1, MOST_EVENTS, &in->events))
         || (bad = limited(&r, 0, MOST_RESOURCES, &in->resources)))
         return bad;
     for (uint32_t e = 0; e < in->events; e++) {
@@ -173,6 +234,8 @@ int read_instance(struct instance *in, const uint8_t *file, size_t length)
     for (uint32_t g = 0; g < in->groups; g++)
         if ((bad = read_list(in, &r, in->times, &in->group[g])))
             return bad;
+    if (calendar && (bad = read_windows(in, &r, days)))
+        return bad;
     if ((bad = limited(&r, 0, MOST_CONSTRAINTS, &in->constraints)))
         return bad;
     for (uint32_t i = 0; i < in->constraints; i++)

@@ -226,7 +226,7 @@ int main(int count, char **words)
         t.bound = (uint32_t)strtoul(words[5], 0, 10);
     if (count > 5)
         t.other = load(words[count - 1]);
-    in.store = malloc(sizeof(uint16_t) * (2 * t.file.length + 1));
+    in.store = malloc(sizeof(uint16_t) * (2 * t.file.length + 1 + MOST_WINDOWS * MOST_PERIODS));
     lend(&t);
     uint64_t batch = calls_in(&t, span / 20);
     if (t.out && !t.refusal)

@@ -10,6 +10,7 @@
 #include <stdint.h>
 
 enum { MOST_TIMES = 125, MOST_EVENTS = 1024, MOST_RESOURCES = 99, MOST_GROUPS = 1024, MOST_CONSTRAINTS = 4096 };
+enum { DAYS = 7, MOST_PERIODS = 24, LAST_MINUTE = 1440, MOST_WINDOWS = 1024 };
 
 /* A list of numbers from 1, at a place of the instance's store. */
 struct list {
@@ -30,12 +31,13 @@ struct constraint {
     struct list many;
 };
 
+/* Windows are groups after the time groups. */
 struct instance {
     uint32_t times, events, resources, groups, constraints;
     uint8_t duration[MOST_EVENTS];
     struct list uses[MOST_EVENTS];
     struct list users[MOST_RESOURCES];
-    struct list group[MOST_GROUPS];
+    struct list group[MOST_GROUPS + MOST_WINDOWS];
     struct constraint constraint[MOST_CONSTRAINTS];
     uint32_t used, room;
     uint16_t *store;

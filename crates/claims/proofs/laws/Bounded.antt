@@ -24,7 +24,7 @@ use Rattle.claims.proofs.laws.Tails.{unitWord, tail-words, tail-none, b
 use Rattle.claims.specs.Bounded.{Bounding}
 
 pub bounding : {s : List ℕ} {B : ℕ} {d te tg list : List ℕ} {h : Head} {z : Size} {w : FormulaSize} → BoundedBy s B d te tg h z w
-    → Stores d te tg list → Bounding s B d te tg list h z
+    → Stores s d te tg list → Bounding s B d te tg list h z
 bounding {s} {B} {d} {te} {tg} {list} {h} b l =
     record {
       writable =
@@ -39,7 +39,7 @@ bounding {s} {B} {d} {te} {tg} {list} {h} b l =
     }
 
 -- without the tail
-pub hard-writable : {s d te tg list : List ℕ} {h : Head} {z : Size} → SizedBy s d te tg h z → Stores d te tg list
+pub hard-writable : {s d te tg list : List ℕ} {h : Head} {z : Size} → SizedBy s d te tg h z → Stores s d te tg list
     → Writable s d te tg list h
 hard-writable b l = record { accepted = b .accepted; stores = l; few = b .few }
 

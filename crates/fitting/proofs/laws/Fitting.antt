@@ -1,11 +1,12 @@
 -- The counted lists of a constraint of an accepted file can be filled, and are those of the instance.
 use mathlib.Core.Path.{_≡_, sym, ap, fun-ext, _∙_}
 use mathlib.Core.List.{List}
-use Prim.Native.Nat.{ℕ, _≤_}
+use Prim.Native.Nat.{ℕ, _*_, _≤_}
 use native.Mathlib.Omega.{arith}
 use lib.ListN.{length}
 use Rattle.scope.specs.Kinds.{Kind, Constraint, durationOf, users, groupAt, countedOf}
 use Rattle.tables.specs.Rows.{rows, eventsOf}
+use Rattle.tables.specs.Room.{groupRoom}
 use Rattle.constraint.specs.declared.kinds.Head.{Head}
 use Rattle.constraint.specs.Answers.{countsIn}
 use Rattle.constraint.proofs.laws.Bounds.{bounds-right}
@@ -36,7 +37,7 @@ module _ {s d te tg us : List ℕ} {h : Head} (a : Accepted s d te tg h) (f : Fi
 
   module _ {c : Constraint} (v : ConstraintOf (countsIn h) (headStart d te tg h) c) where
     -- what filling its lists asks for
-    pub known-fits : {list : List ℕ} → length d ≡ 1024 → length tg ≡ 129024 → length list ≡ 2048 → Fits d us tg list h (c .kind)
+    pub known-fits : {list : List ℕ} → length d ≡ 1024 → groupRoom s * 126 ≤ length tg → length list ≡ 2048 → Fits d us tg list h (c .kind)
     known-fits ld lg ll =
         let k = c .kind in
         let es = eventsOf d te (h .events) in

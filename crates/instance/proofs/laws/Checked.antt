@@ -1,5 +1,5 @@
 -- The constraints as the reader checks them are those of the instance.
-use Prim.Native.Nat.{ℕ, _≤_, _<_}
+use Prim.Native.Nat.{ℕ, _*_, _≤_, _<_}
 use mathlib.Core.Path.{_≡_, refl, sym, ap, _∙_}
 use mathlib.Core.List.{List}
 use lib.ListN.{length}
@@ -15,6 +15,8 @@ use Rattle.number.proofs.laws.Sequence.{step-number, number-refused, stop}
 use Rattle.tables.specs.Rows.{rows, eventsOf}
 use Rattle.tables.proofs.laws.Laws.{length-rows, length-events}
 use Rattle.tables.proofs.laws.Reading.{event-row, events-in, groups-in}
+use Rattle.tables.specs.Room.{groupRoom}
+use Rattle.tables.proofs.laws.Room.{room-most}
 use Rattle.tables.specs.Occurrences.{Counted}
 use Rattle.tables.proofs.laws.Occurrences.{users-counted}
 use Rattle.constraint.specs.declared.kinds.Head.{Head}
@@ -59,7 +61,7 @@ module _ (loads te groups : List ℕ) (h : Head) (s : List ℕ) (x : Number) whe
       → got 0 end ≡ ends (checkedWhole (byRows te (h .events)) groups h s)
   counted-end v end c e t l = whole-end s (h .constraints) _ _ (h .start) x e (checkedBy-same _ _ groups h s (c .each)) t l
 
-module _ (s d te tg : List ℕ) (h : Head) (i : StartIn (headStart d te tg h)) where
+module _ (s d te tg : List ℕ) (h : Head) (i : StartIn s (headStart d te tg h)) where
   -- the counts are those of the tables
   counts-are : countsOf (h .times) (h .resources) (eventsOf d te (h .events)) (rows tg (h .groups)) ≡ countsIn h
   counts-are = rw (length-events d te (h .events), length-rows tg (h .groups))
@@ -101,19 +103,19 @@ module _ (s d te tg : List ℕ) (h : Head) (i : StartIn (headStart d te tg h)) w
         rw (w, l .list)
 
 -- the tables of an instance that starts so are fit to be lent to the walk
-pub start-lent : (d te tg list : List ℕ) (h : Head)
-    → StartIn (headStart d te tg h)
+pub start-lent : (s d te tg list : List ℕ) (h : Head)
+    → StartIn s (headStart d te tg h)
     → length te ≡ 129024
-    → length tg ≡ 129024
+    → groupRoom s * 126 ≤ length tg
     → length list ≡ 2048
     → Lent te tg list h
-start-lent d te tg list h i a b c =
+start-lent s d te tg list h i a b c =
     let z = i .sizes in
     let E = length-events d te (h .events) in
     let G = length-rows tg (h .groups) in
     record {
       room = c;
-      numbers = (omega (arith, z .resources-high), omega (arith, i .group-count), omega (arith, z .events-high));
+      numbers = (omega (arith, z .resources-high), omega (arith, i .group-count, room-most s), omega (arith, z .events-high));
       events = events-in d te (h .events) (omega (arith, z .resources-high)) (omega (arith, z .events-high)) (i .events);
       rows = groups-in tg (h .groups) (z .times-high) (omega (arith, i .group-count)) (i .groups);
     }
@@ -142,7 +144,7 @@ module _ (s d te tg : List ℕ) (w : Sizes) (at : ℕ) (a : saidTables d te tg (
         rw parse-parts
         (step-tables d te tg (SizesRead.Value w at) _ _ w at _ a refl (step-number k _ _ count start _ e t l))
 
-    start-in : StartIn (startOf d te tg w)
+    start-in : StartIn s (startOf d te tg w)
     start-in = tables-start s d te tg (SizesRead.Value w at) w at a refl
 
     pub rest-stopped : (f : Refusal) → y ≡ Number.Refused f → refusedBy f ≡ parse s

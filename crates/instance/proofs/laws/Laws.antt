@@ -1,5 +1,5 @@
 -- What an accepted file is known to keep: its sizes, its tables, the walk over its constraints, each of them valid: laws.
-use Prim.Native.Nat.{ℕ, _+_, _≤_, _<_}
+use Prim.Native.Nat.{ℕ, _+_, _*_, _≤_, _<_}
 use mathlib.Core.Path.{_≡_, refl, sym, ap, _∙_, subst}
 use mathlib.Core.List.{List, _∷_}
 use lib.Dec.{leb}
@@ -19,6 +19,8 @@ use Rattle.parsing.proofs.laws.Numbers.{limited-got, repeat-got}
 use Rattle.tables.specs.Rows.{RowsIn}
 use Rattle.tables.proofs.laws.Laws.{length-rows, length-events}
 use Rattle.tables.proofs.laws.Reading.{events-in, groups-in}
+use Rattle.tables.specs.Room.{groupRoom}
+use Rattle.tables.proofs.laws.Room.{room-most}
 use Rattle.constraint.specs.declared.kinds.Constraint as decl
 use Rattle.constraint.specs.declared.kinds.Head.{Head}
 use Rattle.constraint.specs.declared.kinds.Next.{Next}
@@ -99,7 +101,7 @@ constraint-got t s at {c} {end} e =
 record Parts (s : List ℕ) (i : Instance) (end : ℕ) : Type 0 where
   start : Start
   same : i ≡ withConstraints start (i .constraints)
-  begins : StartIn start
+  begins : StartIn s start
   count : length (i .constraints) ≤ 4096
   last : end ≡ length s
   some : 0 < end
@@ -153,10 +155,10 @@ module _ (s d te tg : List ℕ) (h : Head) (e : saidFile s d te tg (File.Accepte
   parts : Parts s (instanceOf s d te tg h) (endOf (constraintsOf s d te tg h))
   parts = parse-got s (sym e)
 
-  starts : StartIn start
+  starts : StartIn s start
   starts =
       let same : start ≡ parts .start = ap withoutConstraints (parts .same) in
-      subst StartIn (sym same) (parts .begins)
+      subst (StartIn s) (sym same) (parts .begins)
 
   counts-are : countsStart start ≡ countsIn h
   counts-are = rw (length-events d te (h .events), length-rows tg (h .groups))
@@ -202,8 +204,12 @@ module _ {s d te tg : List ℕ} {h : Head} (a : Accepted s d te tg h) where
   pub event-rows : length te ≡ 129024 → RowsIn te (h .events)
   event-rows l = events-in d te (h .events) (omega (arith, a .sizes .resources-high)) (omega (arith, a .sizes .events-high)) (a .events)
 
-  pub group-rows : length tg ≡ 129024 → RowsIn tg (h .groups)
+  pub group-rows : groupRoom s * 126 ≤ length tg → RowsIn tg (h .groups)
   group-rows l = groups-in tg (h .groups) (a .sizes .times-high) (omega (arith, a .groups-high)) (a .groups)
+
+  -- whatever the file, they are at most 2,048
+  pub groups-most : h .groups ≤ 2048
+  groups-most = omega (arith, a .groups-high, room-most s)
 
   -- a turn of the walk, where the call answered x with the store l: the next constraint, and that it is valid
   pub record NextOf (i next : ℕ) (c : Constraint) : Type 0 where

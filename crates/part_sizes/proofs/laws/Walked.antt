@@ -5,6 +5,7 @@ use mathlib.Core.List.{List}
 use native.Mathlib.Omega.{arith}
 use lib.ListN.{length, drop}
 use Rattle.scope.specs.Kinds.{Constraint}
+use Rattle.tables.specs.Room.{groupRoom}
 use Rattle.constraint.specs.declared.kinds.Constraint as decl
 use Rattle.constraint.specs.declared.kinds.Head.{Head}
 use Rattle.constraint.specs.declared.kinds.Next.{Next}
@@ -89,7 +90,7 @@ module _ {s d te us tg : List ℕ} {h : Head} (a : Tabled s d te us tg h) {cols 
 
     module _ {next : ℕ} {c : Constraint} (n : NextOf (a .accepted) k next c) where
       -- it can be sized
-      pub part-sizable : {list : List ℕ} → length d ≡ 1024 → length tg ≡ 129024 → length list ≡ 2048 → Sizable d us tg list h c
+      pub part-sizable : {list : List ℕ} → length d ≡ 1024 → groupRoom s * 126 ≤ length tg → length list ≡ 2048 → Sizable d us tg list h c
       part-sizable ld lg ll =
           record {
             fits = known-fits (a .accepted) (a .filled) (n .valid) ld lg ll;

@@ -38,12 +38,12 @@ zero-accepted {ns} written before absent (refuses e) z =
 
 -- the reader's numbers, before those of later places
 abbrev pub fromFile : List ℕ → List ℕ
-fromFile later = 1 ∷ 2 ∷ 3 ∷ 4 ∷ 5 ∷ 6 ∷ 19 ∷ later
+fromFile later = 1 ∷ 2 ∷ 3 ∷ 4 ∷ 5 ∷ 6 ∷ 19 ∷ 22 ∷ later
 
 of-file : (later : List ℕ) → Reader (fromFile later)
-of-file later = record { e1 = refl; e2 = refl; e3 = refl; e4 = refl; e5 = refl; e6 = refl; e19 = refl }
+of-file later = record { e1 = refl; e2 = refl; e3 = refl; e4 = refl; e5 = refl; e6 = refl; e19 = refl; e22 = refl }
 
--- reading: 1 to 6, 19
+-- reading: 1 to 6, 19, 22
 abbrev pub readNumbers : List ℕ
 readNumbers = fromFile []
 
@@ -51,7 +51,7 @@ pub read-numbers : (file : List ℕ) → Within readNumbers (readOf file)
 unfolding readOf
 read-numbers file = on-file (of-file _) file (λ i. accepts)
 
--- scoring and the same sheet: 1 to 6, 10 to 12, 19
+-- scoring and the same sheet: 1 to 6, 10 to 12, 19, 22
 abbrev pub sheetNumbers : List ℕ
 sheetNumbers = fromFile (10 ∷ 11 ∷ 12 ∷ [])
 
@@ -67,14 +67,14 @@ unfolding sameSheetOf
 same-sheet-numbers file first second =
     on-file (of-file _) file (λ i. on-timetable timetables i first (on-timetable timetables i second accepts))
 
--- sizes: 1 to 8, 19
+-- sizes: 1 to 8, 19, 22
 pub sizes-numbers : (file : List ℕ) (B : ℕ) → Within (fromFile (7 ∷ 8 ∷ [])) (sizesOf file B)
 unfolding sizesOf
 sizes-numbers file B =
     on-file (of-file _) file
     (λ i. given-if (leb B mostBound) 7 B refl (given-if (leb (boundedVariables i B) mostVariables) 8 0 refl accepts))
 
--- the text's size: 1 to 6, 8, 19; the text: 9 too
+-- the text's size: 1 to 6, 8, 19, 22; the text: 9 too
 pub text-size-numbers : (file : List ℕ) → Within (fromFile (8 ∷ [])) (textSizeOf file)
 unfolding textSizeOf
 text-size-numbers file = on-file (of-file _) file (λ i. given-if (leb (variables i) mostVariables) 8 0 refl accepts)
@@ -99,7 +99,7 @@ decoding-within r e8 e10 e11 e13 file m =
 pub decode-numbers : (file m : List ℕ) → Within (fromFile (8 ∷ 10 ∷ 11 ∷ 13 ∷ [])) (decodeOf file m)
 decode-numbers file m = decoding-within (of-file _) refl refl refl refl file m
 
--- what a solver printed: 1 to 6, 8 to 10, 13, 19 to 21, and never 11
+-- what a solver printed: 1 to 6, 8 to 10, 13, 19 to 22, and never 11
 abbrev pub solverTextNumbers : List ℕ
 solverTextNumbers = fromFile (8 ∷ 9 ∷ 10 ∷ 13 ∷ 20 ∷ 21 ∷ [])
 
@@ -139,7 +139,7 @@ checking-within r e7 e8 e9 p file B proof l =
     (given-if (leb (boundedVariables i B) mostVariables) 8 0 e8
     (against-within e9 p (boundedVariables i B) (boundedHard i B) proof l)))
 
--- checking a bound proof: 1 to 9, 14 to 19; without the tail: all but 7
+-- checking a bound proof: 1 to 9, 14 to 19, 22; without the tail: all but 7
 abbrev pub checkNumbers : List ℕ
 checkNumbers = fromFile (7 ∷ 8 ∷ 9 ∷ 14 ∷ 15 ∷ 16 ∷ 17 ∷ 18 ∷ [])
 

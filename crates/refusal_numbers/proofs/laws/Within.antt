@@ -1,7 +1,7 @@
 -- Which numbers the refusals of an operation have, place by place.
 use Prim.Native.Nat.{ℕ, zero, suc, _*_}
 use mathlib.Core.Path.{_≡_}
-use mathlib.Core.Bool.{Bool, true, false, _||_}
+use mathlib.Core.Bool.{Bool, true, false, cond, _||_}
 use mathlib.Core.List.{List, [], _∷_}
 use mathlib.Core.Option.{Option, none, some}
 use lib.Dec.{eqb, leb, ltb}
@@ -9,7 +9,8 @@ use lib.ListN.{length, drop}
 use Rattle.scope.specs.Parsed.{Parsed, got, refused, Answer, answered, refusal, andThen, unless, cons, repeat, with, provided}
 use Rattle.scope.specs.Number.{Front, broken, whole, within, front, numberFrom, number, limited, reference, references, listed}
 use Rattle.scope.specs.Kinds.{Event, Kind, longest, durationOf, users, groupAt, Counted, countedOf}
-use Rattle.scope.specs.Instance.{countsOf, Instance, eventAt, Fields, aReference, aList, aNumber, theKind, fieldsRead, fieldsOf, distinct, ordered, ended, constraintAt, sizesAt, groupsAt, constraintsAt, parse}
+use Rattle.scope.specs.Instance.{countsOf, Instance, eventAt, Fields, aReference, aList, aNumber, theKind, fieldsRead, fieldsOf, distinct, ordered, ended, constraintAt, Times, timesAt, sizesAt, groupsAt, allGroupsAt, constraintsAt, fileUpTo, parse}
+use Rattle.scope.specs.Calendar.{Period, limitedIn, periodAt, periodsAt, dayAt, periodCount, calendarAt, windowOf, windowAt, windowsAt, windowsAfter}
 use Rattle.scope.specs.Score.{slots, truth, firstWrong, firstAbove, unlessFound, ofTimetable}
 
 -- one of some numbers
@@ -47,7 +48,7 @@ module _ {ns : List ℕ} where
   repeated zero f at h = reads
   repeated (suc n) f at h = after (h at) (λ a next. joined a (repeated n f next h))
 
--- the reader gives 1 to 6 and 19
+-- the reader gives 1 to 6, 19 and 22
 pub record Reader (ns : List ℕ) : Type 0 where
   pub e1 : oneOf ns 1 ≡ true
   pub e2 : oneOf ns 2 ≡ true
@@ -56,6 +57,7 @@ pub record Reader (ns : List ℕ) : Type 0 where
   pub e5 : oneOf ns 5 ≡ true
   pub e6 : oneOf ns 6 ≡ true
   pub e19 : oneOf ns 19 ≡ true
+  pub e22 : oneOf ns 22 ≡ true
 
 module _ {ns : List ℕ} (r : Reader ns) where
   from-front : (at : ℕ) (f : Front) → Reads ns (numberFrom at f)
@@ -70,6 +72,10 @@ module _ {ns : List ℕ} (r : Reader ns) where
     a-limit : (lo hi : ℕ) → Reads ns (limited lo hi s at)
     unfolding limited
     a-limit lo hi = after a-number (λ v next. tested (leb lo v) 2 at (r .e2) (tested (leb v hi) 2 at (r .e2) reads))
+
+    a-limit-in : (place lo hi : ℕ) → Reads ns (limitedIn place lo hi s at)
+    unfolding limitedIn
+    a-limit-in place lo hi = after a-number (λ v next. tested (leb lo v) 22 place (r .e22) (tested (leb v hi) 22 place (r .e22) reads))
 
     a-reference : (before n : ℕ) → Reads ns (reference before n s at)
     unfolding reference
@@ -122,25 +128,72 @@ module _ {ns : List ℕ} (r : Reader ns) where
       some-constraints at =
           after (a-limit s at 0 4096) (λ count next. repeated count (constraintAt T R es gs s) next a-constraint)
 
-    the-sizes : Reads ns (sizesAt s)
-    unfolding sizesAt
-    the-sizes =
-        after (a-limit s 0 1 125) (λ T a. after (a-limit s a 1 1024) (λ E b. after (a-limit s b 0 99) (λ R c. reads)))
+    -- calendar and windows
+    a-period : (before at : ℕ) → Reads ns (periodAt before s at)
+    unfolding periodAt
+    a-period before at =
+        after (a-limit-in s at at 0 1440)
+        (λ a next.
+        after (a-limit-in s next at 0 1440)
+        (λ b end. tested (ltb a b) 22 at (r .e22) (tested (leb before a) 22 at (r .e22) reads)))
 
-    some-groups : (T at : ℕ) → Reads ns (groupsAt T s at)
-    unfolding groupsAt
-    some-groups T at = after (a-limit s at 0 1024) (λ count next. repeated count (listed T s) next (a-list T))
+    some-periods : (count before at : ℕ) → Reads ns (periodsAt count before s at)
+    unfolding periodsAt
+    some-periods zero before at = reads
+    some-periods (suc n) before at = after (a-period before at) (λ p next. joined p (some-periods n (p .end) next))
+
+    a-day : (at : ℕ) → Reads ns (dayAt s at)
+    unfolding dayAt
+    a-day at = after (a-limit-in s at at 0 24) (λ count next. some-periods count 0 next)
+
+    a-calendar : (at : ℕ) → Reads ns (calendarAt s at)
+    unfolding calendarAt
+    a-calendar at =
+        after (repeated 7 (dayAt s) at a-day)
+        (λ days next. tested (leb 1 (periodCount days)) 22 0 (r .e22) (tested (leb (periodCount days) 125) 22 0 (r .e22) reads))
+
+    a-window : (days : List (List Period)) (at : ℕ) → Reads ns (windowAt days s at)
+    unfolding windowAt
+    a-window days at =
+        after (a-limit-in s at at 1 7)
+        (λ d next. after (a-limit-in s next at 0 1440) (λ from more. after (a-limit-in s more at 0 1440) (λ to end. reads)))
+
+    some-windows : (o : Option (List (List Period))) (at : ℕ) → Reads ns (windowsAfter o s at)
+    unfolding windowsAt
+    some-windows none at = reads
+    some-windows (some days) at =
+        after (a-limit-in s at at 0 1024) (λ count next. repeated count (windowAt days s) next (a-window days))
+
+    either : {A : Type 0} (b : Bool) {p q : Parsed A} → Reads ns p → Reads ns q → Reads ns (cond b p q)
+    either true h k = h
+    either false h k = k
+
+    the-times : Reads ns (timesAt s)
+    unfolding timesAt
+    the-times = after (a-limit s 0 0 125) (λ T next. either (eqb T 0) (after (a-calendar next) (λ days end. reads)) reads)
+
+    the-sizes : (at : ℕ) → Reads ns (sizesAt s at)
+    unfolding sizesAt
+    the-sizes at = after (a-limit s at 1 1024) (λ E b. after (a-limit s b 0 99) (λ R c. reads))
+
+    some-groups : (t : Times) (at : ℕ) → Reads ns (allGroupsAt 1024 t s at)
+    unfolding allGroupsAt groupsAt
+    some-groups t at =
+        after (after (a-limit s at 0 1024) (λ count next. repeated count (listed (t .count) s) next (a-list (t .count))))
+        (λ gs next. after (some-windows (t .days) next) (λ ws end. reads))
 
     a-file : Reads ns (parse s)
-    unfolding parse
+    unfolding parse fileUpTo
     a-file =
-        after the-sizes
-        (λ n a.
-        after (repeated (n .1) (eventAt (n .0) (n .2) s) a (an-event (n .0) (n .2)))
-        (λ es b.
-        after (some-groups (n .0) b)
-        (λ gs c.
-        after (some-constraints (n .0) (n .2) es gs c) (λ cs end. tested (leb (length s) end) 6 end (r .e6) reads))))
+        after the-times
+        (λ t a.
+        after (the-sizes a)
+        (λ n b.
+        after (repeated (n .0) (eventAt (t .count) (n .1) s) b (an-event (t .count) (n .1)))
+        (λ es c.
+        after (some-groups t c)
+        (λ gs d.
+        after (some-constraints (t .count) (n .1) es gs d) (λ cs end. tested (leb (length s) end) 6 end (r .e6) reads)))))
 
   -- an operation on a file that was read
   pub on-file : {A : Type 0} (s : List ℕ) {f : Instance → Answer A}

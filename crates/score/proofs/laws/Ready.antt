@@ -12,6 +12,7 @@ use Rattle.scope.specs.Kinds.{Event}
 use Rattle.scope.specs.Instance.{Instance}
 use Rattle.parsing.specs.Numbers.{Ascending, none, more}
 use Rattle.tables.specs.Rows.{rowAt, rows, eventsOf}
+use Rattle.tables.specs.Room.{groupRoom}
 use Rattle.tables.proofs.laws.Laws.{length-events}
 use Rattle.tables.proofs.laws.Reading.{event-row, group-ascends}
 use Rattle.constraint.specs.declared.kinds.Head.{Head}
@@ -20,7 +21,7 @@ use Rattle.constraint.specs.Decoded.{decodedAt}
 use Rattle.instance.specs.Answers.{instanceOf}
 use Rattle.instance.specs.Start.{SizesIn}
 use Rattle.instance.specs.Laws.{Accepted}
-use Rattle.instance.proofs.laws.Laws.{event-rows, group-rows}
+use Rattle.instance.proofs.laws.Laws.{event-rows, group-rows, groups-most}
 use Rattle.timetable.specs.Right.{Lasts, noEvent}
 use Rattle.timetable.specs.Uses.{Countable}
 use Rattle.deviation.specs.Charge as charge
@@ -60,11 +61,11 @@ module _ {s d te tg : List ℕ} {h : Head} (a : Accepted s d te tg h) where
   unfolding decodedOf
   accepted-decoded = ap listOf accepted-whole
 
-  pub scorable : (b l : List ℕ) → length te ≡ 129024 → length tg ≡ 129024 → length l ≡ 2048 → length b ≡ 2 * (h .events * h .times) → Scorable s b te tg l h
+  pub scorable : (b l : List ℕ) → length te ≡ 129024 → groupRoom s * 126 ≤ length tg → length l ≡ 2048 → length b ≡ 2 * (h .events * h .times) → Scorable s b te tg l h
   scorable b l p q r t =
       record {
         sizes = a .sizes;
-        groups-high = a .groups-high;
+        groups-high = groups-most a;
         constraints-high = a .constraints-high;
         table = t;
         event-rows = event-rows a p;
@@ -96,7 +97,7 @@ module _ {s b te tg l : List ℕ} {h : Head} (z : Scorable s b te tg l h) where
       record {
         count = z .constraints-high;
         events = omega (arith, z .sizes .events-high);
-        groups = omega (arith, z .groups-high);
+        groups = z .groups-high;
         room = z .room;
         whole = z .whole;
         sheet =

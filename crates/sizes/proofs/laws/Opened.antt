@@ -13,6 +13,7 @@ use Rattle.parsing.proofs.laws.Each.{each-front, each-last}
 use Rattle.tables.specs.Rows.{rowAt, eventsOf}
 use Rattle.tables.proofs.laws.Laws.{length-events}
 use Rattle.tables.specs.Reading.{EventIn}
+use Rattle.tables.proofs.laws.Room.{room-kept}
 use Rattle.constraint.specs.declared.kinds.Head.{Head}
 use Rattle.instance.specs.Answers.{instanceOf}
 use Rattle.instance.specs.Laws.{Accepted}
@@ -33,17 +34,17 @@ use Rattle.sizes.specs.Whole.{WholeOf}
 use Rattle.sizes.specs.Opened.{Opened}
 
 -- stores of the same lengths
-pub stores-kept : {d te tg l d′ te′ tg′ l′ : List ℕ} → Stores d te tg l → length d′ ≡ length d → length te′ ≡ length te
-    → length tg′ ≡ length tg → length l′ ≡ length l → Stores d′ te′ tg′ l′
-stores-kept s a b c e =
+pub stores-kept : {s d te tg l d′ te′ tg′ l′ : List ℕ} → Stores s d te tg l → length d′ ≡ length d → length te′ ≡ length te
+    → length tg′ ≡ length tg → length l′ ≡ length l → Stores s d′ te′ tg′ l′
+stores-kept {s} k a b c e =
     record {
       tables =
           record {
-            durations-long = a ∙ s .tables .durations-long;
-            resources-long = b ∙ s .tables .resources-long;
-            groups-long = c ∙ s .tables .groups-long;
+            durations-long = a ∙ k .tables .durations-long;
+            resources-long = b ∙ k .tables .resources-long;
+            groups-long = room-kept s c (k .tables .groups-long);
           };
-      list-long = e ∙ s .list-long;
+      list-long = e ∙ k .list-long;
     }
 
 -- the instance of an accepted file is valid

@@ -11,7 +11,7 @@ use Rattle.parsing.proofs.laws.Parsing.{before, before-nil, repeat-more, repeat
 use Rattle.table_lists.proofs.laws.Sequence.{event-value, event-refused}
 use Rattle.tables.specs.Rows.{eventsOf}
 use Rattle.tables.proofs.laws.Reading.{event-got}
-use Rattle.table_lists.proofs.Writing.{events-more}
+use Rattle.table_lists.proofs.laws.Writing.{events-more}
 use Rattle.table_lists.proofs.events_at.Statement.{statement}
 use Rattle.table_lists.proofs.events_at.Tie as tie
 

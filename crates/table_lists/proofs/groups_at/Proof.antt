@@ -13,7 +13,7 @@ use Rattle.parsing.proofs.laws.Parsing.{before, before-nil, repeat-more, repeat
 use Rattle.table_lists.proofs.laws.Sequence.{row-value, row-refused}
 use Rattle.tables.specs.Rows.{rows}
 use Rattle.table_lists.proofs.Stops.{count-stop}
-use Rattle.table_lists.proofs.Writing.{rows-more}
+use Rattle.table_lists.proofs.laws.Writing.{rows-more}
 use Rattle.table_lists.proofs.groups_at.Statement.{statement}
 use Rattle.table_lists.proofs.groups_at.Tie as tie
 
@@ -21,8 +21,8 @@ abbrev Inv-loop : tie.InvT-loop
 Inv-loop s at times table₀ count start most next₀ g₀ table next g =
     (g ≤ count)
     × (count ≤ 1024)
-    × (length table ≡ 129024)
-    × (groupsAt times s at ≡ before (rows table g) (repeat (count - g) (listed times s) next))
+    × (length table ≡ length table₀)
+    × (groupsAt 1024 times s at ≡ before (rows table g) (repeat (count - g) (listed times s) next))
 
 abbrev μ-loop : tie.MeasureT-loop
 μ-loop s at times table₀ count start most next₀ g₀ table next g = count - g

@@ -10,7 +10,7 @@ use Rattle.scope.specs.Number.{listed}
 use Rattle.number.specs.Answers.{said}
 use Rattle.number.proofs.laws.Sequence.{limited-value, reference-value}
 use Rattle.number.proofs.laws.Lists.{leftAfter, list-start, list-refused, list-more, list-end}
-use Rattle.table_lists.proofs.Writing.{rowOf-count}
+use Rattle.table_lists.proofs.laws.Writing.{rowOf-count}
 use Rattle.table_lists.proofs.row_at.Statement.{statement}
 use Rattle.table_lists.proofs.row_at.Tie as tie
 

@@ -63,7 +63,7 @@ pub record GroupsAt (T : ℕ) (s : List ℕ) (at : ℕ) (gs : List (List ℕ)) (
   pub ahead : at < end
   pub inside : end ≤ length s
 
-pub groups-got : (T : ℕ) (s : List ℕ) (at : ℕ) {gs : List (List ℕ)} {end : ℕ} → groupsAt T s at ≡ got gs end → GroupsAt T s at gs end
+pub groups-got : (T : ℕ) (s : List ℕ) (at : ℕ) {gs : List (List ℕ)} {end : ℕ} → groupsAt 1024 T s at ≡ got gs end → GroupsAt T s at gs end
 unfolding groupsAt
 groups-got T s at e =
     let a = andThen-got (limited 0 1024 s at) (λ count next. repeat count (listed T s) next) e in

@@ -3,20 +3,28 @@ use mathlib.Core.List.{List, [], _∷_}
 use Prim.Native.Nat.{ℕ, suc, _-_}
 use native.Mathlib.Omega.{arith}
 use lib.Dec.{leb}
-use lib.ListN.{length}
+use lib.ListN.{length, length-append}
 use borrow.Author.Tests.{leb-true}
-use Rattle.laws.specs.Lists.{All, All-at, All-weaken}
+use Rattle.laws.specs.Lists.{All, All-append, All-at, All-weaken}
 use Rattle.scope.specs.Parsed.{Parsed, andThen, repeat}
 use Rattle.scope.specs.Number.{limited, listed}
+use Rattle.scope.specs.Calendar.{windowsAfter}
 use Rattle.scope.specs.Kinds.{Event, groupAt, longest}
-use Rattle.scope.specs.Instance.{Instance, Counts, countsOf, eventAt, fieldsRead, fieldsOf, distinct, ordered, ended, constraintAt, sizesAt, groupsAt, constraintsAt, parse}
+use Rattle.scope.specs.Instance.{Instance, Counts, countsOf, Times, eventAt, fieldsRead, fieldsOf, distinct, ordered, ended, constraintAt, timesAt, sizesAt, groupsAt, allGroupsAt, constraintsAt, fileUpTo, parse}
 use Rattle.scope.specs.Demands.{Accepted}
+use Rattle.parsing.specs.Each.{Each, each-none, each-more}
 use Rattle.parsing.specs.Numbers.{Ascending, none, more}
+use Rattle.parsing.proofs.laws.Calendar.{TimesAt, times-got, windows-after}
 use Rattle.parsing.proofs.laws.Numbers.{limited-got, listed-got}
 use Rattle.parsing.proofs.laws.ValidRows.{kind-read}
 use Rattle.theory.proofs.laws.Readings.{Gives, gives-value, gives-andThen, gives-unless, gives-repeat}
 use Rattle.parsing.specs.Valid.{Within, InRange}
 use Rattle.theory.specs.Accepted.{ValidEvent, counted, ValidConstraint, ValidInstance}
+
+-- P holds of each, in both ways to say it
+all-each : {A : Type 0} {P : A → Type 0} {xs : List A} → Each P xs → All P xs
+all-each each-none = tt
+all-each (each-more p ps) = (p, all-each ps)
 
 -- each reading gives what it checks
 pub gives-limited : (lo hi : ℕ) (s : List ℕ) (at : ℕ) → Gives (Within lo hi) (limited lo hi s at)
@@ -71,19 +79,24 @@ gives-constraint T R es gs s at =
       reached = leb-true (x .lo) n c;
     })))))))))
 
--- three sizes
-record ValidSizes (n : ℕ × ℕ × ℕ) : Type 0 where
-  times : Within 1 125 (n .0)
-  events : Within 1 1024 (n .1)
-  resources : Within 0 99 (n .2)
+-- the times
+record ValidTimes (s : List ℕ) (t : Times) : Type 0 where
+  next : ℕ
+  at : TimesAt s t next
 
-gives-sizes : (s : List ℕ) → Gives ValidSizes (sizesAt s)
+gives-times : (s : List ℕ) → Gives (ValidTimes s) (timesAt s)
+gives-times s = record { known = λ t end e. record { next = end; at = times-got s e } }
+
+-- two sizes
+record ValidSizes (n : ℕ × ℕ) : Type 0 where
+  events : Within 1 1024 (n .0)
+  resources : Within 0 99 (n .1)
+
+gives-sizes : (s : List ℕ) (at : ℕ) → Gives ValidSizes (sizesAt s at)
 unfolding sizesAt
-gives-sizes s =
-    gives-andThen (gives-limited 1 125 s 0)
-    (λ T a p.
-    gives-andThen (gives-limited 1 1024 s a)
-    (λ E b q. gives-andThen (gives-limited 0 99 s b) (λ R c r. gives-value (record { times = p; events = q; resources = r }))))
+gives-sizes s at =
+    gives-andThen (gives-limited 1 1024 s at)
+    (λ E b q. gives-andThen (gives-limited 0 99 s b) (λ R c r. gives-value (record { events = q; resources = r })))
 
 -- a count within its limits, then so many things
 record Several {A : Type 0} (P : A → Type 0) (most : ℕ) (xs : List A) : Type 0 where
@@ -99,9 +112,33 @@ gives-counted h most s at =
       known = λ xs end e. let m = gives-repeat h count next .known xs end e in record { count = rw (m .count) w; each = m .each };
     })
 
-gives-groups : (T : ℕ) (s : List ℕ) (at : ℕ) → Gives (Several (Ascending T 0) 1024) (groupsAt T s at)
+gives-groups : (T : ℕ) (s : List ℕ) (at : ℕ) → Gives (Several (Ascending T 0) 1024) (groupsAt 1024 T s at)
 unfolding groupsAt
 gives-groups T s at = gives-counted (gives-listed T s) 1024 s at
+
+-- the windows of a calendar, or none
+gives-windows : (t : Times) (s : List ℕ) (at : ℕ) → ValidTimes s t → Gives (Several (Ascending (t .count) 0) 1024) (windowsAfter (t .days) s at)
+gives-windows t s at v =
+    record {
+      known = λ ws end h.
+          let w = windows-after (t .days) (t .count) s at (v .at .periods) h in
+          record { count = record { low = omega arith; high = w .count }; each = all-each (w .each) };
+    }
+
+-- the groups together
+gives-all-groups : (t : Times) (s : List ℕ) (at : ℕ) → ValidTimes s t
+    → Gives (Several (Ascending (t .count) 0) 2048) (allGroupsAt 1024 t s at)
+unfolding allGroupsAt
+gives-all-groups t s at v =
+    gives-andThen (gives-groups (t .count) s at)
+    (λ gs next g.
+    gives-andThen (gives-windows t s next v)
+    (λ ws end w.
+    gives-value
+    (record {
+      count = record { low = omega arith; high = rw (length-append gs ws) (omega (arith, g .count .high, w .count .high)) };
+      each = All-append (Ascending (t .count) 0) gs ws (g .each) (w .each);
+    })))
 
 gives-constraints : (T R : ℕ) (es : List Event) (gs : List (List ℕ)) (s : List ℕ) (at : ℕ)
     → Gives (Several (ValidConstraint T R es gs) 4096) (constraintsAt T R es gs s at)
@@ -110,21 +147,23 @@ gives-constraints T R es gs s at = gives-counted (gives-constraint T R es gs s) 
 
 -- the whole file
 pub gives-instance : (s : List ℕ) → Gives ValidInstance (parse s)
-unfolding parse
+unfolding parse fileUpTo
 gives-instance s =
-    gives-andThen (gives-sizes s)
-    (λ n a z.
-    gives-andThen (gives-repeat (gives-event (n .0) (n .2) s) (n .1) a)
-    (λ es b e.
-    gives-andThen (gives-groups (n .0) s b)
-    (λ gs c g.
-    gives-andThen (gives-constraints (n .0) (n .2) es gs s c)
+    gives-andThen (gives-times s)
+    (λ t a v.
+    gives-andThen (gives-sizes s a)
+    (λ n b z.
+    gives-andThen (gives-repeat (gives-event (t .count) (n .1) s) (n .0) b)
+    (λ es c e.
+    gives-andThen (gives-all-groups t s c v)
+    (λ gs d g.
+    gives-andThen (gives-constraints (t .count) (n .1) es gs s d)
     (λ cs end k.
     gives-unless (leb (length s) end) 6 end
     (λ _.
     gives-value
     (record {
-      times = z .times;
+      times = record { low = v .at .low; high = v .at .high };
       event-count = rw (e .count) (z .events);
       resources = z .resources;
       events = e .each;
@@ -132,7 +171,7 @@ gives-instance s =
       groups = g .each;
       constraint-count = k .count;
       constraints = k .each;
-    }))))))
+    })))))))
 
 -- an accepted instance satisfies all of it
 pub accepted-valid : (file : List ℕ) (i : Instance) → Accepted file i → ValidInstance i

@@ -6,7 +6,8 @@ use crate::reference::{
 };
 
 /// A random change of one field, or of two of kind 11, so that the file of the result
-/// earns one of 2 to 5 and 19, unless the field does not matter or does not exist.
+/// earns one of 2 to 5 and 19, unless the field does not matter or does not exist. A 0
+/// in place of T makes a calendar of what follows. Windows stay as they are.
 pub fn damaged_instance(random: &mut Random, instance: &Instance) -> Instance {
     let mut changed = instance.clone();
     let event = random.below(instance.events.len());
@@ -171,7 +172,8 @@ pub fn damaged_numbers(random: &mut Random, bytes: &[u8]) -> Vec<u8> {
         4 => write_number(u32::MAX, &mut changed),
         _ => {
             let limits = [
-                0, 1, 11, 12, 99, 100, 124, 125, 126, 255, 256, 1_000, 1_001, 4_097,
+                0, 1, 7, 8, 11, 12, 24, 25, 99, 100, 124, 125, 126, 255, 256, 1_000, 1_001, 1_024,
+                1_025, 1_440, 1_441, 4_097,
             ];
             write_number(random.pick(&limits), &mut changed);
         }

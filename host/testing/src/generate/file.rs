@@ -1,26 +1,54 @@
 //! Instance files.
 
-use crate::reference::{write_number, Constraint, Instance, Kind, Range};
+use crate::reference::{write_number, Calendar, Constraint, Instance, Kind, Range};
 
 /// The instance file of `instance`.
 pub fn encode(instance: &Instance) -> Vec<u8> {
     let mut file = Vec::new();
-    number(&mut file, instance.times);
+    match &instance.calendar {
+        None => number(&mut file, instance.times),
+        Some(calendar) => write_days(&mut file, calendar),
+    }
     number(&mut file, instance.events.len());
     number(&mut file, instance.resources);
     for event in &instance.events {
         number(&mut file, event.duration);
         list(&mut file, &event.resources);
     }
-    number(&mut file, instance.groups.len());
-    for group in &instance.groups {
+    let groups = instance.time_groups();
+    number(&mut file, groups.len());
+    for group in groups {
         list(&mut file, group);
+    }
+    if let Some(calendar) = &instance.calendar {
+        write_windows(&mut file, calendar);
     }
     number(&mut file, instance.constraints.len());
     for constraint in &instance.constraints {
         write_constraint(&mut file, constraint);
     }
     file
+}
+
+/// The 0 in place of T, and the periods of each day.
+fn write_days(file: &mut Vec<u8>, calendar: &Calendar) {
+    number(file, 0);
+    for periods in &calendar.days {
+        number(file, periods.len());
+        for period in periods {
+            write_number(period.start, file);
+            write_number(period.end, file);
+        }
+    }
+}
+
+fn write_windows(file: &mut Vec<u8>, calendar: &Calendar) {
+    number(file, calendar.windows.len());
+    for window in &calendar.windows {
+        for value in [window.day, window.from, window.to] {
+            write_number(value, file);
+        }
+    }
 }
 
 fn write_constraint(file: &mut Vec<u8>, constraint: &Constraint) {

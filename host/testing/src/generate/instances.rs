@@ -1,5 +1,6 @@
 //! Random instances of a given size.
 
+use super::calendars::{calendar, window};
 use super::file::encode;
 use super::random::Random;
 use super::timetables::timetable;
@@ -15,11 +16,14 @@ pub struct Shape {
     pub times: RangeInclusive<usize>,
     pub events: RangeInclusive<usize>,
     pub resources: RangeInclusive<usize>,
+    /// Time groups, and as many windows where there is a calendar.
     pub groups: RangeInclusive<usize>,
     pub constraints: RangeInclusive<usize>,
     /// How many of 100 constraints are soft.
     pub soft: usize,
     pub largest_weight: usize,
+    /// How many of 100 instances have a calendar.
+    pub calendars: usize,
     /// Hard constraints are drawn so that one random timetable keeps them all.
     pub feasible: bool,
 }
@@ -35,6 +39,7 @@ impl Shape {
             constraints: 0..=4,
             soft: 60,
             largest_weight: 4,
+            calendars: 30,
             feasible: false,
         }
     }
@@ -49,6 +54,7 @@ impl Shape {
             constraints: 0..=20,
             soft: 50,
             largest_weight: 1_000,
+            calendars: 30,
             feasible: false,
         }
     }
@@ -63,6 +69,7 @@ impl Shape {
             constraints: 150..=250,
             soft: 60,
             largest_weight: 20,
+            calendars: 30,
             feasible: true,
         }
     }
@@ -72,9 +79,11 @@ impl Shape {
 pub fn instance(random: &mut Random, shape: &Shape) -> Instance {
     let times = random.within(&shape.times);
     let resources = random.within(&shape.resources);
+    let with_calendar = random.chance(shape.calendars);
     let mut instance = Instance {
         times,
         resources,
+        calendar: with_calendar.then(|| calendar(random, times)),
         events: Vec::new(),
         groups: Vec::new(),
         constraints: Vec::new(),
@@ -87,6 +96,13 @@ pub fn instance(random: &mut Random, shape: &Shape) -> Instance {
     }
     for _ in 0..random.within(&shape.groups) {
         instance.groups.push(group(random, times));
+    }
+    if let Some(calendar) = &mut instance.calendar {
+        for _ in 0..random.within(&shape.groups) {
+            let window = window(random, calendar);
+            instance.groups.push(calendar.group(window));
+            calendar.windows.push(window);
+        }
     }
     let table = timetable(random, &instance);
     let mut constraints = Vec::new();

@@ -1,8 +1,12 @@
 //! Instances at the limits, each with a timetable that keeps its hard
 //! constraints: formulas of many ORs, long files, many variables, a long tail.
 
+use super::calendars::calendar;
 use super::random::Random;
-use crate::reference::{Constraint, Event, Instance, Kind, Range, Sizes, MOST_TIMES};
+use crate::reference::{
+    Calendar, Constraint, Event, Instance, Kind, Range, Sizes, Window, DAYS, LONGEST_LIST,
+    MOST_TIMES, MOST_WINDOWS,
+};
 
 /// Most groups of an instance.
 const MOST_GROUPS: usize = 1_024;
@@ -38,7 +42,8 @@ pub fn many_ors(random: &mut Random, constraints: usize) -> (Instance, Vec<u8>) 
 }
 
 /// Limits of idle times that each name all of 1,024 groups, two of them with
-/// 125 times: 4,096 make the longest file and the most clauses of one kind.
+/// 125 times: 4,096 make the longest file without a calendar and the most clauses of
+/// one kind.
 pub fn idle_limits(random: &mut Random, constraints: usize) -> (Instance, Vec<u8>) {
     let (mut instance, table) = apart(random, MOST_TIMES as usize);
     let times = instance.times;
@@ -52,6 +57,45 @@ pub fn idle_limits(random: &mut Random, constraints: usize) -> (Instance, Vec<u8
         instance.constraints.push(Constraint { weight: 0, kind });
     }
     (instance, table)
+}
+
+/// The same in a calendar of 125 periods, and over 1,024 windows too: 4,096 make the
+/// longest file. All but one window have two periods; that one makes each list as long
+/// as it may be.
+pub fn idle_limits_in_windows(random: &mut Random, constraints: usize) -> (Instance, Vec<u8>) {
+    let (mut instance, table) = idle_limits(random, constraints);
+    let mut calendar = calendar(random, instance.times);
+    let of_long_groups = 2 * (instance.times - 2);
+    let mut periods = LONGEST_LIST - of_long_groups + 2;
+    for _ in 0..MOST_WINDOWS {
+        let window = window_of(random, &calendar, periods);
+        calendar.windows.push(window);
+        periods = 2;
+    }
+    let windows = calendar.windows.iter();
+    instance
+        .groups
+        .extend(windows.map(|&window| calendar.group(window)));
+    for constraint in &mut instance.constraints {
+        if let Kind::Idle { groups, .. } = &mut constraint.kind {
+            *groups = (0..instance.groups.len()).collect();
+        }
+    }
+    instance.calendar = Some(calendar);
+    (instance, table)
+}
+
+/// A window of so many periods of a day that has as many.
+fn window_of(random: &mut Random, calendar: &Calendar, periods: usize) -> Window {
+    let long = |day: &usize| calendar.days[*day].len() >= periods;
+    let days: Vec<usize> = (0..DAYS).filter(long).collect();
+    let day = random.pick(&days);
+    let first = random.below(calendar.days[day].len() - periods + 1);
+    Window {
+        day: day as u32 + 1,
+        from: calendar.days[day][first].start,
+        to: calendar.days[day][first + periods - 1].end,
+    }
 }
 
 /// Kinds 9 and 10 over 125 times that look for subevents as long as the week, in
@@ -150,6 +194,7 @@ fn apart(random: &mut Random, times: usize) -> (Instance, Vec<u8>) {
     let instance = Instance {
         times,
         resources: EVENTS,
+        calendar: None,
         events: (0..EVENTS).map(event).collect(),
         groups: Vec::new(),
         constraints: Vec::new(),

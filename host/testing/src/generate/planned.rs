@@ -29,6 +29,7 @@ pub fn planned_school(random: &mut Random, plan: Plan) -> Instance {
         instance: Instance {
             times: DAYS * plan.periods,
             resources: classes + teachers,
+            calendar: None,
             events: Vec::new(),
             groups: Vec::new(),
             constraints: Vec::new(),

@@ -1,10 +1,15 @@
 //! Schools with a week, classes, teachers, rooms and the usual wishes.
 
 use super::random::Random;
-use crate::reference::{Constraint, Event, Instance, Kind, Range, LARGEST_GAP};
+use crate::reference::{
+    Calendar, Constraint, Event, Instance, Kind, Period, Range, Window, LARGEST_GAP, LAST_MINUTE,
+};
 
 const DAYS: usize = 5;
 const TIMES: usize = 8;
+/// The first minute of a day's lessons in clock time, and of the second half day.
+const MORNING: u32 = 480;
+const AFTERNOON: u32 = 780;
 
 /// A school of `events` lessons in a week of five days with eight times each.
 /// A lesson has a class, a teacher and mostly a room. Hard: no clashes, days
@@ -16,6 +21,7 @@ pub fn school(random: &mut Random, events: usize) -> Instance {
     let mut instance = Instance {
         times: DAYS * TIMES,
         resources: staff.all(),
+        calendar: None,
         events: (0..events)
             .map(|event| staff.lesson(random, event))
             .collect(),
@@ -78,6 +84,40 @@ pub fn school_of_every_kind(random: &mut Random, events: usize) -> Instance {
         }
     }
     instance
+}
+
+/// A school as above in clock time: four lessons of 45 minutes on the hour from eight
+/// o'clock on, four more from one o'clock on; the days and half days are windows.
+pub fn in_clock_time(school: &Instance) -> Instance {
+    let half = TIMES / 2;
+    let lesson = |at: usize| {
+        let begin = [MORNING, AFTERNOON][at / half];
+        let start = begin + 60 * (at % half) as u32;
+        Period {
+            start,
+            end: start + 45,
+        }
+    };
+    let mut calendar = Calendar::default();
+    for periods in &mut calendar.days[..DAYS] {
+        *periods = (0..TIMES).map(lesson).collect();
+    }
+    let window = |day: usize, from, to| Window {
+        day: day as u32 + 1,
+        from,
+        to,
+    };
+    let days = (0..DAYS).map(|day| window(day, 0, LAST_MINUTE));
+    let halves = (0..2 * DAYS).map(|half| match half % 2 {
+        0 => window(half / 2, 0, AFTERNOON),
+        _ => window(half / 2, AFTERNOON, LAST_MINUTE),
+    });
+    calendar.windows = days.chain(halves).collect();
+    let mut school = school.clone();
+    let windows = calendar.windows.iter();
+    school.groups = windows.map(|&window| calendar.group(window)).collect();
+    school.calendar = Some(calendar);
+    school
 }
 
 /// How many resources of each sort there are; classes come first, then

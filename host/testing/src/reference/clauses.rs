@@ -574,7 +574,7 @@ pub struct Sizes {
     pub top: u64,
 }
 
-/// The sizes of the formula, or 1 to 8, 19. 7 and the tail only with a bound.
+/// The sizes of the formula, or 1 to 8, 19, 22. 7 and the tail only with a bound.
 pub fn sizes(file: &[u8], bound: Option<u64>) -> Result<Sizes, Refusal> {
     Sizes::of(&Instance::read(file)?, bound)
 }

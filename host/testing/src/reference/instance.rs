@@ -1,8 +1,9 @@
-//! The instance file and its refusals 1 to 6 and 19.
+//! The instance file and its refusals 1 to 6 and 19; 22 stands with the calendar.
 //!
 //! In the file references start at 1; here times, events, resources and groups
 //! are indices from 0.
 
+use super::calendar::Calendar;
 use super::number::read_number;
 use super::refusal::refuse;
 use std::ops::RangeInclusive;
@@ -23,8 +24,10 @@ pub const LONGEST_LIST: usize = 255;
 pub struct Instance {
     pub times: usize,
     pub resources: usize,
+    /// What stands in place of the number of times.
+    pub calendar: Option<Calendar>,
     pub events: Vec<Event>,
-    /// Each group's times, ascending.
+    /// Each group's times, ascending: the time groups, then the windows.
     pub groups: Vec<Vec<usize>>,
     pub constraints: Vec<Constraint>,
 }
@@ -107,7 +110,7 @@ pub struct Range {
     pub hi: u32,
 }
 
-/// Reads an instance file: accepted, or 1 to 6, 19.
+/// Reads an instance file: accepted, or 1 to 6, 19, 22.
 pub fn read(file: &[u8]) -> Result<Summary, Refusal> {
     let instance = Instance::read(file)?;
     Ok(Summary {
@@ -122,12 +125,19 @@ pub fn read(file: &[u8]) -> Result<Summary, Refusal> {
 impl Instance {
     pub fn read(file: &[u8]) -> Result<Instance, Refusal> {
         let mut reader = Reader { file, offset: 0 };
-        let times = reader.within(1..=MOST_TIMES)? as usize;
+        let (times, calendar) = match reader.within(0..=MOST_TIMES)? {
+            0 => {
+                let calendar = reader.calendar()?;
+                (calendar.times(), Some(calendar))
+            }
+            times => (times as usize, None),
+        };
         let events = reader.within(1..=MOST_EVENTS)?;
         let resources = reader.within(0..=MOST_RESOURCES)? as usize;
         let mut instance = Instance {
             times,
             resources,
+            calendar,
             events: Vec::new(),
             groups: Vec::new(),
             constraints: Vec::new(),
@@ -141,6 +151,12 @@ impl Instance {
         for _ in 0..reader.within(0..=MOST_GROUPS)? {
             instance.groups.push(reader.list(times)?);
         }
+        if let Some(calendar) = &mut instance.calendar {
+            calendar.windows = reader.windows()?;
+            let windows = calendar.windows.iter();
+            let groups = windows.map(|&window| calendar.group(window));
+            instance.groups.extend(groups);
+        }
         for _ in 0..reader.within(0..=MOST_CONSTRAINTS)? {
             let constraint = reader.constraint(&instance)?;
             instance.constraints.push(constraint);
@@ -149,6 +165,13 @@ impl Instance {
             return refuse(6, reader.offset as u64);
         }
         Ok(instance)
+    }
+
+    /// The groups that are no windows.
+    pub fn time_groups(&self) -> &[Vec<usize>] {
+        let calendar = self.calendar.as_ref();
+        let windows = calendar.map_or(0, |calendar| calendar.windows.len());
+        &self.groups[..self.groups.len() - windows]
     }
 
     /// The events that use `resource`, ascending.
@@ -238,13 +261,13 @@ impl Kind {
     }
 }
 
-struct Reader<'a> {
+pub(super) struct Reader<'a> {
     file: &'a [u8],
-    offset: usize,
+    pub(super) offset: usize,
 }
 
 impl Reader<'_> {
-    fn number(&mut self) -> Result<u32, Refusal> {
+    pub(super) fn number(&mut self) -> Result<u32, Refusal> {
         match read_number(self.file, self.offset) {
             Some((value, next)) => {
                 self.offset = next;

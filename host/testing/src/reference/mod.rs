@@ -7,6 +7,7 @@
 //! `timetable::engine`; nothing else is shared with it.
 
 mod best;
+mod calendar;
 mod clauses;
 mod idle;
 mod instance;
@@ -20,6 +21,7 @@ mod solver_text;
 mod text;
 
 pub use best::best;
+pub use calendar::{Calendar, Period, Window, DAYS, LAST_MINUTE, MOST_PERIODS, MOST_WINDOWS};
 pub use clauses::{
     sizes, walk, walk_with_tail, Literal, Sink, Sizes, LARGEST_BOUND, LARGEST_FORMULA,
 };

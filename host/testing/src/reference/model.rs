@@ -7,7 +7,7 @@ use super::sheet::check_bytes;
 use timetable::engine::{Objective, Refusal};
 
 /// The part of `model` that holds the timetable, with the falsified soft
-/// weight; or 1 to 6, 8, 10, 11, 13, 19.
+/// weight; or 1 to 6, 8, 10, 11, 13, 19, 22.
 pub fn decode<'a>(file: &[u8], model: &'a [u8]) -> Result<(&'a [u8], Objective), Refusal> {
     let instance = Instance::read(file)?;
     let sizes = Sizes::of(&instance, None)?;

@@ -12,7 +12,7 @@ pub const ADD: u8 = 97;
 pub const DELETE: u8 = 100;
 
 /// Checks that no timetable that keeps the hard constraints costs `bound` or
-/// less. Gives the number of steps, or 1 to 9, 14 to 19. The store's lengths
+/// less. Gives the number of steps, or 1 to 9, 14 to 19, 22. The store's lengths
 /// are the numbers of words, rows and bytes lent.
 pub fn check(
     file: &[u8],
@@ -31,7 +31,7 @@ pub fn check(
 }
 
 /// Checks that no timetable keeps the hard constraints, whatever it costs: the
-/// same without the tail. Gives the number of steps, or 1 to 6, 8, 9, 14 to 19.
+/// same without the tail. Gives the number of steps, or 1 to 6, 8, 9, 14 to 19, 22.
 pub fn check_hard(file: &[u8], proof: &[u8], lent: [u64; 3]) -> Result<u64, Refusal> {
     plain_run(file, None, proof, lent)
 }

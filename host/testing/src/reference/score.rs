@@ -5,7 +5,7 @@ use super::instance::{Instance, Kind, Range};
 use super::sheet::Sheet;
 use timetable::engine::{Infeasibility, Objective, Refusal, Score};
 
-/// The score of a timetable, or 1 to 6, 10 to 12, 19.
+/// The score of a timetable, or 1 to 6, 10 to 12, 19, 22.
 pub fn score(file: &[u8], table: &[u8]) -> Result<Score, Refusal> {
     let instance = Instance::read(file)?;
     let sheet = Sheet::read(&instance, table)?;

@@ -8,7 +8,7 @@ use super::refusal::refuse;
 use timetable::engine::{Objective, Refusal};
 
 /// The model that `text` gives, the length of its part that is the timetable, and
-/// its cost; or 1 to 6, 8 to 10, 13, 19 to 21. The lent model and the store are
+/// its cost; or 1 to 6, 8 to 10, 13, 19 to 22. The lent model and the store are
 /// given by their lengths.
 pub fn solver_text(
     file: &[u8],

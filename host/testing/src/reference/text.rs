@@ -8,14 +8,14 @@ use timetable::engine::Refusal;
 /// Bytes the text program lends for the file, and as many for the text.
 pub const TEXT_PROGRAM_BYTES: usize = 65_536;
 
-/// The length of the text, or 1 to 6, 8, 19.
+/// The length of the text, or 1 to 6, 8, 19, 22.
 pub fn text_size(file: &[u8]) -> Result<u64, Refusal> {
     let instance = Instance::read(file)?;
     let sizes = Sizes::of(&instance, None)?;
     Ok(length(&instance, &sizes))
 }
 
-/// Writes the text to the front of `out` and gives its length, or 1 to 6, 8, 9, 19.
+/// Writes the text to the front of `out` and gives its length, or 1 to 6, 8, 9, 19, 22.
 pub fn text(file: &[u8], out: &mut [u8]) -> Result<usize, Refusal> {
     let instance = Instance::read(file)?;
     let sizes = Sizes::of(&instance, None)?;

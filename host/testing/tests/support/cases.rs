@@ -3,7 +3,7 @@
 use testing::reference::{Objective, Refusal, Score, Sizes, Summary};
 
 const LINES: &str = include_str!("../../../vectors/cases.txt");
-const COUNT: usize = 2_741;
+const COUNT: usize = 2_794;
 
 pub enum Case {
     Read(Vec<u8>),
@@ -16,6 +16,28 @@ pub enum Case {
     /// The lengths are those of the lent model and of the store.
     SolverText(Vec<u8>, Vec<u8>, [usize; 2]),
     Check(Vec<u8>, u64, Vec<u8>, [u64; 3]),
+}
+
+impl Case {
+    /// The instance file.
+    pub fn file(&self) -> &[u8] {
+        match self {
+            Case::Read(file)
+            | Case::Score(file, ..)
+            | Case::SameSheet(file, ..)
+            | Case::Sizing(file, ..)
+            | Case::Wcnf(file, ..)
+            | Case::TextProgram(file)
+            | Case::Decode(file, ..)
+            | Case::SolverText(file, ..)
+            | Case::Check(file, ..) => file,
+        }
+    }
+}
+
+/// All cases, each with its expected answer.
+pub fn all() -> impl Iterator<Item = (Case, &'static str)> {
+    LINES.lines().filter_map(parse)
 }
 
 /// Compares the answer of each case for which `answer` gives one with the
@@ -33,8 +55,7 @@ pub fn compare(answer: impl Fn(&Case) -> Option<Result<String, Refusal>>) -> usi
             continue;
         };
         run += 1;
-        let found =
-            found.unwrap_or_else(|Refusal { number, value }| format!("refused {number} {value}"));
+        let found = found.unwrap_or_else(refused);
         if found != expected {
             failures.push(format!(
                 "line {number}: answer {}, expected {}",
@@ -85,6 +106,10 @@ pub fn parse(line: &str) -> Option<(Case, &str)> {
 }
 
 // The answers in the form of the file.
+
+pub fn refused(Refusal { number, value }: Refusal) -> String {
+    format!("refused {number} {value}")
+}
 
 pub fn accepted(found: Summary) -> String {
     format!(

@@ -4,6 +4,7 @@
 pub mod both;
 pub mod cases;
 pub mod hasty;
+pub mod hasty_calendar;
 pub mod models;
 
 use testing::prover::clause_list;

@@ -29,6 +29,7 @@ pub fn events_with(
     Instance {
         times,
         resources: 0,
+        calendar: None,
         events: durations.iter().map(event).collect(),
         groups,
         constraints: vec![constraint],

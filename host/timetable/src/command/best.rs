@@ -13,7 +13,7 @@ pub const SUBCOMMAND: Subcommand = Subcommand {
     prints: "'best', then objective and steps, each with its number on a line",
     details: "The proof is one at the bound one below the model's cost. A model that costs 0 \
               needs none: its file may be empty.",
-    refusals: &[1..=8, 10..=11, 13..=16, 18..=19],
+    refusals: &[1..=8, 10..=11, 13..=16, 18..=19, 22..=22],
     run: |given, _| {
         let (cost, steps) = engine::best(
             given.bytes("INSTANCE"),

@@ -22,7 +22,7 @@ pub const SUBCOMMAND: Subcommand = Subcommand {
              'no timetable at all' and steps",
     details: "At 'none' the proof is one against the hard clauses alone, as 'timetable steps' \
               makes it for 'none'.",
-    refusals: &[1..=8, 14..=16, 18..=19],
+    refusals: &[1..=8, 14..=16, 18..=19, 22..=22],
     run: |given, _| {
         let (file, proof) = (given.bytes("INSTANCE"), given.bytes("PROOF"));
         let Some(bound) = given.number_if("BOUND") else {

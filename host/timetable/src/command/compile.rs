@@ -34,7 +34,7 @@ pub const SUBCOMMAND: Subcommand = Subcommand {
     details: "The names go to FILE.names, where the other subcommands find them. A text that is \
               no school is told with line and column and what was expected; nothing is written \
               then. Without '--out' the instance file is printed and no names are written.",
-    refusals: &[1..=6, 19..=19],
+    refusals: &[1..=6, 19..=19, 22..=22],
     run: |given, _| {
         let file = given.file("TEXT");
         let text = names::text(file)?;

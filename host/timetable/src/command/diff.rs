@@ -28,7 +28,7 @@ pub const SUBCOMMAND: Subcommand = Subcommand {
              that charge something else, and both sums of charges",
     details: "A block that is cut in two or joined at the same times has moved too. The exit \
               status is 1 also where something moved.",
-    refusals: &[1..=6, 10..=12, 19..=19],
+    refusals: &[1..=6, 10..=12, 19..=19, 22..=22],
     run: |given, _| {
         let school = names::school(given)?;
         let first = view(given, &school, "FIRST")?;

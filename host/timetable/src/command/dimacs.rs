@@ -22,7 +22,7 @@ pub const SUBCOMMAND: Subcommand = Subcommand {
         "A clause's id is the number of its line after the header. A model of the text with a \
               bound is a timetable that costs the bound or less; if there is none, the solver's \
               proof becomes a bound proof by 'timetable steps'.",
-    refusals: &[1..=8, 19..=19],
+    refusals: &[1..=8, 19..=19, 22..=22],
     run: |given, _| {
         let file = given.bytes("INSTANCE");
         let formula = match given.number_if("BOUND") {

@@ -13,7 +13,7 @@ pub const SUBCOMMAND: Subcommand = Subcommand {
     options: &[NAMES, NO_NAMES, out("where to write the text")],
     prints: "the text; 'compile' makes the same bytes of it again",
     details: names::ABOUT,
-    refusals: &[1..=6, 19..=19],
+    refusals: &[1..=6, 19..=19, 22..=22],
     run: |given, _| {
         let school = names::school(given)?;
         Ok(Answer::product(print(&school).into_bytes()))

@@ -30,7 +30,7 @@ pub const SUBCOMMAND: Subcommand = Subcommand {
     prints: "the archive, unless it is written to a file",
     details: "The instance file must be the import of the archive. The solution's description \
               has the infeasibility and the objective that the engine gives to the timetable.",
-    refusals: &[1..=6, 10..=12, 19..=19],
+    refusals: &[1..=6, 10..=12, 19..=19, 22..=22],
     run: |given, _| {
         let (file, bytes) = (given.file("SCHOOL"), given.bytes("INSTANCE"));
         let score = engine::score(bytes, given.bytes("TIMETABLE"))?;

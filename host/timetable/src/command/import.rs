@@ -79,7 +79,7 @@ pub const SUBCOMMAND: Subcommand = Subcommand {
               the least cost: a bound refuted for the instance file is refuted for the school, \
               and a timetable of the file may break what was left out. docs/IMPORT.md says what \
               is carried, and how.",
-    refusals: &[1..=6, 19..=19],
+    refusals: &[1..=6, 19..=19, 22..=22],
     run: |given, _| {
         let file = given.file("SCHOOL");
         let imported = imported(given, given.word("FORMAT"), file)?;

@@ -27,7 +27,7 @@ pub const SUBCOMMAND: Subcommand = Subcommand {
               Where they name variables of a tail too, these are passed over; in the other forms a \
               variable that is not named is 0; and then whether the model keeps the clauses is for \
               'timetable decode' to say.",
-    refusals: &[1..=6, 8..=8, 13..=13, 19..=21],
+    refusals: &[1..=6, 8..=8, 13..=13, 19..=22],
     run: |given, _| {
         let (file, output) = (given.bytes("INSTANCE"), given.bytes("ANSWER"));
         let variables = engine::model_length(file)?;

@@ -26,7 +26,8 @@ pub const NO_NAMES: CommandOption = CommandOption {
     long: "no-names",
     short: None,
     value: None,
-    about: "invent names: T1 for times, L1 for lessons, R1 for resources, G1 for groups",
+    about: "invent names: T1 for times, Mon to Sun for a calendar's days, L1 for lessons, R1 for \
+            resources, G1 for groups, W1 for windows",
 };
 
 /// What the options are about, for the help of a subcommand.

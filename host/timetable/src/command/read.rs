@@ -12,8 +12,8 @@ pub const SUBCOMMAND: Subcommand = Subcommand {
     options: &[JSON],
     prints: "'accepted', then times, events, resources, groups and constraints, each with its \
              number on a line",
-    details: "",
-    refusals: &[1..=6, 19..=19],
+    details: "The periods of a calendar are times, and its windows count among the groups.",
+    refusals: &[1..=6, 19..=19, 22..=22],
     run: |given, _| report(given.bytes("INSTANCE")),
 };
 

@@ -16,7 +16,7 @@ pub const SUBCOMMAND: Subcommand = Subcommand {
     options: &[JSON],
     prints: "'same' or 'different'",
     details: "The exit status is 1 also where they are different.",
-    refusals: &[1..=6, 10..=12, 19..=19],
+    refusals: &[1..=6, 10..=12, 19..=19, 22..=22],
     run: |given, _| {
         let [file, first, second] = ["INSTANCE", "FIRST", "SECOND"].map(|name| given.bytes(name));
         let same = engine::same_sheet(file, first, second).map_err(|refusal| Fault::Refused {

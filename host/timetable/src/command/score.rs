@@ -12,7 +12,7 @@ pub const SUBCOMMAND: Subcommand = Subcommand {
     options: &[JSON],
     prints: "infeasibility and objective, each with its number on a line",
     details: "",
-    refusals: &[1..=6, 10..=12, 19..=19],
+    refusals: &[1..=6, 10..=12, 19..=19, 22..=22],
     run: |given, _| {
         let score = engine::score(given.bytes("INSTANCE"), given.bytes("TIMETABLE"))?;
         Ok(Answer::report(

@@ -36,7 +36,7 @@ pub const SUBCOMMAND: Subcommand = Subcommand {
               gap. The sums are compared with the \
               engine's score; if they differ, nothing is shown and the exit status is 2. Names \
               come from a side file, which 'compile' writes.",
-    refusals: &[1..=6, 10..=12, 19..=19],
+    refusals: &[1..=6, 10..=12, 19..=19, 22..=22],
     run: |given, _| {
         let school = names::school(given)?;
         let view = view(given, &school, "TIMETABLE")?;

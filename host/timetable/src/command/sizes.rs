@@ -13,7 +13,7 @@ pub const SUBCOMMAND: Subcommand = Subcommand {
     prints: "variables, clauses and words of the hard clauses and the tail for the bound, each \
              with its number on a line",
     details: "",
-    refusals: &[1..=8, 19..=19],
+    refusals: &[1..=8, 19..=19, 22..=22],
     run: |given, _| {
         let found = engine::sizes(given.bytes("INSTANCE"), given.number("BOUND"))?;
         Ok(Answer::report(

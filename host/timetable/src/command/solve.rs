@@ -67,7 +67,7 @@ pub const SUBCOMMAND: Subcommand = Subcommand {
               costs that are left open are told, and the exit status is 3. That there is no \
               timetable at all is told where it checked a proof against the hard clauses alone. \
               Interrupted, it stops the solver and tells what it has; the files stay.",
-    refusals: &[1..=6, 8..=8, 19..=19],
+    refusals: &[1..=6, 8..=8, 19..=19, 22..=22],
     run,
 };
 

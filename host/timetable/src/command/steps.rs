@@ -33,7 +33,7 @@ pub const SUBCOMMAND: Subcommand = Subcommand {
         "The solver must have been given what 'timetable dimacs' writes for the same file and \
               bound. The hints of an LRAT proof are put in order; those of a DRAT proof are found. \
               A RAT step is refused: no hints spell it.",
-    refusals: &[1..=8, 19..=19],
+    refusals: &[1..=8, 19..=19, 22..=22],
     run: |given, messages| {
         let file = given.bytes("INSTANCE");
         let formula = match given.number_if("BOUND") {

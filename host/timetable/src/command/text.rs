@@ -12,6 +12,6 @@ pub const SUBCOMMAND: Subcommand = Subcommand {
     options: &[out("where to write the text, in place of standard output")],
     prints: "the text",
     details: "",
-    refusals: &[1..=6, 8..=8, 19..=19],
+    refusals: &[1..=6, 8..=8, 19..=19, 22..=22],
     run: |given, _| Ok(Answer::product(engine::text(given.bytes("INSTANCE"))?)),
 };

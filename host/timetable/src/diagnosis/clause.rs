@@ -26,44 +26,48 @@ impl Clause {
     /// What is so where the clause is false.
     fn broken(&self, instance: &Instance) -> String {
         let wrong = |variable: String| format!("{variable} has a wrong value");
+        let time_words = |time| instance.time_words(time);
+        let at_time = |time: Option<usize>| {
+            time.map_or(String::new(), |time| format!(" at {}", time_words(time)))
+        };
         let counted = |time| format!("{}{}", self.counted(instance), at_time(time));
         match self.piece.purpose {
-            Purpose::Start { time } => self.broken_start(time + 1),
-            Purpose::AnyOf { place, inputs } => self.broken_use(place, inputs),
+            Purpose::Start { time } => self.broken_start(instance, time),
+            Purpose::AnyOf { place, inputs } => self.broken_use(instance, place, inputs),
             Purpose::Idle { time, .. } => {
-                wrong(format!("a variable for the idle time {}", time + 1))
+                wrong(format!("a variable for the idle {}", time_words(time)))
             }
             Purpose::GoesOn { time, .. } => wrong(format!(
-                "the variable for a subevent that goes on at time {}",
-                time + 1
+                "the variable for a subevent that goes on at {}",
+                time_words(time)
             )),
             Purpose::Carried { time } => wrong(format!(
-                "the variable for a subevent that starts outside the group and goes on at time {}",
-                time + 1
+                "the variable for a subevent that starts outside the group and goes on at {}",
+                time_words(time)
             )),
             Purpose::Held { time } => wrong(format!(
-                "the variable for a subevent that starts outside the group and holds time {}",
-                time + 1
+                "the variable for a subevent that starts outside the group and holds {}",
+                time_words(time)
             )),
             Purpose::Counted { time, .. } | Purpose::Outside { time, .. } => wrong(format!(
-                "a variable for the length of a subevent that starts at time {}",
-                time + 1
+                "a variable for the length of a subevent that starts at {}",
+                time_words(time)
             )),
             Purpose::Begun { time, .. } => wrong(format!(
-                "the variable for a second event that has begun by time {}",
-                time + 1
+                "the variable for a second event that has begun by {}",
+                time_words(time)
             )),
             Purpose::TooSoon { time } => wrong(format!(
-                "the variable for a second event too soon after time {} of the first",
-                time + 1
+                "the variable for a second event too soon after {} of the first",
+                time_words(time)
             )),
             Purpose::Lasting { time, .. } => wrong(format!(
-                "the variable for a first event that goes on after time {}",
-                time + 1
+                "the variable for a first event that goes on after {}",
+                time_words(time)
             )),
             Purpose::TooLate { time } => wrong(format!(
-                "the variable for a second event too late after a first that ends by time {}",
-                time + 1
+                "the variable for a second event too late after a first that ends by {}",
+                time_words(time)
             )),
             Purpose::GapOutside { .. } => wrong("the variable for a gap outside".to_string()),
             Purpose::Counter { time, columns, .. } => {
@@ -79,21 +83,22 @@ impl Clause {
         }
     }
 
-    fn broken_start(&self, time: usize) -> String {
+    fn broken_start(&self, instance: &Instance, time: usize) -> String {
+        let words = instance.time_words(time);
         match (self.place, time) {
-            (0, _) => format!("it starts at time {time} and does not take it"),
-            (_, 1) => "it takes time 1 and does not start there".to_string(),
+            (0, _) => format!("it starts at {words} and does not take it"),
+            (_, 0) => format!("it takes {words} and does not start there"),
             _ => format!(
-                "it takes time {time}, not time {}, and does not start at {time}",
-                time - 1
+                "it takes {words}, not time {time}, and does not start at {}",
+                time + 1
             ),
         }
     }
 
-    fn broken_use(&self, place: Place, inputs: usize) -> String {
+    fn broken_use(&self, instance: &Instance, place: Place, inputs: usize) -> String {
         let place = match place {
-            Place::Time(time) => format!("at time {}", time + 1),
-            Place::Group(group) => format!("in group {}", group + 1),
+            Place::Time(time) => format!("at {}", instance.time_words(time)),
+            Place::Group(group) => format!("in {}", instance.group_words(group)),
         };
         match self.place < inputs as u64 {
             true => format!("the resource is used {place}, and its variable says it is not"),
@@ -123,10 +128,6 @@ impl Clause {
             Kind::Precedence { .. } => "the number of gaps outside between the two events",
         }
     }
-}
-
-fn at_time(time: Option<usize>) -> String {
-    time.map_or(String::new(), |time| format!(" at time {}", time + 1))
 }
 
 /// The row and column, from 1, of a clause of a counter with weights 1: two

@@ -1,4 +1,4 @@
-//! Refusals 1 to 6 and 19: which number of the file, and what is wrong with it.
+//! Refusals 1 to 6, 19 and 22: which number of the file, and what is wrong with it.
 
 use crate::engine::Refusal;
 use crate::instance::read;

@@ -46,12 +46,12 @@ pub fn broken_event(inputs: &Inputs, number: u64) -> Option<String> {
         let begins = takes && (time == 0 || !sheet.takes(event, time - 1));
         match (sheet.starts(event, time), takes, begins) {
             (true, false, _) => Some(format!(
-                "it starts at time {}, which it does not take",
-                time + 1
+                "it starts at {}, which it does not take",
+                instance.time_words(time)
             )),
             (false, _, true) => Some(format!(
-                "it takes time {} and not the one before, and does not start there",
-                time + 1
+                "it takes {} and not the one before, and does not start there",
+                instance.time_words(time)
             )),
             _ => None,
         }

@@ -22,6 +22,7 @@ pub struct Summary {
     pub times: usize,
     pub events: usize,
     pub resources: usize,
+    /// Windows among them.
     pub groups: usize,
     pub constraints: usize,
 }

@@ -16,7 +16,7 @@ pub struct Counts {
     pub constraints: u64,
 }
 
-/// 0 with the counts written, or 1 to 6, 19 with `value` written.
+/// 0 with the counts written, or 1 to 6, 19, 22 with `value` written.
 pub fn read(file: &[u8], counts: &mut Counts, value: &mut u64) -> u32 {
     // SAFETY: see the head of this file; the fields of `counts` do not overlap.
     unsafe {
@@ -33,7 +33,7 @@ pub fn read(file: &[u8], counts: &mut Counts, value: &mut u64) -> u32 {
     }
 }
 
-/// 0 with the sizes written, or 1 to 8, 19 with `value` written.
+/// 0 with the sizes written, or 1 to 8, 19, 22 with `value` written.
 pub fn sizes(file: &[u8], bound: u64, sizes: &mut FormulaSize, value: &mut u64) -> u32 {
     // SAFETY: see the head of this file; the fields of `sizes` do not overlap.
     unsafe {
@@ -56,7 +56,7 @@ pub struct Amounts {
     pub objective: u64,
 }
 
-/// 0 with the amounts written, or 1 to 6, 10 to 12, 19 with `value` written.
+/// 0 with the amounts written, or 1 to 6, 10 to 12, 19, 22 with `value` written.
 pub fn score(file: &[u8], table: &[u8], amounts: &mut Amounts, value: &mut u64) -> u32 {
     // SAFETY: see the head of this file; the fields of `amounts` do not overlap.
     unsafe {
@@ -89,7 +89,7 @@ pub fn idle_step(kept: Kept, used: u32, next: &mut Kept) {
     }
 }
 
-/// 0 with 1 or 0 in `value`, or 1 to 6, 10 to 12, 19 with `value` written.
+/// 0 with 1 or 0 in `value`, or 1 to 6, 10 to 12, 19, 22 with `value` written.
 pub fn same_sheet(file: &[u8], first: &[u8], second: &[u8], value: &mut u64) -> u32 {
     // SAFETY: see the head of this file.
     unsafe {
@@ -105,14 +105,14 @@ pub fn same_sheet(file: &[u8], first: &[u8], second: &[u8], value: &mut u64) -> 
     }
 }
 
-/// 0 with the text's length in `bytes`, or 1 to 6, 8, 19 with `value` written.
+/// 0 with the text's length in `bytes`, or 1 to 6, 8, 19, 22 with `value` written.
 pub fn text_size(file: &[u8], bytes: &mut u64, value: &mut u64) -> u32 {
     // SAFETY: see the head of this file.
     unsafe { c::timetable_text_size(file.as_ptr(), file.len(), bytes, value) }
 }
 
 /// 0 with the text at the front of `out` and its length in `value`, or 1 to 6,
-/// 8, 9, 19 with `value` written.
+/// 8, 9, 19, 22 with `value` written.
 pub fn text(file: &[u8], out: &mut [u8], value: &mut u64) -> u32 {
     // SAFETY: see the head of this file.
     unsafe {
@@ -127,7 +127,7 @@ pub fn text(file: &[u8], out: &mut [u8], value: &mut u64) -> u32 {
 }
 
 /// 0 with the cost in `objective` and in `value` how many bytes of the model,
-/// from its first, are the timetable; or 1 to 6, 8, 10, 11, 13, 19 with
+/// from its first, are the timetable; or 1 to 6, 8, 10, 11, 13, 19, 22 with
 /// `value` written.
 pub fn decode(file: &[u8], model: &[u8], objective: &mut u64, value: &mut u64) -> u32 {
     // SAFETY: see the head of this file.
@@ -145,7 +145,7 @@ pub fn decode(file: &[u8], model: &[u8], objective: &mut u64, value: &mut u64) -
 
 /// 0 with the model filled from a solver's text, its cost in `objective` and in
 /// `value` how many of its bytes, from its first, are the timetable; or 1 to 6,
-/// 8 to 10, 13, 19 to 21 with `value` written. The store is zero after it.
+/// 8 to 10, 13, 19 to 22 with `value` written. The store is zero after it.
 pub fn solver_text(
     file: &[u8],
     text: &[u8],
@@ -182,7 +182,7 @@ pub struct Row {
 }
 
 /// 0 with the number of steps in `value`, which is the answer "no timetable",
-/// or 1 to 9, 14 to 19 with `value` written. The stores are zero after it.
+/// or 1 to 9, 14 to 19, 22 with `value` written. The stores are zero after it.
 pub fn check(
     file: &[u8],
     bound: u64,
@@ -212,7 +212,7 @@ pub fn check(
 }
 
 /// 0 with the number of steps in `value`, which is the answer that no timetable
-/// keeps the hard constraints, or 1 to 6, 8, 9, 14 to 19 with `value` written.
+/// keeps the hard constraints, or 1 to 6, 8, 9, 14 to 19, 22 with `value` written.
 /// The stores are zero after it.
 pub fn check_hard(
     file: &[u8],
@@ -241,7 +241,7 @@ pub fn check_hard(
 }
 
 /// 0 with the model's cost in `objective` and the number of steps in `value`,
-/// which is the answer that nothing costs less, or 1 to 11, 13 to 19 with
+/// which is the answer that nothing costs less, or 1 to 11, 13 to 19, 22 with
 /// `value` written. The stores are zero after it.
 #[allow(clippy::too_many_arguments)]
 pub fn best(

@@ -8,7 +8,7 @@ use super::limits::MOST_VARIABLES;
 use super::refusals::refusal;
 use super::store::Store;
 
-/// Reads an instance file: accepted, or 1 to 6, 19.
+/// Reads an instance file: accepted, or 1 to 6, 19, 22.
 pub fn read(file: &[u8]) -> Result<Summary, Refusal> {
     let mut counts = Counts::default();
     let mut value = 0;
@@ -23,7 +23,7 @@ pub fn read(file: &[u8]) -> Result<Summary, Refusal> {
     })
 }
 
-/// What a proof check at `bound` needs of its stores, or 1 to 8, 19.
+/// What a proof check at `bound` needs of its stores, or 1 to 8, 19, 22.
 pub fn sizes(file: &[u8], bound: u64) -> Result<FormulaSize, Refusal> {
     let mut sizes = FormulaSize::default();
     let mut value = 0;
@@ -32,7 +32,7 @@ pub fn sizes(file: &[u8], bound: u64) -> Result<FormulaSize, Refusal> {
     Ok(sizes)
 }
 
-/// The score of a timetable, or 1 to 6, 10 to 12, 19.
+/// The score of a timetable, or 1 to 6, 10 to 12, 19, 22.
 pub fn score(file: &[u8], table: &[u8]) -> Result<Score, Refusal> {
     let mut amounts = Amounts::default();
     let mut value = 0;
@@ -52,7 +52,7 @@ pub fn idle_step(kept: Kept, used: bool) -> Kept {
     next
 }
 
-/// Whether two timetables are the same sheet, or 1 to 6, 10 to 12, 19.
+/// Whether two timetables are the same sheet, or 1 to 6, 10 to 12, 19, 22.
 pub fn same_sheet(file: &[u8], first: &[u8], second: &[u8]) -> Result<bool, Refusal> {
     let mut value = 0;
     let number = call::same_sheet(file, first, second, &mut value);
@@ -60,7 +60,7 @@ pub fn same_sheet(file: &[u8], first: &[u8], second: &[u8]) -> Result<bool, Refu
     Ok(value == 1)
 }
 
-/// The length of the text for solvers, or 1 to 6, 8, 19.
+/// The length of the text for solvers, or 1 to 6, 8, 19, 22.
 pub fn text_size(file: &[u8]) -> Result<u64, Refusal> {
     let mut bytes = 0;
     let mut value = 0;
@@ -69,7 +69,7 @@ pub fn text_size(file: &[u8]) -> Result<u64, Refusal> {
     Ok(bytes)
 }
 
-/// The text for solvers, or 1 to 6, 8, 19.
+/// The text for solvers, or 1 to 6, 8, 19, 22.
 pub fn text(file: &[u8]) -> Result<Vec<u8>, Refusal> {
     let mut out = vec![0; text_size(file)? as usize];
     let mut value = 0;
@@ -79,7 +79,7 @@ pub fn text(file: &[u8]) -> Result<Vec<u8>, Refusal> {
 }
 
 /// The part of `model` that holds the timetable, with its cost; or 1 to 6, 8,
-/// 10, 11, 13, 19.
+/// 10, 11, 13, 19, 22.
 pub fn decode<'a>(file: &[u8], model: &'a [u8]) -> Result<(&'a [u8], Objective), Refusal> {
     let mut objective = 0;
     let mut value = 0;
@@ -89,7 +89,7 @@ pub fn decode<'a>(file: &[u8], model: &'a [u8]) -> Result<(&'a [u8], Objective),
 }
 
 /// How many bytes a model has, one for each variable without the tail; or 1 to
-/// 6, 8, 19.
+/// 6, 8, 19, 22.
 pub fn model_length(file: &[u8]) -> Result<usize, Refusal> {
     // Every instance has variables, so an empty model has the wrong length.
     match decode(file, &[]) {
@@ -99,7 +99,7 @@ pub fn model_length(file: &[u8]) -> Result<usize, Refusal> {
 }
 
 /// The model that a solver's text gives, the length of its part that is the
-/// timetable, and its cost; or 1 to 6, 8, 13, 19 to 21.
+/// timetable, and its cost; or 1 to 6, 8, 13, 19 to 22.
 pub fn solver_text(file: &[u8], text: &[u8]) -> Result<(Vec<u8>, usize, Objective), Refusal> {
     let length = model_length(file)?;
     let (mut model, mut store) = (vec![0; length], vec![0; length]);
@@ -117,14 +117,14 @@ pub fn solver_text(file: &[u8], text: &[u8]) -> Result<(Vec<u8>, usize, Objectiv
 }
 
 /// Checks that no timetable that keeps the hard constraints costs `bound` or
-/// less. Gives the number of steps, or 1 to 8, 14 to 16, 18, 19.
+/// less. Gives the number of steps, or 1 to 8, 14 to 16, 18, 19, 22.
 pub fn check(file: &[u8], bound: u64, proof: &[u8]) -> Result<u64, Refusal> {
     let mut store = Store::for_proof(sizes(file, bound)?, proof);
     store.check(file, bound, proof)
 }
 
 /// Checks that no timetable keeps the hard constraints, whatever it costs. Gives
-/// the number of steps, or 1 to 6, 8, 14 to 16, 18, 19.
+/// the number of steps, or 1 to 6, 8, 14 to 16, 18, 19, 22.
 pub fn check_hard(file: &[u8], proof: &[u8]) -> Result<u64, Refusal> {
     let mut size = hard_size(file)?;
     loop {
@@ -143,7 +143,7 @@ pub fn check_hard(file: &[u8], proof: &[u8]) -> Result<u64, Refusal> {
 }
 
 /// A size that is not below that of the hard clauses: with the tail for bound 0,
-/// or a guess where that tail has too many variables; or 1 to 6, 19.
+/// or a guess where that tail has too many variables; or 1 to 6, 19, 22.
 fn hard_size(file: &[u8]) -> Result<FormulaSize, Refusal> {
     match sizes(file, 0) {
         Err(refused) if refused.number == refusal::TOO_MANY_VARIABLES => Ok(FormulaSize {
@@ -156,7 +156,7 @@ fn hard_size(file: &[u8]) -> Result<FormulaSize, Refusal> {
 }
 
 /// A model's cost, with the number of steps of the proof that nothing costs
-/// less; or 1 to 8, 10, 11, 13 to 16, 18, 19.
+/// less; or 1 to 8, 10, 11, 13 to 16, 18, 19, 22.
 pub fn best(file: &[u8], model: &[u8], proof: &[u8]) -> Result<(Objective, u64), Refusal> {
     // Where the proof is not looked at, no store is needed.
     let size = match decode(file, model) {

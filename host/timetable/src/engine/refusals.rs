@@ -19,7 +19,7 @@ pub fn refusal_facts(number: u32) -> Option<&'static RefusalFacts> {
 /// Whether refusal `number` is of the instance file.
 pub fn is_of_instance(number: u32) -> bool {
     let of_file = refusal::BAD_NUMBER..=refusal::BYTES_LEFT;
-    of_file.contains(&number) || number == refusal::SAME_EVENT
+    of_file.contains(&number) || [refusal::SAME_EVENT, refusal::BAD_CALENDAR].contains(&number)
 }
 
 /// A constant for each refusal, and the table of all.
@@ -65,6 +65,8 @@ refusals! {
         malformed, or a number after the 0" "it is at offset {}";
     21 NOT_GIVEN_ONCE "a variable is missing in a solver's text, or given twice"
         "variable {} is the lowest such";
+    22 BAD_CALENDAR "a count, period or window of a calendar breaks its rules, or there are more \
+        than 125 periods or none" "its first byte is at offset {}";
 }
 
 #[cfg(test)]
@@ -76,13 +78,13 @@ mod tests {
         for (at, facts) in REFUSALS.iter().enumerate() {
             assert_eq!(facts.number as usize, at + 1);
         }
-        assert_eq!(refusal::NOT_GIVEN_ONCE as usize, REFUSALS.len());
+        assert_eq!(refusal::BAD_CALENDAR as usize, REFUSALS.len());
     }
 
     #[test]
     fn those_of_the_instance_are_told_apart() {
         let numbers = REFUSALS.iter().map(|facts| facts.number);
         let of_instance: Vec<u32> = numbers.filter(|&number| is_of_instance(number)).collect();
-        assert_eq!(of_instance, [1, 2, 3, 4, 5, 6, 19]);
+        assert_eq!(of_instance, [1, 2, 3, 4, 5, 6, 19, 22]);
     }
 }

@@ -24,7 +24,7 @@ impl Store {
     }
 
     /// Checks a bound proof in this store, which is zero after it. Gives the
-    /// number of steps, or 1 to 9, 14 to 19.
+    /// number of steps, or 1 to 9, 14 to 19, 22.
     pub fn check(&mut self, file: &[u8], bound: u64, proof: &[u8]) -> Result<u64, Refusal> {
         let mut value = 0;
         let number = call::check(
@@ -41,7 +41,7 @@ impl Store {
     }
 
     /// Checks a proof against the hard clauses alone in this store, which is
-    /// zero after it. Gives the number of steps, or 1 to 6, 8, 9, 14 to 19.
+    /// zero after it. Gives the number of steps, or 1 to 6, 8, 9, 14 to 19, 22.
     pub fn check_hard(&mut self, file: &[u8], proof: &[u8]) -> Result<u64, Refusal> {
         let mut value = 0;
         let number = call::check_hard(
@@ -58,7 +58,7 @@ impl Store {
 
     /// Decodes a model and checks a proof that nothing costs less in this store,
     /// which is zero after it. Gives the cost and the number of steps, or 1 to
-    /// 11, 13 to 19.
+    /// 11, 13 to 19, 22.
     pub fn best(
         &mut self,
         file: &[u8],

@@ -1,14 +1,16 @@
 //! Why an instance file is not accepted, in words.
 
+use super::calendar::clock;
 use super::field::{Field, Part};
-use super::limits::LONGEST_LIST;
+use super::limits::{LONGEST_LIST, MOST_TIMES};
 use std::fmt::{self, Display, Formatter};
 
 /// Why a file is not accepted, and at which of its numbers.
 #[derive(Clone, Debug, PartialEq, Eq)]
 pub struct Fault {
     pub reason: Reason,
-    /// For a constraint's end its kind.
+    /// For a constraint's end its kind; for a period or window its first number; for a
+    /// whole calendar the 0 before it.
     pub field: Field,
 }
 
@@ -43,6 +45,30 @@ pub enum Reason {
     Unreachable(ConstraintEnd),
     /// This many bytes are left over.
     LeftOver(usize),
+    /// The calendar, or a count, period or window of it.
+    Calendar(CalendarRule),
+}
+
+/// The rule that a calendar breaks, or a count, period or window of it.
+#[derive(Clone, Copy, Debug, PartialEq, Eq)]
+pub enum CalendarRule {
+    /// A count within its limits.
+    Count,
+    /// A number of a period or window within its limits.
+    Limit {
+        name: &'static str,
+        value: u32,
+        least: u32,
+        most: u32,
+    },
+    /// A start below the end.
+    Order { start: u32, end: u32 },
+    /// A start that is not below the end of the period before.
+    Overlap { start: u32, before: u32 },
+    /// One period at least.
+    NoPeriod,
+    /// No more periods than there may be times.
+    TooMany { periods: usize },
 }
 
 /// What is looked at once a constraint's last field is read: lo and hi as
@@ -68,6 +94,7 @@ impl Fault {
             | Reason::Unreachable(_) => 5,
             Reason::LeftOver(_) => 6,
             Reason::SameEvent { .. } => 19,
+            Reason::Calendar(_) => 22,
         }
     }
 }
@@ -91,6 +118,16 @@ impl Display for Fault {
                 kind.name,
                 self.why()
             ),
+            // So is what a calendar's rules find of the whole period, window or calendar.
+            (Reason::Calendar(_), Part::Period { day, number }) => {
+                write!(out, "day {day}, period {number}: {}", self.why())
+            }
+            (Reason::Calendar(_), Part::Window(number)) => {
+                write!(out, "window {number}: {}", self.why())
+            }
+            (Reason::Calendar(CalendarRule::NoPeriod | CalendarRule::TooMany { .. }), _) => {
+                write!(out, "calendar: {}", self.why())
+            }
             _ => write!(out, "{path}: {}", self.why()),
         }
     }
@@ -103,7 +140,9 @@ impl Fault {
         let (least, most) = (limits.start(), limits.end());
         let value = value.unwrap_or_default();
         match self.reason {
-            Reason::Outside => format!("{value} is not from {least} to {most}"),
+            Reason::Outside | Reason::Calendar(CalendarRule::Count) => {
+                format!("{value} is not from {least} to {most}")
+            }
             Reason::Nothing if limits.is_empty() => {
                 format!("{value} names nothing, there is none to name")
             }
@@ -154,6 +193,37 @@ impl Display for Reason {
                 "lo is {lo}, above the {length} entries of its counted list"
             ),
             Reason::LeftOver(bytes) => write!(out, "{bytes} bytes are left over"),
+            Reason::Calendar(rule) => write!(out, "{rule}"),
+        }
+    }
+}
+
+impl Display for CalendarRule {
+    fn fmt(&self, out: &mut Formatter) -> fmt::Result {
+        match *self {
+            CalendarRule::Count => write!(out, "the count is outside its limits"),
+            CalendarRule::Limit {
+                name,
+                value,
+                least,
+                most,
+            } => write!(out, "its {name} is {value}, not from {least} to {most}"),
+            CalendarRule::Order { start, end } => write!(
+                out,
+                "it ends at {}, not after its start at {}",
+                clock(end),
+                clock(start)
+            ),
+            CalendarRule::Overlap { start, before } => write!(
+                out,
+                "it starts at {}, before the one before it ends at {}",
+                clock(start),
+                clock(before)
+            ),
+            CalendarRule::NoPeriod => write!(out, "it has no period"),
+            CalendarRule::TooMany { periods } => {
+                write!(out, "it has {periods} periods, {MOST_TIMES} are the most")
+            }
         }
     }
 }

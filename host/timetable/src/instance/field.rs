@@ -28,13 +28,22 @@ pub struct Path {
     pub entry: Entry,
 }
 
-/// A part of the file. Events, groups and constraints count from 1.
+/// A part of the file. Days, periods, events, groups, windows and constraints count
+/// from 1.
 #[derive(Clone, Copy, Debug, PartialEq, Eq)]
 pub enum Part {
-    /// The counts of times, events, resources, groups and constraints.
+    /// The counts of times, events, resources, groups, windows and constraints; a
+    /// calendar follows if that of times is 0.
     Counts,
+    /// A day of the calendar: how many periods it has.
+    Day(usize),
+    Period {
+        day: usize,
+        number: usize,
+    },
     Event(usize),
     Group(usize),
+    Window(usize),
     /// A constraint, with its kind once that is read.
     Constraint(usize, Option<&'static KindFacts>),
     /// After the last constraint.
@@ -54,8 +63,13 @@ impl Display for Path {
     fn fmt(&self, out: &mut Formatter) -> fmt::Result {
         match self.part {
             Part::Counts => write!(out, "number of {}", self.name)?,
+            Part::Day(day) => write!(out, "day {day}, number of {}", self.name)?,
+            Part::Period { day, number } => {
+                write!(out, "day {day}, period {number}, {}", self.name)?
+            }
             Part::Event(number) => write!(out, "event {number}, {}", self.name)?,
             Part::Group(number) => write!(out, "group {number}, {}", self.name)?,
+            Part::Window(number) => write!(out, "window {number}, {}", self.name)?,
             Part::Constraint(number, None) => write!(out, "constraint {number}, {}", self.name)?,
             Part::Constraint(number, Some(kind)) => write!(
                 out,

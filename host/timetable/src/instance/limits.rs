@@ -5,7 +5,15 @@ use std::ops::RangeInclusive;
 pub const MOST_TIMES: u32 = 125;
 pub const MOST_EVENTS: u32 = 1_024;
 pub const MOST_RESOURCES: u32 = 99;
+/// Of the groups that are written out.
 pub const MOST_GROUPS: u32 = 1_024;
+/// The days of a calendar.
+pub const DAYS: u32 = 7;
+/// The most periods of a day.
+pub const MOST_PERIODS: u32 = 24;
+/// The end of a day, in minutes after its begin.
+pub const LAST_MINUTE: u32 = 1_440;
+pub const MOST_WINDOWS: u32 = 1_024;
 pub const MOST_CONSTRAINTS: u32 = 4_096;
 pub const LARGEST_WEIGHT: u32 = 1_000;
 /// The largest lo or hi.
@@ -30,6 +38,7 @@ pub struct Counts {
     pub times: usize,
     pub events: usize,
     pub resources: usize,
+    /// Windows among them.
     pub groups: usize,
 }
 

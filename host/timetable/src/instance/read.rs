@@ -23,7 +23,7 @@ pub fn field_at(bytes: &[u8], offset: usize) -> Option<Field> {
     reader.met
 }
 
-struct Reader<'a> {
+pub struct Reader<'a> {
     bytes: &'a [u8],
     offset: usize,
     /// The offset whose number is wanted.
@@ -43,7 +43,13 @@ impl<'a> Reader<'a> {
 
     fn instance(&mut self) -> Result<Instance, Fault> {
         let mut instance = Instance::default();
-        instance.times = self.count("times", 1..=MOST_TIMES)?;
+        let times = self.number(alone(Part::Counts, "times"), 0..=MOST_TIMES)?;
+        instance.times = inside(&times)?;
+        if instance.times == 0 {
+            let calendar = self.calendar(&times)?;
+            instance.times = calendar.times();
+            instance.calendar = Some(calendar);
+        }
         let events = self.count("events", 1..=MOST_EVENTS)?;
         instance.resources = self.count("resources", 0..=MOST_RESOURCES)?;
         for number in 1..=events {
@@ -52,6 +58,11 @@ impl<'a> Reader<'a> {
         for number in 1..=self.count("groups", 0..=MOST_GROUPS)? {
             let members = self.list(Part::Group(number), "times", instance.times)?;
             instance.groups.push(members);
+        }
+        if instance.calendar.is_some() {
+            for window in self.windows()? {
+                instance.add_window(window);
+            }
         }
         for number in 1..=self.count("constraints", 0..=MOST_CONSTRAINTS)? {
             let constraint = self.constraint(number, &instance)?;
@@ -118,7 +129,7 @@ impl<'a> Reader<'a> {
     }
 
     /// The next number, whatever it is.
-    fn number(&mut self, path: Path, limits: RangeInclusive<u32>) -> Result<Field, Fault> {
+    pub fn number(&mut self, path: Path, limits: RangeInclusive<u32>) -> Result<Field, Fault> {
         let read = read_number(self.bytes, self.offset);
         let field = Field {
             path,
@@ -183,7 +194,7 @@ impl<'a> Reader<'a> {
 /// The limits of what may not stand at all.
 const EMPTY: RangeInclusive<u32> = 1..=0;
 
-fn alone(part: Part, name: &'static str) -> Path {
+pub fn alone(part: Part, name: &'static str) -> Path {
     Path {
         part,
         name,

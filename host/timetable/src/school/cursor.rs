@@ -74,6 +74,18 @@ impl<'a> Cursor<'a> {
         }
     }
 
+    /// What `read` makes of the next word, which `what` says more of.
+    pub fn read<T>(&mut self, what: &str, read: fn(&str) -> Option<T>) -> Result<T, TextFault> {
+        let word = self.peek().filter(|word| !word.quoted);
+        match word.and_then(|word| read(&word.text)) {
+            Some(found) => {
+                self.at += 1;
+                Ok(found)
+            }
+            None => Err(self.expected(what)),
+        }
+    }
+
     /// Nothing may follow.
     pub fn end(&self) -> Result<(), TextFault> {
         match self.peek() {

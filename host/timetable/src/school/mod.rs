@@ -1,6 +1,9 @@
 //! A school in words: an instance with the names of its things, its text form
 //! (docs/FORMAT.md), and the side file that keeps the names.
 
+mod calendar;
+#[cfg(test)]
+mod calendar_tests;
 mod constraints;
 mod cursor;
 mod declarations;
@@ -17,7 +20,7 @@ mod times;
 mod words;
 
 pub use fault::TextFault;
-pub use names::{Day, Names, Resource, ResourceSort};
+pub use names::{calendar_days, Day, Names, Resource, ResourceSort, WEEK};
 pub use names_file::{read_names, write_names};
 pub use parse::parse;
 pub use print::{constraint_line, print};
@@ -34,7 +37,7 @@ pub struct School {
 impl School {
     /// `instance` with invented names.
     pub fn unnamed(instance: Instance) -> School {
-        let names = Names::invented(instance.counts());
+        let names = Names::invented(&instance);
         School { instance, names }
     }
 }

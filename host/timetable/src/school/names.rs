@@ -1,16 +1,31 @@
 //! The names of an instance's things, in the order of their numbers.
 
-use crate::instance::Counts;
+use crate::instance::{clock, Calendar, Counts, Instance, DAYS};
 
 #[derive(Clone, Debug, Default, PartialEq, Eq)]
 pub struct Names {
     /// The school's own name.
     pub title: Option<String>,
-    /// The times, day by day.
+    /// The times, day by day; those of a calendar are `calendar_days`.
     pub days: Vec<Day>,
     pub resources: Vec<Resource>,
     pub lessons: Vec<String>,
+    /// The groups, then the windows.
     pub groups: Vec<String>,
+}
+
+/// The days of a calendar, if they have no other names.
+pub const WEEK: [&str; DAYS as usize] = ["Mon", "Tue", "Wed", "Thu", "Fri", "Sat", "Sun"];
+
+/// The days of `calendar` by their names in `week`: all seven, and each period under the
+/// clock time of its start.
+pub fn calendar_days(week: &[impl AsRef<str>], calendar: &Calendar) -> Vec<Day> {
+    let days = week.iter().zip(&calendar.days);
+    let days = days.map(|(name, periods)| Day {
+        name: Some(name.as_ref().to_string()),
+        periods: periods.iter().map(|period| clock(period.start)).collect(),
+    });
+    days.collect()
 }
 
 /// A day with the names of its periods; without a name, times of no day.
@@ -74,8 +89,9 @@ impl Day {
 }
 
 impl Names {
-    /// T1, T2, ... for times, and so on for resources (R), lessons (L) and groups (G).
-    pub fn invented(counts: Counts) -> Names {
+    /// T1, T2, ... for times, and so on for resources (R), lessons (L), groups (G) and
+    /// windows (W); the usual week for a calendar.
+    pub fn invented(instance: &Instance) -> Names {
         let numbered = |letter: char, count: usize| -> Vec<String> {
             (1..=count)
                 .map(|number| format!("{letter}{number}"))
@@ -85,18 +101,24 @@ impl Names {
             sort: ResourceSort::Other,
             name,
         };
+        let days = match &instance.calendar {
+            Some(calendar) => calendar_days(&WEEK, calendar),
+            None => vec![Day {
+                name: None,
+                periods: numbered('T', instance.times),
+            }],
+        };
+        let groups = numbered('G', instance.written_groups().len());
+        let windows = numbered('W', instance.windows().len());
         Names {
             title: None,
-            days: vec![Day {
-                name: None,
-                periods: numbered('T', counts.times),
-            }],
-            resources: numbered('R', counts.resources)
+            days,
+            resources: numbered('R', instance.resources)
                 .into_iter()
                 .map(resource)
                 .collect(),
-            lessons: numbered('L', counts.events),
-            groups: numbered('G', counts.groups),
+            lessons: numbered('L', instance.events.len()),
+            groups: [groups, windows].concat(),
         }
     }
 
@@ -123,7 +145,9 @@ impl Names {
         let mut first = 0;
         for day in &self.days {
             let after = first + day.periods.len();
-            spans.push((day, first..after));
+            if after > first {
+                spans.push((day, first..after));
+            }
             first = after;
         }
         spans

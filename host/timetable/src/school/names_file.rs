@@ -7,7 +7,7 @@ use super::fault::TextFault;
 use super::names::Names;
 use super::print::Page;
 use super::words::{statements, written, Statement};
-use crate::instance::Counts;
+use crate::instance::{self, Calendar, Counts};
 
 /// The side file for the names of the instance file `instance`.
 pub fn write_names(names: &Names, instance: &[u8]) -> String {
@@ -15,9 +15,22 @@ pub fn write_names(names: &Names, instance: &[u8]) -> String {
     page.comment("Names for an instance file; 'file' has its length and a mark of its bytes.");
     let mark = format!("{:016x}", mark(instance));
     page.statement(&["file".to_string(), instance.len().to_string(), mark]);
-    page.names(names);
+    page.title(names);
+    let calendar = calendar(instance);
+    match calendar {
+        Some(_) => page.week(names),
+        None => page.days(names),
+    }
+    page.resources(names);
     page.gap();
-    for (keyword, list) in [(LESSONS, &names.lessons), (GROUPS, &names.groups)] {
+    let windows = calendar.map_or(0, |found| found.windows.len());
+    let groups = names.groups.len().saturating_sub(windows);
+    let (groups, windows) = names.groups.split_at(groups);
+    for (keyword, list) in [
+        (LESSONS, &names.lessons[..]),
+        (GROUPS, groups),
+        (WINDOWS, windows),
+    ] {
         if !list.is_empty() {
             let mut words = vec![keyword.to_string()];
             words.extend(list.iter().map(|name| written(name)));
@@ -27,13 +40,21 @@ pub fn write_names(names: &Names, instance: &[u8]) -> String {
     page.text
 }
 
+/// The calendar of an instance file, which names the times by itself.
+fn calendar(file: &[u8]) -> Option<Calendar> {
+    instance::read(file).ok()?.calendar
+}
+
 const LESSONS: &str = "lesson-names";
 const GROUPS: &str = "group-names";
+const WINDOWS: &str = "window-names";
 
 /// The names that the side file `text` gives to the things of the instance
 /// file `instance`, which has `counts` of them.
 pub fn read_names(text: &str, instance: &[u8], counts: Counts) -> Result<Names, TextFault> {
-    let mut declared = Declarations::default();
+    let calendar = calendar(instance);
+    let windows = calendar.as_ref().map_or(0, |found| found.windows.len());
+    let mut declared = calendar.map_or_else(Declarations::default, Declarations::with_calendar);
     let statements = statements(text)?;
     for statement in &statements {
         read_statement(&mut declared, statement, instance)?;
@@ -43,7 +64,12 @@ pub fn read_names(text: &str, instance: &[u8], counts: Counts) -> Result<Names, 
         ("times", named.times, counts.times),
         ("lessons", named.events, counts.events),
         ("resources", named.resources, counts.resources),
-        ("groups", named.groups, counts.groups),
+        (
+            "groups",
+            declared.written_groups(),
+            counts.groups.saturating_sub(windows),
+        ),
+        ("windows", named.groups - declared.written_groups(), windows),
     ];
     for (things, named, there) in pairs {
         if named != there {
@@ -77,6 +103,7 @@ fn read_statement(
                 return Err(TextFault::at(keyword.place, message));
             }
         }
+        "week" if declared.calendar.is_some() => declared.week(keyword, &mut cursor)?,
         LESSONS => {
             for name in cursor.names("the name of a lesson")? {
                 declared.lesson(name)?;
@@ -85,6 +112,11 @@ fn read_statement(
         GROUPS => {
             for name in cursor.names("the name of a group")? {
                 declared.group(name)?;
+            }
+        }
+        WINDOWS => {
+            for name in cursor.names("the name of a window")? {
+                declared.add_window(name)?;
             }
         }
         _ => {

@@ -50,24 +50,64 @@ impl Builder {
         if !instance.constraints.is_empty() && is_declaration(keyword) {
             return late("the first constraint");
         }
-        let times = ["day", "days", "time", "times"].contains(&keyword.text.as_str());
-        if times && !(instance.events.is_empty() && instance.groups.is_empty()) {
+        if TIMES.contains(&keyword.text.as_str())
+            && !(instance.events.is_empty() && instance.groups.is_empty())
+        {
             return late("lessons and groups");
         }
         match keyword.text.as_str() {
+            "week" if instance.calendar.is_some() => late("the calendar, once"),
+            "week" | "calendar" => self.calendar(keyword, cursor),
             "lesson" => self.lesson(cursor),
             "group" => self.group(cursor),
             "groups" => self.groups_by_day(cursor),
+            "window" | "windows" => self.windows(keyword, cursor),
             _ => match self.declared.read(keyword, cursor)? {
                 true => {
-                    let counts = self.declared.names.counts();
-                    self.instance.times = counts.times;
-                    self.instance.resources = counts.resources;
+                    self.settle();
                     Ok(())
                 }
                 false => Err(TextFault::at(keyword.place, unknown(&keyword.text))),
             },
         }
+    }
+
+    /// The instance has what has been declared.
+    fn settle(&mut self) {
+        let counts = self.declared.names.counts();
+        self.instance.times = counts.times;
+        self.instance.resources = counts.resources;
+    }
+
+    /// `week DAY...` or `calendar DAY... periods START-END...`
+    fn calendar(&mut self, keyword: &Word, cursor: &mut Cursor) -> Result<(), TextFault> {
+        if self.declared.calendar.is_none() && self.instance.times > 0 {
+            let message = "the times are given without a calendar already";
+            return Err(TextFault::at(keyword.place, message));
+        }
+        match keyword.is("week") {
+            true => self.declared.week(keyword, cursor)?,
+            false => self.declared.periods(keyword, cursor)?,
+        }
+        self.instance.calendar = self.declared.calendar.clone();
+        self.settle();
+        Ok(())
+    }
+
+    /// `window NAME is DAY CLOCK to CLOCK` or `windows NAME by day CLOCK to CLOCK`
+    fn windows(&mut self, keyword: &Word, cursor: &mut Cursor) -> Result<(), TextFault> {
+        if self.instance.calendar.is_none() {
+            let message = format!("'{}' wants a calendar before it", keyword.text);
+            return Err(TextFault::at(keyword.place, message));
+        }
+        let windows = match keyword.is("window") {
+            true => vec![self.declared.window(cursor)?],
+            false => self.declared.windows_by_day(cursor)?,
+        };
+        for window in windows {
+            self.instance.add_window(window);
+        }
+        Ok(())
     }
 
     /// `lesson NAME takes NUMBER [with RESOURCE...]`
@@ -98,8 +138,14 @@ impl Builder {
         self.declared.group(cursor.name("the group's name")?)?;
         cursor.expect("is")?;
         let members = self.declared.times.set(cursor)?;
-        self.instance.groups.push(members);
+        self.add_group(members);
         Ok(())
+    }
+
+    /// Adds a group that is written out, after the others and before the windows.
+    fn add_group(&mut self, members: Vec<usize>) {
+        let number = self.instance.written_groups().len();
+        self.instance.groups.insert(number, members);
     }
 
     /// `groups by day`: a group for each day, with the day's name.
@@ -118,7 +164,7 @@ impl Builder {
                 place,
             };
             self.declared.group(&word)?;
-            self.instance.groups.push(span.collect());
+            self.add_group(span.collect());
         }
         Ok(())
     }
@@ -131,7 +177,7 @@ impl Builder {
             ))
         };
         if self.instance.times == 0 {
-            return missing("'days' or 'times'");
+            return missing("'days', 'times' or 'calendar'");
         }
         if self.instance.events.is_empty() {
             return missing("'lesson'");
@@ -143,22 +189,24 @@ impl Builder {
     }
 }
 
-/// The first words of statements that declare something, beside those for resources.
-const DECLARATIONS: &[&str] = &[
-    "school", "day", "days", "time", "times", "lesson", "group", "groups",
-];
+/// The first words of statements that declare times.
+const TIMES: &[&str] = &["day", "days", "time", "times", "week", "calendar"];
+
+/// The first words of further statements that declare something, beside those for resources.
+const DECLARATIONS: &[&str] = &["school", "lesson", "group", "groups", "window", "windows"];
 
 /// Whether the statement would be one if it stood earlier.
 fn is_declaration(keyword: &Word) -> bool {
-    DECLARATIONS.contains(&keyword.text.as_str()) || sort_named(&keyword.text).is_some()
+    let keyword = keyword.text.as_str();
+    TIMES.contains(&keyword) || DECLARATIONS.contains(&keyword) || sort_named(keyword).is_some()
 }
 
 fn unknown(word: &str) -> String {
     let sorts = ResourceSort::ALL.map(ResourceSort::many).join(", ");
     let kinds: Vec<&str> = KINDS.iter().map(|facts| facts.name).collect();
     format!(
-        "expected a statement (school, days, times, {sorts}, lesson, group, groups) or a \
-         constraint ({}), found '{word}'",
+        "expected a statement (school, days, times, week, calendar, {sorts}, lesson, group, \
+         groups, window, windows) or a constraint ({}), found '{word}'",
         kinds.join(", ")
     )
 }

@@ -11,15 +11,24 @@ use std::ops::RangeInclusive;
 pub fn print(school: &School) -> String {
     let School { instance, names } = school;
     let mut page = Page::default();
+    let windows = match instance.calendar {
+        Some(_) => format!("{} windows, ", instance.windows().len()),
+        None => String::new(),
+    };
     page.comment(&format!(
-        "{} times, {} lessons, {} resources, {} groups, {} constraints",
+        "{} times, {} lessons, {} resources, {} groups, {windows}{} constraints",
         instance.times,
         instance.events.len(),
         instance.resources,
-        instance.groups.len(),
+        instance.written_groups().len(),
         instance.constraints.len(),
     ));
-    page.names(names);
+    page.title(names);
+    match &instance.calendar {
+        Some(calendar) => page.calendar(names, calendar),
+        None => page.days(names),
+    }
+    page.resources(names);
     page.gap();
     for (name, event) in names.lessons.iter().zip(&instance.events) {
         let mut words = vec!["lesson".to_string(), written(name), "takes".to_string()];
@@ -36,10 +45,14 @@ pub fn print(school: &School) -> String {
         page.statement(&words);
     }
     page.gap();
-    for (name, members) in names.groups.iter().zip(&instance.groups) {
+    let (groups, windows) = names.groups.split_at(instance.written_groups().len());
+    for (name, members) in groups.iter().zip(&instance.groups) {
         let mut words = vec!["group".to_string(), written(name), "is".to_string()];
         words.extend(set_words(names, members));
         page.statement(&words);
+    }
+    for (name, &window) in windows.iter().zip(instance.windows()) {
+        page.window(names, name, window);
     }
     page.gap();
     for constraint in &instance.constraints {
@@ -148,11 +161,15 @@ impl Page {
         self.text.push('\n');
     }
 
-    /// The school's name, its times and its resources.
-    pub fn names(&mut self, names: &Names) {
+    /// The school's name.
+    pub fn title(&mut self, names: &Names) {
         if let Some(title) = &names.title {
             self.statement(&["school".to_string(), written(title)]);
         }
+    }
+
+    /// Times that are not those of a calendar.
+    pub fn days(&mut self, names: &Names) {
         self.gap();
         let mut days = &names.days[..];
         while let Some(first) = days.first() {
@@ -174,6 +191,9 @@ impl Page {
             self.statement(&words);
             days = &days[count..];
         }
+    }
+
+    pub fn resources(&mut self, names: &Names) {
         self.gap();
         for run in names.resources.chunk_by(|a, b| a.sort == b.sort) {
             let mut words = vec![run[0].sort.many().to_string()];

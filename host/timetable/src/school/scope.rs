@@ -6,6 +6,8 @@ use super::fault::TextFault;
 use super::names::ResourceSort;
 use super::nearest::missing;
 use super::parse::Builder;
+use super::times::EVERY_DAY;
+use super::words::Word;
 use crate::instance::{Counts, Instance, Thing};
 
 /// What names can refer to.
@@ -32,9 +34,11 @@ impl<'a> Scope<'a> {
         }
         loop {
             let place = cursor.place();
-            let more = match cursor.passes("all") {
-                true => self.several(thing, Number::Plural, cursor)?,
-                false => vec![self.named(thing, cursor)?],
+            let of_days = self.groups_of_days(thing, cursor);
+            let more = match (of_days, cursor.passes("all")) {
+                (Some(groups), _) => groups,
+                (None, true) => self.several(thing, Number::Plural, cursor)?,
+                (None, false) => vec![self.named(thing, cursor)?],
             };
             for member in more {
                 if members.contains(&member) {
@@ -58,13 +62,44 @@ impl<'a> Scope<'a> {
     pub fn named(&self, thing: Thing, cursor: &mut Cursor) -> Result<usize, TextFault> {
         let one = one(thing);
         let word = cursor.name(&format!("the name of a {one}"))?;
-        let index = match thing {
-            Thing::Resource => &self.declared.resources,
-            Thing::Group => &self.declared.groups,
-            _ => &self.declared.lessons,
+        let found = match thing {
+            Thing::Resource => self.declared.resources.get(&word.text).copied(),
+            Thing::Group => self.declared.group_number(&word.text),
+            _ => self.declared.lessons.get(&word.text).copied(),
         };
-        let found = index.get(&word.text).copied();
-        found.ok_or_else(|| TextFault::at(word.place, missing(one, &word.text, index.keys())))
+        found.ok_or_else(|| {
+            let message = match self.of_days(thing, word).is_empty() {
+                true => missing(one, &word.text, self.names(thing).iter()),
+                false => format!(
+                    "'{0}' stands for several groups; 'each {0}' makes a constraint for each",
+                    word.text
+                ),
+            };
+            TextFault::at(word.place, message)
+        })
+    }
+
+    /// Passes `*.NAME` where it stands for groups of days.
+    fn groups_of_days(&self, thing: Thing, cursor: &mut Cursor) -> Option<Vec<usize>> {
+        let found = self.of_days(thing, cursor.peek()?);
+        if found.is_empty() {
+            return None;
+        }
+        cursor.next_name();
+        Some(found)
+    }
+
+    /// What `*.NAME` stands for, where no group has just that name: the groups and windows
+    /// `DAY.NAME` of every day that has one.
+    fn of_days(&self, thing: Thing, word: &Word) -> Vec<usize> {
+        let name = word.text.strip_prefix(EVERY_DAY).filter(|_| !word.quoted);
+        let named = |name: &str| self.declared.group_number(name);
+        let (Some(name), Thing::Group, None) = (name, thing, named(&word.text)) else {
+            return Vec::new();
+        };
+        let days = self.declared.names.days.iter();
+        let days = days.filter(|day| day.name.is_some());
+        days.filter_map(|day| named(&day.time(name))).collect()
     }
 
     /// What `each` or `all` stands for; it is never nothing.
@@ -75,6 +110,9 @@ impl<'a> Scope<'a> {
         cursor: &mut Cursor,
     ) -> Result<Vec<usize>, TextFault> {
         let place = cursor.place();
+        if let Some(groups) = self.groups_of_days(thing, cursor) {
+            return Ok(groups);
+        }
         let (found, what) = match thing {
             Thing::Resource => self.several_resources(number, cursor)?,
             Thing::Group => self.several_groups(number, cursor)?,
@@ -101,15 +139,20 @@ impl<'a> Scope<'a> {
         Ok((found.collect(), sort.one().to_string()))
     }
 
-    /// Every group, or those with the name of a day.
+    /// Every group, windows among them, every window, or those with the name of a day.
     fn several_groups(&self, number: Number, cursor: &mut Cursor) -> Several {
         let all = 0..self.counts.groups;
-        let [group, day] = [number.pick("group", "groups"), number.pick("day", "days")];
+        let [group, window, day] = [("group", "groups"), ("window", "windows"), ("day", "days")]
+            .map(|(one, many)| number.pick(one, many));
         if cursor.passes(group) {
             return Ok((all.collect(), "group".to_string()));
         }
+        if cursor.passes(window) {
+            let windows = self.declared.written_groups()..self.counts.groups;
+            return Ok((windows.collect(), "window".to_string()));
+        }
         if !cursor.passes(day) {
-            return Err(cursor.expected(&format!("'{day}' or '{group}'")));
+            return Err(cursor.expected(&format!("'{day}', '{group}' or '{window}'")));
         }
         let names = &self.declared.names;
         let is_day = |&at: &usize| {

@@ -191,7 +191,7 @@ fn a_text_without_lessons_is_no_school() {
     let fault = parse("").expect_err("nothing");
     assert_eq!(
         fault.to_string(),
-        "line 1, column 1: expected 'days' or 'times', found the end of the text"
+        "line 1, column 1: expected 'days', 'times' or 'calendar', found the end of the text"
     );
     let fault = parse("times a b\n").expect_err("no lesson");
     assert_eq!(

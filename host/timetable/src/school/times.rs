@@ -3,7 +3,7 @@
 
 use super::cursor::Cursor;
 use super::fault::TextFault;
-use super::names::Names;
+use super::names::{Day, Names};
 use super::words::{written, Word};
 use std::collections::HashMap;
 use std::ops::Range;
@@ -18,10 +18,19 @@ pub struct TimeIndex {
     count: usize,
 }
 
-/// What stands for a period of every day, before its name.
-const EVERY_DAY: &str = "*.";
+/// What stands for a period, group or window of every day, before its name.
+pub const EVERY_DAY: &str = "*.";
 
 impl TimeIndex {
+    /// The times of `days`, or a name that is used twice.
+    pub fn over(days: &[Day]) -> Result<TimeIndex, String> {
+        let mut index = TimeIndex::default();
+        for day in days {
+            index.add(day.name.as_deref(), &day.periods)?;
+        }
+        Ok(index)
+    }
+
     /// Adds `periods` of the day `day`, or of no day; gives the name that is
     /// already used if there is one.
     pub fn add(&mut self, day: Option<&str>, periods: &[String]) -> Result<(), String> {

@@ -25,12 +25,12 @@ pub struct Formula {
 }
 
 impl Formula {
-    /// The hard clauses and the soft units of an instance file, or 1 to 6, 8, 19.
+    /// The hard clauses and the soft units of an instance file, or 1 to 6, 8, 19, 22.
     pub fn of(file: &[u8]) -> Result<Formula, Fault> {
         Formula::from_text(&engine::text(file)?)
     }
 
-    /// The formula of a file with the tail for `bound`, or 1 to 8, 19.
+    /// The formula of a file with the tail for `bound`, or 1 to 8, 19, 22.
     pub fn at_bound(file: &[u8], bound: u64) -> Result<Formula, Fault> {
         let wanted = engine::sizes(file, bound)?;
         Formula::of(file)?.with_tail(bound, wanted)

@@ -195,7 +195,7 @@ mod tests {
                 resources: vec![0],
             }],
             groups: groups.iter().map(|group| group.to_vec()).collect(),
-            constraints: Vec::new(),
+            ..Instance::default()
         };
         let table = row.repeat(2);
         let sheet = Sheet::over(&instance, &table).expect("a timetable");

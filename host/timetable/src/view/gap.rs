@@ -76,16 +76,16 @@ impl View<'_> {
             Some(gap) => return format!("{line} (gap {})", gap.said()),
             None => return line,
         };
-        let (lessons, times) = (&self.school.names.lessons, self.school.names.times());
+        let lessons = &self.school.names.lessons;
         let [(before, last), (after, first)] = [gap.before, gap.after];
         format!(
             "{line} (gap {}, allowed {}: {} ends at {}, {} begins at {})",
             gap.said(),
             gap.allowed(),
             lessons[before],
-            times[last],
+            self.end(last),
             lessons[after],
-            times[first]
+            self.begin(first)
         )
     }
 

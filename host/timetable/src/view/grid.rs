@@ -1,9 +1,10 @@
 //! Grids: a column for each day, a row for each period.
 
 use super::charges::{Place, Subject};
+use super::moments::between;
 use super::View;
 use crate::instance::{Kind, Thing, Value};
-use crate::school::{Day, Names, ResourceSort, School};
+use crate::school::{Day, ResourceSort, School};
 use std::collections::HashSet;
 
 /// The week of one resource, or of the lessons that have none.
@@ -18,6 +19,7 @@ pub struct Grid {
 }
 
 pub struct Row {
+    /// The period's name; in a calendar when it begins and ends.
     pub period: String,
     /// None where a day has no such period.
     pub cells: Vec<Option<Cell>>,
@@ -66,15 +68,15 @@ fn grid(view: &View, resource: Option<usize>) -> Grid {
         None => instance.events[lesson].resources.is_empty(),
     };
     let lessons: Vec<usize> = (0..instance.events.len()).filter(here).collect();
-    let days = names.days.iter();
+    let days = names.spans().into_iter();
     let broken = view.broken().map(|(number, _)| number);
     let concerned =
         |&number: &usize| concerns(&instance.constraints[number].kind, resource, &lessons);
     Grid {
         resource,
         title: title(view, resource),
-        days: days.map(day_title).collect(),
-        rows: rows(names, cells(view, resource, &lessons)),
+        days: days.map(|(day, _)| day_title(day)).collect(),
+        rows: rows(view.school, cells(view, resource, &lessons)),
         broken: broken.filter(concerned).collect(),
     }
 }
@@ -100,20 +102,49 @@ fn cells(view: &View, resource: Option<usize>, lessons: &[usize]) -> Vec<Option<
 }
 
 /// The cells of the times, a row for each period.
-fn rows(names: &Names, mut cells: Vec<Option<Cell>>) -> Vec<Row> {
+fn rows(school: &School, mut cells: Vec<Option<Cell>>) -> Vec<Row> {
+    let periods = periods(school);
     let mut row = |period: String| Row {
-        cells: names
+        cells: school
+            .names
             .spans()
             .into_iter()
-            .map(|(day, span)| {
-                let at = day.periods.iter().position(|name| *name == period)?;
-                cells[span.start + at].take()
-            })
+            .map(|(_, mut span)| cells[span.find(|&time| periods[time] == period)?].take())
             .collect(),
         period,
     };
-    let periods = periods(&names.days).into_iter();
-    periods.map(&mut row).collect()
+    let once = once(school, &periods).into_iter();
+    once.map(&mut row).collect()
+}
+
+/// The row of each time: the name of its period, or in a calendar its clock times.
+fn periods(school: &School) -> Vec<String> {
+    match &school.instance.calendar {
+        Some(calendar) => {
+            let periods = calendar.periods();
+            periods
+                .map(|(_, one)| between(one.start, one.end))
+                .collect()
+        }
+        None => {
+            let days = school.names.days.iter();
+            days.flat_map(|day| day.periods.clone()).collect()
+        }
+    }
+}
+
+/// The rows, each once: as they come up, or in a calendar by the clock.
+fn once(school: &School, periods: &[String]) -> Vec<String> {
+    let mut once: Vec<String> = Vec::new();
+    for period in periods {
+        if !once.contains(period) {
+            once.push(period.clone());
+        }
+    }
+    if school.instance.calendar.is_some() {
+        once.sort_unstable();
+    }
+    once
 }
 
 /// "Class 1A", and just the name of a resource of no known sort.
@@ -128,17 +159,6 @@ fn title(view: &View, resource: Option<usize>) -> String {
         ResourceSort::Room => format!("Room {}", resource.name),
         ResourceSort::Other => resource.name.clone(),
     }
-}
-
-/// The names of periods over all days, in the order in which they come up.
-fn periods(days: &[Day]) -> Vec<String> {
-    let mut periods: Vec<String> = Vec::new();
-    for period in days.iter().flat_map(|day| &day.periods) {
-        if !periods.contains(period) {
-            periods.push(period.clone());
-        }
-    }
-    periods
 }
 
 /// The cell at `time`; `goes_on` if the cell above is the time before.

@@ -8,6 +8,7 @@ mod diff;
 mod gap;
 mod grid;
 mod html;
+mod moments;
 mod sheet;
 mod text;
 mod words;
@@ -22,7 +23,6 @@ pub use text::{charges_text, diff_text, grids_text};
 
 use crate::school::{constraint_line, School};
 use std::collections::HashMap;
-use std::ops::Range;
 
 /// A school with one of its timetables.
 pub struct View<'a> {
@@ -72,15 +72,5 @@ impl<'a> View<'a> {
     fn constraint_line(&self, number: usize) -> String {
         let School { instance, names } = self.school;
         constraint_line(names, &instance.constraints[number])
-    }
-
-    /// Blocks by the names of their times.
-    pub fn blocks_line(&self, blocks: &[Range<usize>]) -> String {
-        let times = self.school.names.times();
-        let block = |block: &Range<usize>| match block.len() {
-            1 => times[block.start].clone(),
-            _ => format!("{} to {}", times[block.start], times[block.end - 1]),
-        };
-        blocks.iter().map(block).collect::<Vec<_>>().join(", ")
     }
 }

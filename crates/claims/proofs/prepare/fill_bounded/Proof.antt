@@ -1,110 +1,58 @@
--- `prepare::fill_bounded` meets its contract: the file is measured, then the stores are judged, then the formula is written.
+-- `prepare::fill_bounded` meets its contract: the table that it chooses has the rows that the file may need.
 use borrow.Author.Needs.{needs}
-use mathlib.Core.Path.{refl, sym, _∙_}
-use native.Mathlib.Omega.{arith}
-use Rattle.claims.proofs.laws.Bounded.{bounding}
-use Rattle.claims.proofs.laws.Prepared.{bounded-refused, bounded-short, bounded-in, left-same}
+use Rattle.tables.proofs.laws.Room.{room-dated, room-plain}
 use Rattle.claims.proofs.prepare.fill_bounded.Statement.{statement}
 use Rattle.claims.proofs.prepare.fill_bounded.Tie as tie
 
-durations-requires : tie.Need-durations-requires
-durations-requires c κs = search needs
+dated-requires : tie.Need-dated-requires
+dated-requires c κs = search needs
 
-resource-rows-requires : tie.Need-resource-rows-requires
-resource-rows-requires c κs = search needs
+window-rows-requires : tie.Need-window-rows-requires
+window-rows-requires c κs = search needs
 
-group-rows-requires : tie.Need-group-rows-requires
-group-rows-requires c κs = search needs
+slice-aggregate-fill-bounded-in : tie.Need-slice-aggregate-fill-bounded-in
+slice-aggregate-fill-bounded-in c = search needs
 
-list-requires : tie.Need-list-requires
-list-requires c κs = search needs
-
-slice-aggregate-measure-bound : tie.Need-slice-aggregate-measure-bound
-slice-aggregate-measure-bound c = search needs
-
-slice-aggregate-measure-bound-2 : tie.Need-slice-aggregate-measure-bound-2
-slice-aggregate-measure-bound-2 c = search needs
-
-slice-aggregate-measure-bound-3 : tie.Need-slice-aggregate-measure-bound-3
-slice-aggregate-measure-bound-3 c = search needs
-
-slice-aggregate-measure-bound-4 : tie.Need-slice-aggregate-measure-bound-4
-slice-aggregate-measure-bound-4 c = search needs
-
-measure-bound-requires : tie.Need-measure-bound-requires
-measure-bound-requires c κs = search needs
-
-enum-known-m : tie.Need-enum-known-m
-enum-known-m c = search needs
-
-fits-requires : tie.Need-fits-requires
-fits-requires c κs = search needs
-
-slice-aggregate-write-bounded : tie.Need-slice-aggregate-write-bounded
-slice-aggregate-write-bounded c = search needs
-
-slice-aggregate-write-bounded-2 : tie.Need-slice-aggregate-write-bounded-2
-slice-aggregate-write-bounded-2 c = search needs
-
-slice-aggregate-write-bounded-3 : tie.Need-slice-aggregate-write-bounded-3
-slice-aggregate-write-bounded-3 c = search needs
-
-slice-aggregate-write-bounded-4 : tie.Need-slice-aggregate-write-bounded-4
-slice-aggregate-write-bounded-4 c = search needs
-
-write-bounded-requires : tie.Need-write-bounded-requires
-write-bounded-requires c κs =
-    bounding (rw (c .before .before .before .before .before .before .before .before .m .given .1) at (c .before .before .before .before .before .before .before .before .before .before .before .before .before .before .measure-bound .ensures)) (search needs)
+fill-bounded-in-requires : tie.Need-fill-bounded-in-requires
+fill-bounded-in-requires c κs =
+    let d = c .before .before .before .before in
+    room-dated (d .before .before .before .args .file .now) (d .dated .ensures) (c .before .before .before .if1 .taken) (c .before .before .window-rows .ensures)
 
 same-length : tie.Need-same-length
 same-length c = search needs
 
-formula-of-requires : tie.Need-formula-of-requires
-formula-of-requires c κs = search needs
-
 returns : tie.Need-returns
-returns c =
-    let m = rw (c .before .before .before .before .before .before .before .before .before .before .before .before .before .m .given .1) at (c .before .before .before .before .before .before .before .before .before .before .before .before .before .before .before .before .before .before .before .measure-bound .ensures) in
-    left-same (c .formula-of .ensures) (bounded-in _ _ _ m (sym (c .before .before .before .before .before .before .before .before .before .before .before .fits2 .ensures) ∙ c .before .before .before .before .before .before .before .before .before .before .if1 .taken) (c .before .before .before .before .write-bounded .ensures) refl (omega (arith, c .before .before .before .before .before .before .before .before .before .before .before .before .before .before .before .before .before .before .before .before .before .before .before .before .before .before .before .before .before .before)))
+returns c = search needs
 
-too-short-requires : tie.Need-too-short-requires
-too-short-requires c κs = search needs
+group-rows-requires : tie.Need-group-rows-requires
+group-rows-requires c κs = search needs
 
-enum-known-m-2 : tie.Need-enum-known-m-2
-enum-known-m-2 c = search needs
+slice-aggregate-fill-bounded-in-2 : tie.Need-slice-aggregate-fill-bounded-in-2
+slice-aggregate-fill-bounded-in-2 c = search needs
+
+fill-bounded-in-requires-2 : tie.Need-fill-bounded-in-requires-2
+fill-bounded-in-requires-2 c κs =
+    let d = c .before .before .before .before in
+    room-plain (d .before .before .before .args .file .now) (d .dated .ensures) (c .before .before .before .if1 .left) (c .before .before .group-rows .ensures)
+
+same-length-2 : tie.Need-same-length-2
+same-length-2 c = search needs
 
 returns-2 : tie.Need-returns-2
-returns-2 c =
-    let m = rw (c .before .before .before .before .m .given .1) at (c .before .before .before .before .before .before .before .before .before .before .measure-bound .ensures) in
-    left-same (c .too-short .ensures) (bounded-short _ _ _ m (sym (c .before .before .fits2 .ensures) ∙ c .before .if1 .left) _)
-
-returns-3 : tie.Need-returns-3
-returns-3 c = left-same refl (bounded-refused _ _ _ (rw (c .before .m2 .given .1) at (c .before .before .before .before .before .before .before .measure-bound .ensures)) _)
+returns-2 c = search needs
 
 pub fill-bounded-spec : {M : Type 1} → statement M
 fill-bounded-spec =
     tie.close
     (tie.spec
-    durations-requires
-    resource-rows-requires
-    group-rows-requires
-    list-requires
-    slice-aggregate-measure-bound
-    slice-aggregate-measure-bound-2
-    slice-aggregate-measure-bound-3
-    slice-aggregate-measure-bound-4
-    measure-bound-requires
-    enum-known-m
-    fits-requires
-    slice-aggregate-write-bounded
-    slice-aggregate-write-bounded-2
-    slice-aggregate-write-bounded-3
-    slice-aggregate-write-bounded-4
-    write-bounded-requires
-    formula-of-requires
+    dated-requires
+    window-rows-requires
+    slice-aggregate-fill-bounded-in
+    fill-bounded-in-requires
     same-length
     returns
-    too-short-requires
-    enum-known-m-2
-    returns-2
-    returns-3)
+    group-rows-requires
+    slice-aggregate-fill-bounded-in-2
+    fill-bounded-in-requires-2
+    same-length-2
+    returns-2)

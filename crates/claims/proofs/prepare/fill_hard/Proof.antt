@@ -1,113 +1,58 @@
--- `prepare::fill_hard` meets its contract: the file is measured, then the stores are judged, then the hard clauses are written.
+-- `prepare::fill_hard` meets its contract: the table that it chooses has the rows that the file may need.
 use borrow.Author.Needs.{needs}
-use mathlib.Core.Path.{refl, sym, _∙_}
-use native.Mathlib.Omega.{arith}
-use Rattle.claims.proofs.laws.Bounded.{hard-writable}
-use Rattle.claims.proofs.laws.Prepared.{hard-refused, hard-short, hard-in, left-same}
+use Rattle.tables.proofs.laws.Room.{room-dated, room-plain}
 use Rattle.claims.proofs.prepare.fill_hard.Statement.{statement}
 use Rattle.claims.proofs.prepare.fill_hard.Tie as tie
 
-durations-requires : tie.Need-durations-requires
-durations-requires c κs = search needs
+dated-requires : tie.Need-dated-requires
+dated-requires c κs = search needs
 
-resource-rows-requires : tie.Need-resource-rows-requires
-resource-rows-requires c κs = search needs
+window-rows-requires : tie.Need-window-rows-requires
+window-rows-requires c κs = search needs
 
-group-rows-requires : tie.Need-group-rows-requires
-group-rows-requires c κs = search needs
+slice-aggregate-fill-hard-in : tie.Need-slice-aggregate-fill-hard-in
+slice-aggregate-fill-hard-in c = search needs
 
-list-requires : tie.Need-list-requires
-list-requires c κs = search needs
-
-slice-aggregate-measure : tie.Need-slice-aggregate-measure
-slice-aggregate-measure c = search needs
-
-slice-aggregate-measure-2 : tie.Need-slice-aggregate-measure-2
-slice-aggregate-measure-2 c = search needs
-
-slice-aggregate-measure-3 : tie.Need-slice-aggregate-measure-3
-slice-aggregate-measure-3 c = search needs
-
-slice-aggregate-measure-4 : tie.Need-slice-aggregate-measure-4
-slice-aggregate-measure-4 c = search needs
-
-measure-requires : tie.Need-measure-requires
-measure-requires c κs = search needs
-
-enum-known-m : tie.Need-enum-known-m
-enum-known-m c = search needs
-
-stored-size-requires : tie.Need-stored-size-requires
-stored-size-requires c κs = search needs
-
-fits-requires : tie.Need-fits-requires
-fits-requires c κs = search needs
-
-slice-aggregate-write-hard : tie.Need-slice-aggregate-write-hard
-slice-aggregate-write-hard c = search needs
-
-slice-aggregate-write-hard-2 : tie.Need-slice-aggregate-write-hard-2
-slice-aggregate-write-hard-2 c = search needs
-
-slice-aggregate-write-hard-3 : tie.Need-slice-aggregate-write-hard-3
-slice-aggregate-write-hard-3 c = search needs
-
-slice-aggregate-write-hard-4 : tie.Need-slice-aggregate-write-hard-4
-slice-aggregate-write-hard-4 c = search needs
-
-write-hard-requires : tie.Need-write-hard-requires
-write-hard-requires c κs = hard-writable (rw (c .before .before .before .before .before .before .before .before .before .m .given .1) at (c .before .before .before .before .before .before .before .before .before .before .before .before .before .before .before .measure .ensures)) (search needs)
+fill-hard-in-requires : tie.Need-fill-hard-in-requires
+fill-hard-in-requires c κs =
+    let d = c .before .before .before .before in
+    room-dated (d .before .before .before .args .file .now) (d .dated .ensures) (c .before .before .before .if1 .taken) (c .before .before .window-rows .ensures)
 
 same-length : tie.Need-same-length
 same-length c = search needs
 
-formula-of-requires : tie.Need-formula-of-requires
-formula-of-requires c κs = search needs
-
 returns : tie.Need-returns
-returns c =
-    let m = rw (c .before .before .before .before .before .before .before .before .before .before .before .before .before .before .m .given .1) at (c .before .before .before .before .before .before .before .before .before .before .before .before .before .before .before .before .before .before .before .before .measure .ensures) in
-    left-same (c .formula-of .ensures) (hard-in _ _ m (c .before .before .before .before .before .before .before .before .before .before .before .before .stored-size .ensures) (sym (c .before .before .before .before .before .before .before .before .before .before .before .fits2 .ensures) ∙ c .before .before .before .before .before .before .before .before .before .before .if1 .taken) (c .before .before .before .before .write-hard .ensures) refl (omega (arith, c .before .before .before .before .before .before .before .before .before .before .before .before .before .before .before .before .before .before .before .before .before .before .before .before .before .before .before .before .before .before .before)))
+returns c = search needs
 
-too-short-requires : tie.Need-too-short-requires
-too-short-requires c κs = search needs
+group-rows-requires : tie.Need-group-rows-requires
+group-rows-requires c κs = search needs
 
-enum-known-m-2 : tie.Need-enum-known-m-2
-enum-known-m-2 c = search needs
+slice-aggregate-fill-hard-in-2 : tie.Need-slice-aggregate-fill-hard-in-2
+slice-aggregate-fill-hard-in-2 c = search needs
+
+fill-hard-in-requires-2 : tie.Need-fill-hard-in-requires-2
+fill-hard-in-requires-2 c κs =
+    let d = c .before .before .before .before in
+    room-plain (d .before .before .before .args .file .now) (d .dated .ensures) (c .before .before .before .if1 .left) (c .before .before .group-rows .ensures)
+
+same-length-2 : tie.Need-same-length-2
+same-length-2 c = search needs
 
 returns-2 : tie.Need-returns-2
-returns-2 c =
-    let m = rw (c .before .before .before .before .before .m .given .1) at (c .before .before .before .before .before .before .before .before .before .before .before .measure .ensures) in
-    left-same (c .too-short .ensures) (hard-short _ _ m (c .before .before .before .stored-size .ensures) (sym (c .before .before .fits2 .ensures) ∙ c .before .if1 .left) _)
-
-returns-3 : tie.Need-returns-3
-returns-3 c = left-same refl (hard-refused _ _ (rw (c .before .m2 .given .1) at (c .before .before .before .before .before .before .before .measure .ensures)) _)
+returns-2 c = search needs
 
 pub fill-hard-spec : {M : Type 1} → statement M
 fill-hard-spec =
     tie.close
     (tie.spec
-    durations-requires
-    resource-rows-requires
-    group-rows-requires
-    list-requires
-    slice-aggregate-measure
-    slice-aggregate-measure-2
-    slice-aggregate-measure-3
-    slice-aggregate-measure-4
-    measure-requires
-    enum-known-m
-    stored-size-requires
-    fits-requires
-    slice-aggregate-write-hard
-    slice-aggregate-write-hard-2
-    slice-aggregate-write-hard-3
-    slice-aggregate-write-hard-4
-    write-hard-requires
-    formula-of-requires
+    dated-requires
+    window-rows-requires
+    slice-aggregate-fill-hard-in
+    fill-hard-in-requires
     same-length
     returns
-    too-short-requires
-    enum-known-m-2
-    returns-2
-    returns-3)
+    group-rows-requires
+    slice-aggregate-fill-hard-in-2
+    fill-hard-in-requires-2
+    same-length-2
+    returns-2)

@@ -6,6 +6,7 @@ use native.Mathlib.Omega.{arith}
 use lib.ListN.{length}
 use Rattle.constraint.proofs.laws.Walk.{walk-refused}
 use Rattle.sink.specs.World.{world, step}
+use Rattle.instance.proofs.laws.Laws.{groups-most}
 use Rattle.clauses.proofs.laws.Position.{ran-placed}
 use Rattle.clauses.specs.Walked.{Walkable}
 use Rattle.clauses.proofs.laws.Walked.{walkable-kept, Part, part-start, part-read, part-fits, part-room, part-next, part-end}
@@ -30,7 +31,7 @@ loop-holds c =
 constraint-at-requires : tie.Need-constraint-at-requires Inv-loop μ-loop
 constraint-at-requires c κs =
     let w = c .before .before .before .loop .inv .4 in
-    (w .list-long, (omega (arith, w .accepted .sizes .events-high), omega (arith, w .accepted .groups-high)))
+    (w .list-long, (omega (arith, w .accepted .sizes .events-high), groups-most (w .accepted)))
 
 enum-known-x : tie.Need-enum-known-x Inv-loop μ-loop
 enum-known-x c = search needs

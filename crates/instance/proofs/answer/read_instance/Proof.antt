@@ -1,65 +1,50 @@
--- `instance::answer::read_instance` meets its contract: the stores are long enough, and each case of `read` is a case of the answer.
+-- `instance::answer::read_instance` meets its contract: the table that it chooses has the rows that the file may need.
 use borrow.Author.Needs.{needs}
-use Rattle.instance.proofs.laws.Laws.{accepted, accepted-answer, refused-answer}
+use Rattle.tables.proofs.laws.Room.{room-dated, room-plain}
 use Rattle.instance.proofs.answer.read_instance.Statement.{statement}
 use Rattle.instance.proofs.answer.read_instance.Tie as tie
 
-durations-requires : tie.Need-durations-requires
-durations-requires c κs = search needs
+dated-requires : tie.Need-dated-requires
+dated-requires c κs = search needs
 
-resource-rows-requires : tie.Need-resource-rows-requires
-resource-rows-requires c κs = search needs
+window-rows-requires : tie.Need-window-rows-requires
+window-rows-requires c κs = search needs
+
+slice-aggregate-read-in : tie.Need-slice-aggregate-read-in
+slice-aggregate-read-in c = search needs
+
+read-in-requires : tie.Need-read-in-requires
+read-in-requires c κs =
+    let d = c .before .before .before in
+    room-dated (d .before .before .args .file .now) (d .dated .ensures) (c .before .before .if1 .taken) (c .before .window-rows .ensures)
+
+returns : tie.Need-returns
+returns c = search needs
 
 group-rows-requires : tie.Need-group-rows-requires
 group-rows-requires c κs = search needs
 
-list-requires : tie.Need-list-requires
-list-requires c κs = search needs
+slice-aggregate-read-in-2 : tie.Need-slice-aggregate-read-in-2
+slice-aggregate-read-in-2 c = search needs
 
-slice-aggregate-read : tie.Need-slice-aggregate-read
-slice-aggregate-read c = search needs
-
-slice-aggregate-read-2 : tie.Need-slice-aggregate-read-2
-slice-aggregate-read-2 c = search needs
-
-slice-aggregate-read-3 : tie.Need-slice-aggregate-read-3
-slice-aggregate-read-3 c = search needs
-
-slice-aggregate-read-4 : tie.Need-slice-aggregate-read-4
-slice-aggregate-read-4 c = search needs
-
-read-requires : tie.Need-read-requires
-read-requires c κs = search needs
-
-enum-known-f : tie.Need-enum-known-f
-enum-known-f c = search needs
-
-enum-known-f-2 : tie.Need-enum-known-f-2
-enum-known-f-2 c = search needs
-
-returns : tie.Need-returns
-returns c =
-    let r = c .before .before .before .before .before .before .before .read in
-    accepted-answer (accepted _ (r .last .1 .0) (r .last .1 .1 .0) (r .last .1 .1 .1 .0) _ (rw (c .before .f .given .1) at (r .ensures)))
+read-in-requires-2 : tie.Need-read-in-requires-2
+read-in-requires-2 c κs =
+    let d = c .before .before .before in
+    room-plain (d .before .before .args .file .now) (d .dated .ensures) (c .before .before .if1 .left) (c .before .group-rows .ensures)
 
 returns-2 : tie.Need-returns-2
-returns-2 c =
-    refused-answer _ (rw (c .before .f2 .given .1) at (c .before .before .before .before .before .before .before .read .ensures))
+returns-2 c = search needs
 
 pub read-instance-spec : {M : Type 1} → statement M
 read-instance-spec =
     tie.close
     (tie.spec
-    durations-requires
-    resource-rows-requires
-    group-rows-requires
-    list-requires
-    slice-aggregate-read
-    slice-aggregate-read-2
-    slice-aggregate-read-3
-    slice-aggregate-read-4
-    read-requires
-    enum-known-f
-    enum-known-f-2
+    dated-requires
+    window-rows-requires
+    slice-aggregate-read-in
+    read-in-requires
     returns
+    group-rows-requires
+    slice-aggregate-read-in-2
+    read-in-requires-2
     returns-2)

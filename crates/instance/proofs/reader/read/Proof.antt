@@ -1,6 +1,7 @@
 -- `instance::reader::read` meets its contract: the tables, and then the rest.
 use borrow.Author.Needs.{needs}
 use mathlib.Core.Path.{_∙_}
+use Rattle.tables.proofs.laws.Room.{room-kept}
 use Rattle.instance.proofs.laws.Checked.{start-lent, tables-stopped}
 use Rattle.instance.proofs.laws.Start.{tables-start}
 use Rattle.instance.proofs.reader.read.Statement.{statement}
@@ -15,9 +16,11 @@ enum-known-w c = search needs
 rest-at-requires : tie.Need-rest-at-requires
 rest-at-requires c κs = λ count start.
     let f = c .before .before .before .before .before .before .before .before .before .before .before .before .tables-at in
-    let p = c .before .before .before .before .before .before .before .before .before .before .before .before .before .before .before .before .before .before .before .before .before .pre in
-    let i = tables-start _ (f .last .1 .0) (f .last .1 .1 .0) (f .last .1 .1 .1 .0) _ _ _ (f .ensures) (c .before .before .before .before .w .given .1) in
-    start-lent _ _ _ _ _ i (f .kept .1 .1 .0 ∙ p .tables .resources-long) (f .kept .1 .1 .1 .0 ∙ p .tables .groups-long) (p .list-long)
+    let b = c .before .before .before .before .before .before .before .before .before .before .before .before .before .before .before .before .before .before .before .before .before in
+    let s = b .args .file .now in
+    let p = b .pre in
+    let i = tables-start s (f .last .1 .0) (f .last .1 .1 .0) (f .last .1 .1 .1 .0) _ _ _ (f .ensures) (c .before .before .before .before .w .given .1) in
+    start-lent s _ _ _ _ _ i (f .kept .1 .1 .0 ∙ p .tables .resources-long) (room-kept s (f .kept .1 .1 .1 .0) (p .tables .groups-long)) (p .list-long)
 
 enum-known-x : tie.Need-enum-known-x
 enum-known-x c = search needs

@@ -1,12 +1,12 @@
--- `instance::reader::sizes_at` meets its contract: three numbers within limits, a step of the sequence each.
+-- `instance::reader::sizes_at` meets its contract: the times and two numbers within limits, a step of the sequence each.
 use borrow.Author.Needs.{needs}
-use Rattle.scope.specs.Instance.{sizesAt}
+use Rattle.instance.specs.File.{sizesIn}
 use Rattle.instance.proofs.laws.Sequence.{sequence}
 use Rattle.instance.proofs.reader.sizes_at.Statement.{statement}
 use Rattle.instance.proofs.reader.sizes_at.Tie as tie
 
-limited-requires : tie.Need-limited-requires
-limited-requires c κs = search needs
+times-at-requires : tie.Need-times-at-requires
+times-at-requires c κs = search needs
 
 enum-known-t : tie.Need-enum-known-t
 enum-known-t c = search needs
@@ -18,11 +18,11 @@ refusal-of-requires : tie.Need-refusal-of-requires
 refusal-of-requires c κs = search needs
 
 returns : tie.Need-returns
-unfolding sizesAt
+unfolding sizesIn
 returns c = search sequence depth 12
 
-limited-requires-2 : tie.Need-limited-requires-2
-limited-requires-2 c κs = search needs
+limited-requires : tie.Need-limited-requires
+limited-requires c κs = search needs
 
 enum-known-e : tie.Need-enum-known-e
 enum-known-e c = search needs
@@ -34,11 +34,11 @@ refusal-of-requires-2 : tie.Need-refusal-of-requires-2
 refusal-of-requires-2 c κs = search needs
 
 returns-2 : tie.Need-returns-2
-unfolding sizesAt
+unfolding sizesIn
 returns-2 c = search sequence depth 12
 
-limited-requires-3 : tie.Need-limited-requires-3
-limited-requires-3 c κs = search needs
+limited-requires-2 : tie.Need-limited-requires-2
+limited-requires-2 c κs = search needs
 
 enum-known-r : tie.Need-enum-known-r
 enum-known-r c = search needs
@@ -50,28 +50,28 @@ refusal-of-requires-3 : tie.Need-refusal-of-requires-3
 refusal-of-requires-3 c κs = search needs
 
 returns-3 : tie.Need-returns-3
-unfolding sizesAt
+unfolding sizesIn
 returns-3 c = search sequence depth 12
 
 returns-4 : tie.Need-returns-4
-unfolding sizesAt
+unfolding sizesIn
 returns-4 c = search sequence depth 12
 
 pub sizes-at-spec : {M : Type 1} → statement M
 sizes-at-spec =
     tie.close
     (tie.spec
-    limited-requires
+    times-at-requires
     enum-known-t
     enum-told
     refusal-of-requires
     returns
-    limited-requires-2
+    limited-requires
     enum-known-e
     enum-told-2
     refusal-of-requires-2
     returns-2
-    limited-requires-3
+    limited-requires-2
     enum-known-r
     enum-told-3
     refusal-of-requires-3

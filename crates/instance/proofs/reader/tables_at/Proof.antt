@@ -3,7 +3,7 @@ use borrow.Author.Needs.{needs}
 use native.Mathlib.Omega.{arith}
 use Rattle.instance.specs.File.{tablesAt}
 use Rattle.instance.proofs.laws.Sequence.{sequence}
-use Rattle.instance.proofs.laws.Start.{sizes-value}
+use Rattle.instance.proofs.laws.Start.{sizes-value, times-value}
 use Rattle.instance.proofs.reader.tables_at.Statement.{statement}
 use Rattle.instance.proofs.reader.tables_at.Tie as tie
 
@@ -45,11 +45,11 @@ returns-2 : tie.Need-returns-2
 unfolding tablesAt
 returns-2 c = search sequence depth 14
 
-groups-at-requires : tie.Need-groups-at-requires
-groups-at-requires c κs =
+all-groups-at-requires : tie.Need-all-groups-at-requires
+all-groups-at-requires c κs =
     let e = c .before .before .before .before .before .before .before .before .before in
-    let w = sizes-value _ _ (e .before .before .before .before .before .sizes-at .ensures) (e .before .before .before .z .given .1) in
-    (e .before .before .before .before .before .before .before .before .before .before .pre .groups-long, w .times-high)
+    let w = times-value _ _ (e .before .before .before .before .before .sizes-at .ensures) (e .before .before .before .z .given .1) in
+    (e .before .before .before .before .before .before .before .before .before .before .pre .groups-long, w)
 
 enum-known-g : tie.Need-enum-known-g
 enum-known-g c = search needs
@@ -101,7 +101,7 @@ tables-at-spec =
     same-length
     same-length-2
     returns-2
-    groups-at-requires
+    all-groups-at-requires
     enum-known-g
     enum-told-3
     refusal-of-requires-2

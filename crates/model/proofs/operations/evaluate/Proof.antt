@@ -1,82 +1,50 @@
--- `operations::evaluate` meets its contract: the stores are long enough, and a file that is sized is evaluated.
+-- `operations::evaluate` meets its contract: the table that it chooses has the rows that the file may need.
 use borrow.Author.Needs.{needs}
-use Rattle.model.proofs.laws.Answers.{evaluation-refused}
+use Rattle.tables.proofs.laws.Room.{room-dated, room-plain}
 use Rattle.model.proofs.operations.evaluate.Statement.{statement}
 use Rattle.model.proofs.operations.evaluate.Tie as tie
 
-durations-requires : tie.Need-durations-requires
-durations-requires c κs = search needs
+dated-requires : tie.Need-dated-requires
+dated-requires c κs = search needs
 
-resource-rows-requires : tie.Need-resource-rows-requires
-resource-rows-requires c κs = search needs
+window-rows-requires : tie.Need-window-rows-requires
+window-rows-requires c κs = search needs
 
-group-rows-requires : tie.Need-group-rows-requires
-group-rows-requires c κs = search needs
+slice-aggregate-evaluate-in : tie.Need-slice-aggregate-evaluate-in
+slice-aggregate-evaluate-in c = search needs
 
-list-requires : tie.Need-list-requires
-list-requires c κs = search needs
-
-slice-aggregate-measure : tie.Need-slice-aggregate-measure
-slice-aggregate-measure c = search needs
-
-slice-aggregate-measure-2 : tie.Need-slice-aggregate-measure-2
-slice-aggregate-measure-2 c = search needs
-
-slice-aggregate-measure-3 : tie.Need-slice-aggregate-measure-3
-slice-aggregate-measure-3 c = search needs
-
-slice-aggregate-measure-4 : tie.Need-slice-aggregate-measure-4
-slice-aggregate-measure-4 c = search needs
-
-measure-requires : tie.Need-measure-requires
-measure-requires c κs = search needs
-
-enum-known-m : tie.Need-enum-known-m
-enum-known-m c = search needs
-
-slice-aggregate-evaluate-read : tie.Need-slice-aggregate-evaluate-read
-slice-aggregate-evaluate-read c = search needs
-
-slice-aggregate-evaluate-read-2 : tie.Need-slice-aggregate-evaluate-read-2
-slice-aggregate-evaluate-read-2 c = search needs
-
-slice-aggregate-evaluate-read-3 : tie.Need-slice-aggregate-evaluate-read-3
-slice-aggregate-evaluate-read-3 c = search needs
-
-slice-aggregate-evaluate-read-4 : tie.Need-slice-aggregate-evaluate-read-4
-slice-aggregate-evaluate-read-4 c = search needs
-
-evaluate-read-requires : tie.Need-evaluate-read-requires
-evaluate-read-requires c κs = (rw (c .before .before .before .before .before .m .given .1) at (c .before .before .before .before .before .before .before .before .before .before .before .measure .ensures), search needs)
-
-enum-known-m-2 : tie.Need-enum-known-m-2
-enum-known-m-2 c = search needs
+evaluate-in-requires : tie.Need-evaluate-in-requires
+evaluate-in-requires c κs =
+    let d = c .before .before .before in
+    room-dated (d .before .before .before .args .file .now) (d .dated .ensures) (c .before .before .if1 .taken) (c .before .window-rows .ensures)
 
 returns : tie.Need-returns
 returns c = search needs
 
+group-rows-requires : tie.Need-group-rows-requires
+group-rows-requires c κs = search needs
+
+slice-aggregate-evaluate-in-2 : tie.Need-slice-aggregate-evaluate-in-2
+slice-aggregate-evaluate-in-2 c = search needs
+
+evaluate-in-requires-2 : tie.Need-evaluate-in-requires-2
+evaluate-in-requires-2 c κs =
+    let d = c .before .before .before in
+    room-plain (d .before .before .before .args .file .now) (d .dated .ensures) (c .before .before .if1 .left) (c .before .group-rows .ensures)
+
 returns-2 : tie.Need-returns-2
-returns-2 c = evaluation-refused _ (rw (c .before .m2 .given .1) at (c .before .before .before .before .before .before .before .measure .ensures))
+returns-2 c = search needs
 
 pub evaluate-spec : {M : Type 1} → statement M
 evaluate-spec =
     tie.close
     (tie.spec
-    durations-requires
-    resource-rows-requires
-    group-rows-requires
-    list-requires
-    slice-aggregate-measure
-    slice-aggregate-measure-2
-    slice-aggregate-measure-3
-    slice-aggregate-measure-4
-    measure-requires
-    enum-known-m
-    slice-aggregate-evaluate-read
-    slice-aggregate-evaluate-read-2
-    slice-aggregate-evaluate-read-3
-    slice-aggregate-evaluate-read-4
-    evaluate-read-requires
-    enum-known-m-2
+    dated-requires
+    window-rows-requires
+    slice-aggregate-evaluate-in
+    evaluate-in-requires
     returns
+    group-rows-requires
+    slice-aggregate-evaluate-in-2
+    evaluate-in-requires-2
     returns-2)

@@ -6,6 +6,7 @@ use mathlib.Core.Path.{_≡_, refl, _∙_}
 use mathlib.Core.List.{List}
 use native.Mathlib.Omega.{arith}
 use Rattle.constraint.proofs.laws.Walk.{walk-refused}
+use Rattle.instance.proofs.laws.Laws.{groups-most}
 use Rattle.part_sizes.specs.Walked.{Walkable, Tabled, TotalWithin}
 use Rattle.part_sizes.proofs.laws.Walked.{Part, walkable-kept, total-addable, total-within, total-start, part-start, part-read, part-sizable, part-next, part-end}
 use Rattle.part_sizes.proofs.walk.constraints_total.Statement.{statement}
@@ -37,7 +38,7 @@ constraint-at-requires : tie.Need-constraint-at-requires Inv-loop μ-loop
 constraint-at-requires c κs =
     let w = c .before .before .loop .inv .1 in
     let a = w .tabled .accepted in
-    (w .list-long, (omega (arith, a .sizes .events-high), omega (arith, a .groups-high)))
+    (w .list-long, (omega (arith, a .sizes .events-high), groups-most a))
 
 enum-known-x : tie.Need-enum-known-x Inv-loop μ-loop
 enum-known-x c = search needs

@@ -1,77 +1,50 @@
--- `sheet::operations::same_sheet` meets its contract. The stores are long enough; a file that is read is accepted or refused.
-use Rattle.instance.proofs.laws.Laws.{accepted}
-use Rattle.sheet.proofs.laws.Answers.{sheet-file}
+-- `sheet::operations::same_sheet` meets its contract: the table that it chooses has the rows that the file may need.
 use borrow.Author.Needs.{needs}
+use Rattle.tables.proofs.laws.Room.{room-dated, room-plain}
 use Rattle.sheet.proofs.operations.same_sheet.Statement.{statement}
 use Rattle.sheet.proofs.operations.same_sheet.Tie as tie
 
-durations-requires : tie.Need-durations-requires
-durations-requires c κs = search needs
+dated-requires : tie.Need-dated-requires
+dated-requires c κs = search needs
 
-resource-rows-requires : tie.Need-resource-rows-requires
-resource-rows-requires c κs = search needs
+window-rows-requires : tie.Need-window-rows-requires
+window-rows-requires c κs = search needs
+
+slice-aggregate-same-sheet-in : tie.Need-slice-aggregate-same-sheet-in
+slice-aggregate-same-sheet-in c = search needs
+
+same-sheet-in-requires : tie.Need-same-sheet-in-requires
+same-sheet-in-requires c κs =
+    let d = c .before .before .before in
+    room-dated (d .before .before .before .before .args .file .now) (d .dated .ensures) (c .before .before .if1 .taken) (c .before .window-rows .ensures)
+
+returns : tie.Need-returns
+returns c = search needs
 
 group-rows-requires : tie.Need-group-rows-requires
 group-rows-requires c κs = search needs
 
-list-requires : tie.Need-list-requires
-list-requires c κs = search needs
+slice-aggregate-same-sheet-in-2 : tie.Need-slice-aggregate-same-sheet-in-2
+slice-aggregate-same-sheet-in-2 c = search needs
 
-slice-aggregate-read : tie.Need-slice-aggregate-read
-slice-aggregate-read c = search needs
-
-slice-aggregate-read-2 : tie.Need-slice-aggregate-read-2
-slice-aggregate-read-2 c = search needs
-
-slice-aggregate-read-3 : tie.Need-slice-aggregate-read-3
-slice-aggregate-read-3 c = search needs
-
-slice-aggregate-read-4 : tie.Need-slice-aggregate-read-4
-slice-aggregate-read-4 c = search needs
-
-read-requires : tie.Need-read-requires
-read-requires c κs = search needs
-
-enum-known-f : tie.Need-enum-known-f
-enum-known-f c = search needs
-
-slice-aggregate-same-read : tie.Need-slice-aggregate-same-read
-slice-aggregate-same-read c = search needs
-
-same-read-requires : tie.Need-same-read-requires
-same-read-requires c κs =
-    let m = c .before .before in
-    let r = m .before .before .before .before .before .before .read in
-    (accepted _ (r .last .1 .0) (r .last .1 .1 .0) (r .last .1 .1 .1 .0) _ (rw (m .f .given .1) at (r .ensures)) .sizes, search needs)
-
-enum-known-f-2 : tie.Need-enum-known-f-2
-enum-known-f-2 c = search needs
-
-returns : tie.Need-returns
-returns c =
-    let m = c .before .before .before in
-    let r = m .before .before .before .before .before .before .read in
-    c .same-read .ensures _ _ _ (accepted _ (r .last .1 .0) (r .last .1 .1 .0) (r .last .1 .1 .1 .0) _ (rw (m .f .given .1) at (r .ensures)))
+same-sheet-in-requires-2 : tie.Need-same-sheet-in-requires-2
+same-sheet-in-requires-2 c κs =
+    let d = c .before .before .before in
+    room-plain (d .before .before .before .before .args .file .now) (d .dated .ensures) (c .before .before .if1 .left) (c .before .group-rows .ensures)
 
 returns-2 : tie.Need-returns-2
-returns-2 c = sheet-file _ _ (rw (c .before .f2 .given .1) at (c .before .before .before .before .before .before .before .read .ensures)) _ _
+returns-2 c = search needs
 
 pub same-sheet-spec : {M : Type 1} → statement M
 same-sheet-spec =
     tie.close
     (tie.spec
-    durations-requires
-    resource-rows-requires
-    group-rows-requires
-    list-requires
-    slice-aggregate-read
-    slice-aggregate-read-2
-    slice-aggregate-read-3
-    slice-aggregate-read-4
-    read-requires
-    enum-known-f
-    slice-aggregate-same-read
-    same-read-requires
-    enum-known-f-2
+    dated-requires
+    window-rows-requires
+    slice-aggregate-same-sheet-in
+    same-sheet-in-requires
     returns
+    group-rows-requires
+    slice-aggregate-same-sheet-in-2
+    same-sheet-in-requires-2
     returns-2)

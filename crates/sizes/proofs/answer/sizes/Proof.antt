@@ -1,62 +1,50 @@
--- `answer::sizes` meets its contract: the stores are long enough, and each case of `measure_bound` is a case of the answer.
+-- `answer::sizes` meets its contract: the table that it chooses has the rows that the file may need.
 use borrow.Author.Needs.{needs}
-use Rattle.sizes.proofs.laws.Measured.{sizes-answered, sizes-refused}
+use Rattle.tables.proofs.laws.Room.{room-dated, room-plain}
 use Rattle.sizes.proofs.answer.sizes.Statement.{statement}
 use Rattle.sizes.proofs.answer.sizes.Tie as tie
 
-durations-requires : tie.Need-durations-requires
-durations-requires c κs = search needs
+dated-requires : tie.Need-dated-requires
+dated-requires c κs = search needs
 
-resource-rows-requires : tie.Need-resource-rows-requires
-resource-rows-requires c κs = search needs
+window-rows-requires : tie.Need-window-rows-requires
+window-rows-requires c κs = search needs
+
+slice-aggregate-sizes-in : tie.Need-slice-aggregate-sizes-in
+slice-aggregate-sizes-in c = search needs
+
+sizes-in-requires : tie.Need-sizes-in-requires
+sizes-in-requires c κs =
+    let d = c .before .before .before in
+    room-dated (d .before .before .args .file .now) (d .dated .ensures) (c .before .before .if1 .taken) (c .before .window-rows .ensures)
+
+returns : tie.Need-returns
+returns c = search needs
 
 group-rows-requires : tie.Need-group-rows-requires
 group-rows-requires c κs = search needs
 
-list-requires : tie.Need-list-requires
-list-requires c κs = search needs
+slice-aggregate-sizes-in-2 : tie.Need-slice-aggregate-sizes-in-2
+slice-aggregate-sizes-in-2 c = search needs
 
-slice-aggregate-measure-bound : tie.Need-slice-aggregate-measure-bound
-slice-aggregate-measure-bound c = search needs
-
-slice-aggregate-measure-bound-2 : tie.Need-slice-aggregate-measure-bound-2
-slice-aggregate-measure-bound-2 c = search needs
-
-slice-aggregate-measure-bound-3 : tie.Need-slice-aggregate-measure-bound-3
-slice-aggregate-measure-bound-3 c = search needs
-
-slice-aggregate-measure-bound-4 : tie.Need-slice-aggregate-measure-bound-4
-slice-aggregate-measure-bound-4 c = search needs
-
-measure-bound-requires : tie.Need-measure-bound-requires
-measure-bound-requires c κs = search needs
-
-enum-known-m : tie.Need-enum-known-m
-enum-known-m c = search needs
-
-enum-known-m-2 : tie.Need-enum-known-m-2
-enum-known-m-2 c = search needs
-
-returns : tie.Need-returns
-returns c = sizes-answered (rw (c .before .m .given .1) at (c .before .before .before .before .before .before .before .measure-bound .ensures))
+sizes-in-requires-2 : tie.Need-sizes-in-requires-2
+sizes-in-requires-2 c κs =
+    let d = c .before .before .before in
+    room-plain (d .before .before .args .file .now) (d .dated .ensures) (c .before .before .if1 .left) (c .before .group-rows .ensures)
 
 returns-2 : tie.Need-returns-2
-returns-2 c = sizes-refused _ _ (rw (c .before .m2 .given .1) at (c .before .before .before .before .before .before .before .measure-bound .ensures))
+returns-2 c = search needs
 
 pub sizes-spec : {M : Type 1} → statement M
 sizes-spec =
     tie.close
     (tie.spec
-    durations-requires
-    resource-rows-requires
-    group-rows-requires
-    list-requires
-    slice-aggregate-measure-bound
-    slice-aggregate-measure-bound-2
-    slice-aggregate-measure-bound-3
-    slice-aggregate-measure-bound-4
-    measure-bound-requires
-    enum-known-m
-    enum-known-m-2
+    dated-requires
+    window-rows-requires
+    slice-aggregate-sizes-in
+    sizes-in-requires
     returns
+    group-rows-requires
+    slice-aggregate-sizes-in-2
+    sizes-in-requires-2
     returns-2)

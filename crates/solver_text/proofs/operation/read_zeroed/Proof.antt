@@ -1,56 +1,22 @@
--- `operation::read_zeroed` meets its contract: the stores are long enough, and a file that is sized is read on.
+-- `operation::read_zeroed` meets its contract: the table that it chooses has the rows that the file may need.
 use borrow.Author.Needs.{needs}
-use Rattle.solver_text.proofs.laws.Read.{read-refused}
+use Rattle.tables.proofs.laws.Room.{room-dated, room-plain}
 use Rattle.solver_text.proofs.operation.read_zeroed.Statement.{statement}
 use Rattle.solver_text.proofs.operation.read_zeroed.Tie as tie
 
-durations-requires : tie.Need-durations-requires
-durations-requires c κs = search needs
+dated-requires : tie.Need-dated-requires
+dated-requires c κs = search needs
 
-resource-rows-requires : tie.Need-resource-rows-requires
-resource-rows-requires c κs = search needs
+window-rows-requires : tie.Need-window-rows-requires
+window-rows-requires c κs = search needs
 
-group-rows-requires : tie.Need-group-rows-requires
-group-rows-requires c κs = search needs
+slice-aggregate-read-zeroed-in : tie.Need-slice-aggregate-read-zeroed-in
+slice-aggregate-read-zeroed-in c = search needs
 
-list-requires : tie.Need-list-requires
-list-requires c κs = search needs
-
-slice-aggregate-measure : tie.Need-slice-aggregate-measure
-slice-aggregate-measure c = search needs
-
-slice-aggregate-measure-2 : tie.Need-slice-aggregate-measure-2
-slice-aggregate-measure-2 c = search needs
-
-slice-aggregate-measure-3 : tie.Need-slice-aggregate-measure-3
-slice-aggregate-measure-3 c = search needs
-
-slice-aggregate-measure-4 : tie.Need-slice-aggregate-measure-4
-slice-aggregate-measure-4 c = search needs
-
-measure-requires : tie.Need-measure-requires
-measure-requires c κs = search needs
-
-enum-known-m : tie.Need-enum-known-m
-enum-known-m c = search needs
-
-slice-aggregate-read-sized : tie.Need-slice-aggregate-read-sized
-slice-aggregate-read-sized c = search needs
-
-slice-aggregate-read-sized-2 : tie.Need-slice-aggregate-read-sized-2
-slice-aggregate-read-sized-2 c = search needs
-
-slice-aggregate-read-sized-3 : tie.Need-slice-aggregate-read-sized-3
-slice-aggregate-read-sized-3 c = search needs
-
-slice-aggregate-read-sized-4 : tie.Need-slice-aggregate-read-sized-4
-slice-aggregate-read-sized-4 c = search needs
-
-read-sized-requires : tie.Need-read-sized-requires
-read-sized-requires c κs = (rw (c .before .before .before .before .before .before .m .given .1) at (c .before .before .before .before .before .before .before .before .before .before .before .before .measure .ensures), search needs, c .before .before .before .before .before .before .before .before .before .before .before .before .before .before .before .before .before .before .before .before .before .before .before .before .pre)
-
-enum-known-m-2 : tie.Need-enum-known-m-2
-enum-known-m-2 c = search needs
+read-zeroed-in-requires : tie.Need-read-zeroed-in-requires
+read-zeroed-in-requires c κs =
+    let d = c .before .before .before .before in
+    (room-dated (d .before .before .before .before .args .file .now) (d .dated .ensures) (c .before .before .before .if1 .taken) (c .before .before .window-rows .ensures), d .before .before .before .before .pre)
 
 same-length : tie.Need-same-length
 same-length c = search needs
@@ -58,29 +24,35 @@ same-length c = search needs
 returns : tie.Need-returns
 returns c = search needs
 
+group-rows-requires : tie.Need-group-rows-requires
+group-rows-requires c κs = search needs
+
+slice-aggregate-read-zeroed-in-2 : tie.Need-slice-aggregate-read-zeroed-in-2
+slice-aggregate-read-zeroed-in-2 c = search needs
+
+read-zeroed-in-requires-2 : tie.Need-read-zeroed-in-requires-2
+read-zeroed-in-requires-2 c κs =
+    let d = c .before .before .before .before in
+    (room-plain (d .before .before .before .before .args .file .now) (d .dated .ensures) (c .before .before .before .if1 .left) (c .before .before .group-rows .ensures), d .before .before .before .before .pre)
+
+same-length-2 : tie.Need-same-length-2
+same-length-2 c = search needs
+
 returns-2 : tie.Need-returns-2
-returns-2 c = read-refused _ _ _ (rw (c .before .m2 .given .1) at (c .before .before .before .before .before .before .before .measure .ensures))
+returns-2 c = search needs
 
 pub read-zeroed-spec : {M : Type 1} → statement M
 read-zeroed-spec =
     tie.close
     (tie.spec
-    durations-requires
-    resource-rows-requires
-    group-rows-requires
-    list-requires
-    slice-aggregate-measure
-    slice-aggregate-measure-2
-    slice-aggregate-measure-3
-    slice-aggregate-measure-4
-    measure-requires
-    enum-known-m
-    slice-aggregate-read-sized
-    slice-aggregate-read-sized-2
-    slice-aggregate-read-sized-3
-    slice-aggregate-read-sized-4
-    read-sized-requires
-    enum-known-m-2
+    dated-requires
+    window-rows-requires
+    slice-aggregate-read-zeroed-in
+    read-zeroed-in-requires
     same-length
     returns
+    group-rows-requires
+    slice-aggregate-read-zeroed-in-2
+    read-zeroed-in-requires-2
+    same-length-2
     returns-2)

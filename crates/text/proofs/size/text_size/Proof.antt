@@ -1,87 +1,50 @@
--- `size::text_size` meets its contract: the stores are long enough, and each case of `measure` is a case of the answer.
-use mathlib.Core.Path.{ap, _∙_}
-use Rattle.scope.specs.Parsed.{answered}
-use Rattle.text.proofs.laws.Written.{size-answered, size-refused}
+-- `size::text_size` meets its contract: the table that it chooses has the rows that the file may need.
 use borrow.Author.Needs.{needs}
+use Rattle.tables.proofs.laws.Room.{room-dated, room-plain}
 use Rattle.text.proofs.size.text_size.Statement.{statement}
 use Rattle.text.proofs.size.text_size.Tie as tie
 
-durations-requires : tie.Need-durations-requires
-durations-requires c κs = search needs
+dated-requires : tie.Need-dated-requires
+dated-requires c κs = search needs
 
-resource-rows-requires : tie.Need-resource-rows-requires
-resource-rows-requires c κs = search needs
+window-rows-requires : tie.Need-window-rows-requires
+window-rows-requires c κs = search needs
+
+slice-aggregate-text-size-in : tie.Need-slice-aggregate-text-size-in
+slice-aggregate-text-size-in c = search needs
+
+text-size-in-requires : tie.Need-text-size-in-requires
+text-size-in-requires c κs =
+    let d = c .before .before .before in
+    room-dated (d .before .before .args .file .now) (d .dated .ensures) (c .before .before .if1 .taken) (c .before .window-rows .ensures)
+
+returns : tie.Need-returns
+returns c = search needs
 
 group-rows-requires : tie.Need-group-rows-requires
 group-rows-requires c κs = search needs
 
-list-requires : tie.Need-list-requires
-list-requires c κs = search needs
+slice-aggregate-text-size-in-2 : tie.Need-slice-aggregate-text-size-in-2
+slice-aggregate-text-size-in-2 c = search needs
 
-slice-aggregate-measure : tie.Need-slice-aggregate-measure
-slice-aggregate-measure c = search needs
-
-slice-aggregate-measure-2 : tie.Need-slice-aggregate-measure-2
-slice-aggregate-measure-2 c = search needs
-
-slice-aggregate-measure-3 : tie.Need-slice-aggregate-measure-3
-slice-aggregate-measure-3 c = search needs
-
-slice-aggregate-measure-4 : tie.Need-slice-aggregate-measure-4
-slice-aggregate-measure-4 c = search needs
-
-measure-requires : tie.Need-measure-requires
-measure-requires c κs = search needs
-
-enum-known-m : tie.Need-enum-known-m
-enum-known-m c = search needs
-
-slice-aggregate-text-length : tie.Need-slice-aggregate-text-length
-slice-aggregate-text-length c = search needs
-
-slice-aggregate-text-length-2 : tie.Need-slice-aggregate-text-length-2
-slice-aggregate-text-length-2 c = search needs
-
-slice-aggregate-text-length-3 : tie.Need-slice-aggregate-text-length-3
-slice-aggregate-text-length-3 c = search needs
-
-slice-aggregate-text-length-4 : tie.Need-slice-aggregate-text-length-4
-slice-aggregate-text-length-4 c = search needs
-
-text-length-requires : tie.Need-text-length-requires
-text-length-requires c κs =
-    let m = c .before .before .before .before .before in record { sized = rw (m .m .given .1) at (m .before .before .before .before .before .before .measure .ensures); stores = search needs }
-
-enum-known-m-2 : tie.Need-enum-known-m-2
-enum-known-m-2 c = search needs
-
-returns : tie.Need-returns
-returns c =
-    let m = c .before .before .before .before .before .before .before in
-    ap answered (c .before .text-length .ensures) ∙ size-answered (rw (m .m .given .1) at (m .before .before .before .before .before .before .measure .ensures))
+text-size-in-requires-2 : tie.Need-text-size-in-requires-2
+text-size-in-requires-2 c κs =
+    let d = c .before .before .before in
+    room-plain (d .before .before .args .file .now) (d .dated .ensures) (c .before .before .if1 .left) (c .before .group-rows .ensures)
 
 returns-2 : tie.Need-returns-2
-returns-2 c = let m = c .before in size-refused _ (rw (m .m2 .given .1) at (m .before .before .before .before .before .before .measure .ensures))
+returns-2 c = search needs
 
 pub text-size-spec : {M : Type 1} → statement M
 text-size-spec =
     tie.close
     (tie.spec
-    durations-requires
-    resource-rows-requires
-    group-rows-requires
-    list-requires
-    slice-aggregate-measure
-    slice-aggregate-measure-2
-    slice-aggregate-measure-3
-    slice-aggregate-measure-4
-    measure-requires
-    enum-known-m
-    slice-aggregate-text-length
-    slice-aggregate-text-length-2
-    slice-aggregate-text-length-3
-    slice-aggregate-text-length-4
-    text-length-requires
-    enum-known-m-2
+    dated-requires
+    window-rows-requires
+    slice-aggregate-text-size-in
+    text-size-in-requires
     returns
+    group-rows-requires
+    slice-aggregate-text-size-in-2
+    text-size-in-requires-2
     returns-2)

@@ -1,7 +1,8 @@
 //! Times the engine against plain C, tuned C and the reference: schools of
 //! growing size, formulas of many ORs, lengths of subevents, preferred times, lessons
-//! before others, proofs of many hints and with gaps in their ids, the worst
-//! inputs that are accepted, with the memory of each, and texts of solvers.
+//! before others, schools in clock time, proofs of many hints and with gaps in their
+//! ids, the worst inputs that are accepted, with the memory of each, and texts of
+//! solvers.
 //!
 //! `cargo run --release --offline --bin bench` prints the tables of
 //! docs/BENCHMARKS.md; with `-- --short` the same on small inputs, and with
@@ -26,6 +27,7 @@ mod side;
 mod solver_texts;
 mod spans;
 mod table;
+mod windows;
 mod worst;
 
 use programs::Side;
@@ -53,6 +55,8 @@ pub struct Scale {
     preferred: usize,
     /// Lessons of the school of kind 11.
     precedence: usize,
+    /// Lessons of the school in clock time.
+    windows: usize,
     /// The worst inputs have one in so many of their constraints.
     part: usize,
     /// Lessons of the school whose solver's text is read, and bytes of comments.
@@ -70,6 +74,7 @@ const WHOLE: Scale = Scale {
     lengths: 400,
     preferred: 400,
     precedence: 400,
+    windows: 400,
     part: 1,
     printed: 400,
     comments: 100_000_000,
@@ -85,6 +90,7 @@ const SHORT: Scale = Scale {
     lengths: 100,
     preferred: 100,
     precedence: 100,
+    windows: 100,
     part: 64,
     printed: 100,
     comments: 1_500_000,

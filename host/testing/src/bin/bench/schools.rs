@@ -1,6 +1,6 @@
 //! The operations on schools of growing size, on a formula of many ORs, on lengths
-//! of subevents, on preferred times, on lessons before others and on proofs of many
-//! hints; then growth and memory from the same runs.
+//! of subevents, on preferred times, on lessons before others, on a school in clock
+//! time and on proofs of many hints; then growth and memory from the same runs.
 
 use crate::lengths;
 use crate::precedence;
@@ -8,6 +8,7 @@ use crate::preferred;
 use crate::programs::Side;
 use crate::proofs::{copies, Clauses};
 use crate::table::{grouped, head, Row, GROWTH, MEMORY, OPERATIONS};
+use crate::windows;
 use crate::{Bench, ALL, TWO};
 use testing::generate::{encode, many_ors, model, planned_school, school, timetable, Plan, Random};
 use testing::prover::{clause_list, lemmas};
@@ -74,6 +75,7 @@ pub fn tables(bench: &Bench, learned: &[Learned]) {
     lengths::rows(bench);
     preferred::rows(bench);
     precedence::rows(bench);
+    windows::rows(bench);
     many_hints(bench, learned);
     growth(&all);
     memory(&all);

@@ -5,7 +5,9 @@ use crate::proofs::{long_clauses, second_copies, Clauses};
 use crate::schools::{generated, BOUND};
 use crate::table::{grouped, head, WORST};
 use crate::{Bench, TWO};
-use testing::generate::{encode, idle_limits, long_tail, many_variables, model, Random};
+use testing::generate::{
+    encode, idle_limits, idle_limits_in_windows, long_tail, many_variables, model, Random,
+};
 use testing::reference::{Instance, LARGEST_BOUND, LARGEST_FORMULA};
 use testing::steps::encode_steps;
 use timetable::engine;
@@ -24,6 +26,8 @@ pub fn table(bench: &Bench) {
     let mut random = Random::new(1);
     let idle = idle_limits(&mut random, MOST_CONSTRAINTS / part);
     all_jobs(bench, "idle limits", &idle, BOUND);
+    drop(idle);
+    longest_file(bench, MOST_CONSTRAINTS / part);
     let variables = LARGEST_FORMULA / part as u64;
     let many = many_variables(&mut random, variables);
     all_jobs(bench, "counters", &many, BOUND);
@@ -47,6 +51,20 @@ pub fn table(bench: &Bench) {
         let proof = long_clauses(&clauses, length, (literals / length).max(2));
         let name = format!("clauses of {} literals", grouped(length as u64));
         check(bench, &name, &school.file, BOUND, &proof);
+    }
+}
+
+/// What goes by the file's length, on the longest: idle limits over all groups and
+/// windows.
+fn longest_file(bench: &Bench, constraints: usize) {
+    let (instance, table) = idle_limits_in_windows(&mut Random::new(1), constraints);
+    let file = encode(&instance);
+    let jobs: [(&'static str, Vec<&[u8]>); 2] =
+        [("read", vec![&file]), ("score", vec![&file, &table])];
+    for (job, inputs) in jobs {
+        let name = "the longest file, 2,048 groups".to_string();
+        let row = bench.row(job, name, &inputs, &TWO);
+        println!("{}", row.worst());
     }
 }
 

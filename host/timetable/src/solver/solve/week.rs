@@ -25,7 +25,7 @@ pub struct Week<'a> {
 }
 
 impl<'a> Week<'a> {
-    /// The week of `file`, or 1 to 6, 8, 19.
+    /// The week of `file`, or 1 to 6, 8, 19, 22.
     pub fn new(
         file: &'a [u8],
         options: &Options,

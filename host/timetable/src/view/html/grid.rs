@@ -5,6 +5,7 @@ use super::super::grid::{Cell, Grid, Mark, Placed, Row};
 use super::super::words::{amount, others};
 use super::super::View;
 use super::{escaped, Part};
+use std::ops::Range;
 
 /// The grid, the `at`th of the page, with what is broken in it; where it is
 /// compared with another timetable, what moved is marked.
@@ -50,19 +51,20 @@ impl Table<'_> {
         let mut text = format!("<tr><th scope=\"row\">{}</th>", escaped(period));
         for (column, cell) in cells.iter().enumerate() {
             match cell {
+                _ if self.continues_above(row, column) => {}
                 None => text += "<td class=\"absent\"></td>",
-                Some(_) if self.continues_above(row, column) => {}
                 Some(cell) => text += &self.cell(cell, row, column),
             }
         }
         text + "</tr>\n"
     }
 
-    /// Whether the cell belongs to the one above: both hold one lesson, the
-    /// same block of it.
+    /// Whether the place belongs to the cell above: it and the cell above hold one lesson,
+    /// the same block of it. Where the day has no such period, the next cell below tells.
     fn continues_above(&self, row: usize, column: usize) -> bool {
-        let cell = |row: usize| self.grid.rows[row].cells[column].as_ref();
-        let (Some(above), Some(here)) = (row.checked_sub(1).and_then(cell), cell(row)) else {
+        let mut above = self.cells(0..row, column);
+        let mut below = self.cells(row..self.grid.rows.len(), column);
+        let (Some(above), Some(here)) = (above.next_back(), below.next()) else {
             return false;
         };
         match (&above.lessons[..], &here.lessons[..]) {
@@ -71,13 +73,18 @@ impl Table<'_> {
         }
     }
 
+    /// The cells of a column, where its day has such periods.
+    fn cells(&self, rows: Range<usize>, column: usize) -> impl DoubleEndedIterator<Item = &Cell> {
+        let rows = self.grid.rows[rows].iter();
+        rows.filter_map(move |row| row.cells[column].as_ref())
+    }
+
     fn cell(&self, cell: &Cell, row: usize, column: usize) -> String {
         let below = row + 1..self.grid.rows.len();
         let span = 1 + below
             .take_while(|&row| self.continues_above(row, column))
             .count();
-        let rows = self.grid.rows[row..row + span].iter();
-        let cells: Vec<&Cell> = rows.filter_map(|row| row.cells[column].as_ref()).collect();
+        let cells: Vec<&Cell> = self.cells(row..row + span, column).collect();
         let mut text = match span {
             1 => "<td>".to_string(),
             _ => format!("<td rowspan=\"{span}\">"),

@@ -1,0 +1,3 @@
+-- Laws, for other crates to use.
+pub mod Counting
+pub mod Rows

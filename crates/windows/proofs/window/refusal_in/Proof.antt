@@ -1,0 +1,19 @@
+-- `windows::window::refusal_in` meets its contract: a case for each variant.
+use borrow.Author.Needs.{needs}
+use Rattle.windows.proofs.window.refusal_in.Statement.{statement}
+use Rattle.windows.proofs.window.refusal_in.Tie as tie
+
+enum-told : tie.Need-enum-told
+enum-told c = search needs
+
+enum-known-x : tie.Need-enum-known-x
+enum-known-x c = search needs
+
+returns : tie.Need-returns
+returns c = rw (c .enum-told .given .1)
+
+returns-2 : tie.Need-returns-2
+returns-2 c = search needs
+
+pub refusal-in-spec : {M : Type 1} → statement M
+refusal-in-spec = tie.close (tie.spec enum-told enum-known-x returns returns-2)
