@@ -32,7 +32,6 @@
  *   15   a hint or deletion names a clause that is not live    step
  *   16   a hint, or the ending of the hints, breaks the rule   step
  *   17   a clause that is not empty does not fit the stores    step
- *        beside the live ones
  *   18   a proof has no empty clause, or bytes after it        steps read
  *   19   both events of a precedence are one                   offset of the constraint's kind
  *   20   a solver's text has a line of another kind, a         its offset in the text
@@ -276,16 +275,9 @@ struct timetable_row {
  * bound or less.
  * The stores: a word for each literal, a row for each clause and a mark for
  * each variable. timetable_sizes says how many of each the formula needs, and
- * 9 is given for less, whatever the proof deletes. A clause that is not empty
- * needs a row, and a word for each of its literals. Words and rows of deleted
- * clauses, the formula's too, are used again: 17 is given if and only if the
- * live clauses and the new one need more words or more rows than were lent.
- * The id of a deleted clause stays dead. What timetable_room says beside the
- * formula's need is always enough; a proof that deletes much passes with less.
- * In stores that just fit, each new clause may move all the others; in stores
- * of twice that size this is seldom.
- * What the stores hold before the call does not matter; after it, whatever it
- * answers, every word, mark and field of a row is zero.
+ * timetable_room what the proof adds: each of its clauses that is not empty
+ * needs a row, and a word for each of its literals. What the stores hold before the call does not matter; after it,
+ * whatever it answers, every word, mark and field of a row is zero.
  * Refusals: 1 to 6, 19 and 22 for the file, then 7, then 8, then 9 if a store
  * is too short for the formula, then 14 to 18 for the proof, step by step.
  * Accepted, which is the answer "no timetable": *value is the number of steps.
@@ -359,13 +351,11 @@ static inline size_t timetable_list_end(const uint8_t *proof,
 }
 
 /*
- * What a proof adds to the stores if nothing is deleted: *words is how many
- * literals its clauses have, and *rows how many of them are not empty, up to
- * the first step that is misformed. A check with room for the formula and for
- * these gives neither 9 nor 17. A caller that also counts what the proof
- * deletes may lend less: room for what is live at once. One pass over the
- * proof, in the caller's own code: a miscount here could earn 17, and no other
- * answer.
+ * What a proof adds to the stores: *words is how many literals its clauses
+ * have, and *rows how many of them are not empty, up to the first step that is
+ * misformed. A check with room for the formula and for these gives neither 9
+ * nor 17. One pass over the proof, in the caller's own code: a miscount here
+ * could earn 17, and no other answer.
  */
 static inline void timetable_room(const uint8_t *proof, size_t proof_length,
                                   size_t *words, size_t *rows)

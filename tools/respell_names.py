@@ -59,6 +59,8 @@ def defined(top):
             words = m.group(1).split(".")
             if words[0] != "Rattle" or words[1] not in crates:
                 foreign.update(w.split(" as ")[0].strip() for w in m.group(2).split(","))
+        for name in re.findall(r"\bas ([a-z]\w*[A-Z]\w*)", code):
+            own.setdefault(name, path)
         for t in re.findall(TAKEN, code):
             tokens.setdefault(t, set()).add(path)
         if path.endswith(".antt"):

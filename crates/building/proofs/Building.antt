@@ -13,7 +13,7 @@ use Rattle.scope.specs.Formula.{words}
 use Rattle.directory.specs.declared.Row.{Row}
 use Rattle.standing.proofs.laws.Clauses.{drop-take, slice-past}
 use Rattle.building.specs.Marked.{flat, first_clause, parted, rows_for, row_between}
-use Rattle.building.proofs.laws.Marked.{flat-snoc, length-flat, parted-head, length_rows, rows_snoc, sets_snoc}
+use Rattle.building.proofs.laws.Marked.{flat-snoc, length-flat, parted-head, length_rows, rows_snoc, sets-snoc}
 
 -- words up to j, where first ≤ j
 module _ (ws : List ℕ) (first : ℕ) where
@@ -84,15 +84,15 @@ module _ (ws₀ ws : List ℕ) (first end i : ℕ) (p : Passing ws₀ ws first e
       )
 
 -- the first clause of words has one at least, and no more than there are
-pub clause_long : (ws : List ℕ) → 0 < length ws → (0 < length (first_clause ws)) × (length (first_clause ws) ≤ length ws)
+pub clause-long : (ws : List ℕ) → 0 < length ws → (0 < length (first_clause ws)) × (length (first_clause ws) ≤ length ws)
 unfolding first_clause
-clause_long [] h = absurd (omega arith)
-clause_long (w ∷ []) h = go (leb 2147483648 w)
+clause-long [] h = absurd (omega arith)
+clause-long (w ∷ []) h = go (leb 2147483648 w)
   where
     go : (t : Bool) → (0 < length (cond t ((w - 2147483648) ∷ []) (w ∷ []))) × (length (cond t ((w - 2147483648) ∷ []) (w ∷ [])) ≤ 1)
     go true = (omega arith, omega arith)
     go false = (omega arith, omega arith)
-clause_long (w ∷ v ∷ vs) h = go (clause_long (v ∷ vs) (omega arith)) (leb 2147483648 w)
+clause-long (w ∷ v ∷ vs) h = go (clause-long (v ∷ vs) (omega arith)) (leb 2147483648 w)
   where
     go : (0 < length (first_clause (v ∷ vs))) × (length (first_clause (v ∷ vs)) ≤ length (v ∷ vs)) → (t : Bool)
         → (0 < length (cond t ((w - 2147483648) ∷ []) (w ∷ first_clause (v ∷ vs)))) × (length (cond t ((w - 2147483648) ∷ []) (w ∷ first_clause (v ∷ vs))) ≤ suc (length (v ∷ vs)))
@@ -159,7 +159,7 @@ module _ (ws₀ ws : List ℕ) (ys₀ ys : List Row) (end n first : ℕ) (b : Bu
               let i : 1 + length b.done ≡ n + 1 = omega (arith, b.count) in
               let f : 0 + words b.done ≡ first = omega (arith, length-flat b.done, b.begun) in
               let z : length c ≡ next - first = omega (arith, next_is) in
-              a ∙ rw (rows_snoc 1 0 b.done c, sets_snoc ys₀ 0 (rows_for 1 0 b.done) _, length_rows 1 0 b.done, ← b.rows, e, i, f, z, r);
+              a ∙ rw (rows_snoc 1 0 b.done c, sets-snoc ys₀ 0 (rows_for 1 0 b.done) _, length_rows 1 0 b.done, ← b.rows, e, i, f, z, r);
           whole = b.whole ∙ rw parts (sym (append_snoc b.done c (parted (slice next end ws₀))));
         }
 

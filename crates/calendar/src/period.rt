@@ -4,7 +4,7 @@ ghost use Rattle.scope.specs.Calendar.{limited_in, period_at};
 ghost use Rattle.number.specs.Answers.{said};
 ghost use Rattle.calendar.specs.Answers.{said_period, refusal_in};
 
-use number::{Number, refusal_of, within};
+use number::{Number, number_at, refusal_of};
 use scope::Refusal;
 use scope::refusals::BAD_CALENDAR;
 
@@ -32,11 +32,21 @@ pub fn refusal_in(p: PeriodRead) -> Refusal
 pub fn limited_in(s: &[u8], at: usize, place: usize, lo: u32, hi: u32) -> Number
     ensures { said result ≡ limited_in place lo hi s.now at }
 {
+    let n = number_at(s, at);
+    let Number::Value(v, next) = n else {
+        return n;
+    };
     let outside = Refusal {
         number: BAD_CALENDAR,
         value: place as u64,
     };
-    within(s, at, lo, hi, outside)
+    if v < lo {
+        return Number::Refused(outside);
+    }
+    if hi < v {
+        return Number::Refused(outside);
+    }
+    Number::Value(v, next)
 }
 
 // A period, where the one before it on its day ends.

@@ -29,12 +29,12 @@ use Rattle.list.specs.Fillable.{Fillable}
 use Rattle.list.proofs.laws.Literals.{OverLiterals, list_literals}
 use Rattle.items.specs.Counted.{counted}
 use Rattle.items.specs.Written.{Room, Wrote, Left, gates_both, wrote_same}
-use Rattle.items.proofs.laws.Written.{room_same}
+use Rattle.items.proofs.laws.Written.{room-same}
 use Rattle.items.proofs.laws.Lists.{bounds_of, list-items, lists_turn, lists_room}
 use Rattle.list_clauses.specs.Stored.{ListStored, members}
 use Rattle.list_clauses.proofs.laws.Filled.{InStore, filled_list, filled_wrote}
 use Rattle.list_clauses.specs.Filled as nodes
-use Rattle.list_clauses.proofs.laws.Filled as nodesLaws
+use Rattle.list_clauses.proofs.laws.Filled as nodes_laws
 use Rattle.clauses.specs.Fits.{lists_in}
 
 module _ (d users groups : List ℕ) (h : Head) (k : Kind) where
@@ -80,7 +80,7 @@ module _ (d users groups : List ℕ) (h : Head) (k : Kind) where
       items_same = list-items w (number_of (num_of h) counts (list_now t)) v ∙ rw bounds_same
 
       list_room : Room v (map gate gs ++ counted w b ms (v + length gs))
-      list_room = room_same items_same (lists_room w v list_next room)
+      list_room = room-same items_same (lists_room w v list_next room)
 
       list_short : Short counts (list_now t)
       list_short = let e : t + 1 - 1 ≡ t = omega arith in rw e (each_at t no_list fits.short g)

@@ -4,4 +4,3 @@ pub mod Beyond
 pub mod Drawn
 pub mod Printed
 pub mod Spelled
-pub mod Formerly

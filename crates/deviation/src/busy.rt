@@ -1,7 +1,7 @@
 // Kind 6: the uses of a resource at the times of a group, where none is free of charge.
 ghost use Rattle.std.specs.Prelude.{◌≡◌, cond, eqb};
 ghost use Rattle.scope.specs.Kinds.{busy};
-ghost use Rattle.scope.specs.Score.{deviation as deviationOf};
+ghost use Rattle.scope.specs.Score.{deviation as deviation_of};
 ghost use Rattle.constraint.specs.Answers.{counts_in};
 ghost use Rattle.constraint.specs.Valid.{InRange};
 ghost use Rattle.deviation.specs.Charge.{MatrixIn, GroupsIn, busy_charge};
@@ -13,7 +13,7 @@ use constraint::{Busy, Head};
 
 // The deviation of a count, where a count of 0 deviates by 0.
 fn deviation_used(lo: u32, hi: u32, count: u32) -> u32
-    ensures { result ≡ cond (eqb count 0) 0 (deviationOf lo hi count) }
+    ensures { result ≡ cond (eqb count 0) 0 (deviation_of lo hi count) }
 {
     if count == 0 {
         return 0;

@@ -16,16 +16,16 @@ past (x ∷ xs) l a i y h =
     past xs (set l a x) (suc a) i y (omega arith)
     ∙ ap (λ (k : List ℕ). sets k (suc a) xs) (set_comm l a i x y (λ e. omega arith))
 
-sets_snoc : (xs l : List ℕ) (a y : ℕ) → sets l a (xs ++ y ∷ []) ≡ set (sets l a xs) (a + length xs) y
-sets_snoc [] l a y = rw add-zero
-sets_snoc (x ∷ xs) l a y =
-    sets_snoc xs (set l a x) (suc a) y ∙ ap (λ (n : ℕ). set (sets (set l a x) (suc a) xs) n y) (omega arith)
+sets-snoc : (xs l : List ℕ) (a y : ℕ) → sets l a (xs ++ y ∷ []) ≡ set (sets l a xs) (a + length xs) y
+sets-snoc [] l a y = rw add-zero
+sets-snoc (x ∷ xs) l a y =
+    sets-snoc xs (set l a x) (suc a) y ∙ ap (λ (n : ℕ). set (sets (set l a x) (suc a) xs) n y) (omega arith)
 
 -- the last digit first
 pub fill_one : (l : List ℕ) (a m x : ℕ) → sets l a (last_digits (suc m) x) ≡ sets (set l (a + m) (48 + x % 10)) a (last_digits m (x / 10))
 fill_one l a m x =
     let n : length (last_digits m (x / 10)) ≡ m = last-length m (x / 10) in
-    sets_snoc (last_digits m (x / 10)) l a (48 + x % 10)
+    sets-snoc (last_digits m (x / 10)) l a (48 + x % 10)
     ∙ rw n (past (last_digits m (x / 10)) l a (a + m) (48 + x % 10) (omega arith))
 
 -- one turn: two digits before i

@@ -2,4 +2,3 @@
 pub mod Live
 pub mod Holding
 pub mod Built
-pub mod Packed

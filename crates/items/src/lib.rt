@@ -1,10 +1,10 @@
 // Items that a writer ran, and the writer of a counted list by its bounds as written.
 ghost use Rattle.std.specs.Prelude.{◌≡◌, ◌+◌, ◌-◌, ◌*◌, ◌≤◌, ◌<◌, min, length};
-ghost use Rattle.scope.specs.Formula.{columns as columnsOf};
+ghost use Rattle.scope.specs.Formula.{columns as columns_of};
 ghost use Rattle.sink.specs.World.{world, step};
 ghost use Rattle.counters.specs.Literals.{Literals};
 ghost use Rattle.items.specs.Written.{Room, Wrote};
-ghost use Rattle.items.specs.Counted.{counted, shorts as shortsOf};
+ghost use Rattle.items.specs.Counted.{counted, shorts as shorts_of};
 
 use constraint::Bounds;
 use sink::{Job, Sink};
@@ -27,7 +27,7 @@ fn lesser(a: u32, b: u32) -> u32
 
 // How many columns the counter of n literals has.
 fn columns(weight: u32, hi: u32, n: u32) -> u32
-    ensures { result ≡ columnsOf weight hi n }
+    ensures { result ≡ columns_of weight hi n }
 {
     if weight == 0 {
         if hi < n {
@@ -40,7 +40,7 @@ fn columns(weight: u32, hi: u32, n: u32) -> u32
 
 // How many variables kind 6's low part has.
 fn shorts(free: bool, lo: u32) -> u32
-    ensures { result ≡ shortsOf free lo }
+    ensures { result ≡ shorts_of free lo }
 {
     if free {
         if lo == 0 {

@@ -7,26 +7,21 @@ use borrow.Author.Tests.{ltb-true, ltb-false}
 use lib.Dec.{ltb}
 use Rattle.directory.specs.declared.Row.{Row}
 use Rattle.lookup.specs.declared.Probe.{Probe}
-use Rattle.lookup.specs.Lookup.{started, apart, narrowed, seek}
-use Rattle.lookup.proofs.Search.{Bounded, starts-bounded, fewer-before, Resumed, far, onward, backward, Narrowed, met, failed, missed, above, below, narrows, bounded}
+use Rattle.lookup.specs.Lookup.{started, narrowed, seek}
+use Rattle.lookup.proofs.Search.{Bounded, starts-bounded, Narrowed, met, failed, missed, above, below, narrows, bounded}
 
 module _ (cap : ℕ) (p : Probe) (row : Row) (id : ℕ) (b : Bounded cap p) (m : p.lo < p.hi) where
   -- only the first look is a guess
   no_guess : (r : Probe) → Narrowed p row id r → r.guess ≡ 0
   no_guess r (met e q) = rw q refl
-  no_guess r (failed g n (far q)) = rw q refl
-  no_guess r (failed g n (onward k q)) = rw q refl
-  no_guess r (failed g n (backward k q)) = rw q refl
+  no_guess r (failed g q) = rw q refl
   no_guess r (missed w n q) = rw q refl
   no_guess r (above g w e q) = rw q refl
   no_guess r (below g w e q) = rw q refl
 
   no_wider : (r : Probe) → Narrowed p row id r → r.hi - r.lo ≤ p.hi - p.lo
   no_wider r (met e q) = rw q (omega arith)
-  no_wider r (failed g n (far q)) = rw q (omega arith)
-  no_wider r (failed g n (onward k q)) = rw q (omega (arith, (b.inside m).0))
-  no_wider r (failed g n (backward k q)) =
-      rw q (omega (arith, fewer-before p.lo p.at p.hi (apart row.id id) (b.inside m).0 (b.inside m).1))
+  no_wider r (failed g q) = rw q (omega arith)
   no_wider r (missed w n q) = rw q (omega arith)
   no_wider r (above g w e q) = rw q (omega (arith, (b.inside m).0))
   no_wider r (below g w e q) = rw q (omega (arith, (b.inside m).1))
@@ -34,7 +29,7 @@ module _ (cap : ℕ) (p : Probe) (row : Row) (id : ℕ) (b : Bounded cap p) (m :
   -- at most half of the rows are left, or one more
   halved : p.guess ≡ 0 → (r : Probe) → Narrowed p row id r → r.hi - r.lo ≤ (p.hi - p.lo + 1) / 2
   halved z r (met e q) = rw q (omega arith)
-  halved z r (failed g n f) = absurd (omega arith)
+  halved z r (failed g q) = absurd (omega arith)
   halved z r (missed w n q) = rw q (omega arith)
   halved z r (above g w e q) = let i = b.middle m z in rw q (omega arith)
   halved z r (below g w e q) = let i = b.middle m z in rw q (omega arith)
@@ -42,7 +37,7 @@ module _ (cap : ℕ) (p : Probe) (row : Row) (id : ℕ) (b : Bounded cap p) (m :
   -- one row that is left is looked at last
   last : p.guess ≡ 0 → p.hi - p.lo < 2 → (r : Probe) → Narrowed p row id r → r.hi ≤ r.lo
   last z k r (met e q) = rw q (omega arith)
-  last z k r (failed g n f) = absurd (omega arith)
+  last z k r (failed g q) = absurd (omega arith)
   last z k r (missed w n q) = rw q (omega arith)
   last z k r (above g w e q) = absurd (omega arith)
   last z k r (below g w e q) = absurd (omega arith)
@@ -95,5 +90,5 @@ module _ (R : ℕ → Row) (id cap : ℕ) where
       go false t = record { over = ltb-false p.lo p.hi t }
 
 -- a search of at most 2^k rows is over after 2 + k looks
-pub few-looks : (R : ℕ → Row) (n id at k : ℕ) → n ≤ power_of_two k → Over (seek (suc (suc k)) R id (started n at))
-few-looks R n id at k h = looks_end R id n k (started n at) (starts-bounded n n at (omega arith)) (omega arith)
+pub few-looks : (R : ℕ → Row) (n id k : ℕ) → n ≤ power_of_two k → Over (seek (suc (suc k)) R id (started n id))
+few-looks R n id k h = looks_end R id n k (started n id) (starts-bounded n n id (omega arith)) (omega arith)

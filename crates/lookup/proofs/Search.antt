@@ -2,7 +2,7 @@
 use mathlib.Core.Path.{◌≡◌, refl, sym, ap, ◌∙◌}
 use mathlib.Core.Bool.{Bool, true, false, cond}
 use mathlib.Core.List.{List}
-use Prim.Native.Nat.{ℕ, zero, suc, ◌<◌, ◌≤◌, ◌+◌, ◌-◌, ◌/◌, min, max}
+use Prim.Native.Nat.{ℕ, zero, suc, ◌<◌, ◌≤◌, ◌+◌, ◌-◌, ◌/◌, min}
 use native.Mathlib.Omega.{arith}
 use borrow.Author.Tests.{ltb-true, ltb-false, eqb-true, eqb-false, eq-eqb, ne_eqb, lt-ltb, le-ltb, leb-true, leb-false, le-leb, lt-leb}
 use lib.Dec.{ltb, leb, eqb}
@@ -11,7 +11,7 @@ use Rattle.directory.specs.declared.Row.{Row}
 use Rattle.lookup.specs.declared.Probe.{Probe}
 use Rattle.directory.specs.Rows.{no_row}
 use Rattle.directory.proofs.laws.Rows.{Rising}
-use Rattle.lookup.specs.Lookup.{started, halving, ended, apart, resumed, narrowed, seek}
+use Rattle.lookup.specs.Lookup.{started, halving, ended, narrowed, seek}
 use Rattle.lookup.proofs.laws.Lookup.{Found, hit, miss, Finds}
 use Rattle.directory.specs.Directory.{rows_of}
 use Rattle.lookup.specs.Lookup.{look_up}
@@ -22,42 +22,16 @@ pub record Bounded (cap : ℕ) (p : Probe) : Type 0 where
   pub middle : p.lo < p.hi → p.guess ≡ 0 → p.at ≡ p.lo + (p.hi - p.lo) / 2
   pub high : p.hi ≤ cap
 
-pub starts-bounded : (cap n at : ℕ) → n ≤ cap → Bounded cap (started n at)
-starts-bounded cap n at h = record { inside = λ l. (omega arith, omega arith); middle = λ l z. absurd (omega arith); high = h }
+pub starts-bounded : (cap n id : ℕ) → n ≤ cap → Bounded cap (started n id)
+starts-bounded cap n id h = record { inside = λ l. (omega arith, omega arith); middle = λ l z. absurd (omega arith); high = h }
 
 halving-bounded : (cap lo hi : ℕ) (row : Row) → hi ≤ cap → Bounded cap (halving lo hi row)
 halving-bounded cap lo hi row k = record { inside = λ m. (omega arith, omega arith); middle = λ m z. refl; high = k }
 
--- the rows before a look, at most d of them, are fewer than all that were left
-pub fewer-before : (lo at hi d : ℕ) → lo ≤ at → at < hi → at - max lo (at - d) < hi - lo
-fewer-before lo at hi d l h = omega arith
-
--- where at most d rows before a look begin
-count-before : (lo at d count : ℕ) → lo ≤ at → count ≡ min d (at - lo) → at - count ≡ max lo (at - d)
-count-before lo at d count l e = omega arith
-
--- the outcomes of a first look that failed
-pub data Resumed (s : Probe) (seen id : ℕ) (p : Probe) : Type 0 where
-  far : p ≡ halving s.lo s.hi s.hit → Resumed s seen id p
-  onward : seen < id → p ≡ halving (s.at + 1) (min s.hi (s.at + 1 + apart seen id)) s.hit → Resumed s seen id p
-  backward : id ≤ seen → p ≡ halving (max s.lo (s.at - apart seen id)) s.at s.hit → Resumed s seen id p
-
-resumes : (s : Probe) (seen id : ℕ) → Resumed s seen id (resumed s seen id)
-unfolding resumed
-resumes s seen id = go (ltb 32 (apart seen id)) (ltb seen id) refl
-  where
-    go : (f u : Bool) → ltb seen id ≡ u
-        → Resumed s seen id (cond f (halving s.lo s.hi s.hit)
-        (cond u (halving (s.at + 1) (min s.hi (s.at + 1 + apart seen id)) s.hit)
-        (halving (max s.lo (s.at - apart seen id)) s.at s.hit)))
-    go true u e = far refl
-    go false true e = onward (ltb-true seen id e) refl
-    go false false e = backward (ltb-false seen id e) refl
-
 -- the outcomes of a look
 pub data Narrowed (s : Probe) (row : Row) (id : ℕ) (p : Probe) : Type 0 where
   met : row.id ≡ id → p ≡ ended s row → Narrowed s row id p
-  failed : 0 < s.guess → (row.id ≡ id → ⊥) → Resumed s row.id id p → Narrowed s row id p
+  failed : 0 < s.guess → p ≡ halving s.lo s.hi s.hit → Narrowed s row id p
   missed : s.hi - s.lo < 2 → (row.id ≡ id → ⊥) → p ≡ ended s s.hit → Narrowed s row id p
   above : s.guess ≤ 0 → 2 ≤ s.hi - s.lo → row.id ≤ id → p ≡ halving s.at s.hi s.hit → Narrowed s row id p
   below : s.guess ≤ 0 → 2 ≤ s.hi - s.lo → id < row.id → p ≡ halving s.lo s.at s.hit → Narrowed s row id p
@@ -68,11 +42,11 @@ narrows s row id = go (ltb 0 s.guess) refl (eqb row.id id) refl (ltb (s.hi - s.l
   where
     go : (g : Bool) → ltb 0 s.guess ≡ g → (t : Bool) → eqb row.id id ≡ t → (w : Bool) → ltb (s.hi - s.lo) 2 ≡ w
         → (u : Bool) → leb row.id id ≡ u
-        → Narrowed s row id (cond g (cond t (ended s row) (resumed s row.id id))
+        → Narrowed s row id (cond g (cond t (ended s row) (halving s.lo s.hi s.hit))
         (cond w (cond t (ended s row) (ended s s.hit))
         (cond u (halving s.at s.hi s.hit) (halving s.lo s.at s.hit))))
     go true d true t w v u e = met (eqb-true row.id id t) refl
-    go true d false t w v u e = failed (ltb-true 0 s.guess d) (eqb-false row.id id t) (resumes s row.id id)
+    go true d false t w v u e = failed (ltb-true 0 s.guess d) refl
     go false d true t true v u e = met (eqb-true row.id id t) refl
     go false d false t true v u e = missed (ltb-true (s.hi - s.lo) 2 v) (eqb-false row.id id t) refl
     go false d t e false v true u =
@@ -86,9 +60,9 @@ module _ (s : Probe) (row : Row) (id : ℕ) {seen : ℕ} {r : Probe} (e : seen �
   unfolding narrowed
   look_guessed g h q = rw (lt-ltb 0 s.guess g, eq-eqb row.id id (sym e ∙ h)) q
 
-  pub look_failed : 0 < s.guess → (seen ≡ id → ⊥) → r ≡ resumed s seen id → r ≡ narrowed s row id
+  pub look_failed : 0 < s.guess → (seen ≡ id → ⊥) → r ≡ halving s.lo s.hi s.hit → r ≡ narrowed s row id
   unfolding narrowed
-  look_failed g n q = rw (lt-ltb 0 s.guess g, ne_eqb row.id id (λ h. n (e ∙ h)), ← e) q
+  look_failed g n q = rw (lt-ltb 0 s.guess g, ne_eqb row.id id (λ h. n (e ∙ h))) q
 
   pub look_met : s.guess ≤ 0 → s.hi - s.lo < 2 → seen ≡ id → r ≡ ended s row → r ≡ narrowed s row id
   unfolding narrowed
@@ -110,30 +84,6 @@ module _ (s : Probe) (row : Row) (id : ℕ) {seen : ℕ} {r : Probe} (e : seen �
       let k : id < row.id = omega arith in
       rw (le-ltb 0 s.guess g, le-ltb (s.hi - s.lo) 2 w, lt-leb row.id id k) q
 
--- what `resume` answers, by its tests
-module _ (s : Probe) (seen id : ℕ) {away : ℕ} {r : Probe} (e : away ≡ apart seen id) where
-  pub resume_far : 32 < away → r ≡ halving s.lo s.hi s.hit → r ≡ resumed s seen id
-  unfolding resumed
-  resume_far f q = let k : 32 < apart seen id = rw e at f in rw (lt-ltb 32 (apart seen id) k) q
-
-  pub resume_after : {count : ℕ} → s.at < s.hi → away ≤ 32 → seen < id → count ≡ min away (s.hi - (s.at + 1))
-      → r ≡ halving (s.at + 1) (s.at + 1 + count) s.hit → r ≡ resumed s seen id
-  unfolding resumed
-  resume_after {count} h f u c q =
-      let k : apart seen id ≤ 32 = rw e at f in
-      let m : s.at + 1 + count ≡ min s.hi (s.at + 1 + apart seen id) = omega arith in
-      rw (le-ltb 32 (apart seen id) k, lt-ltb seen id u, ← m) q
-
-  pub resume_before : {count : ℕ} → s.lo ≤ s.at → away ≤ 32 → id ≤ seen → count ≡ min away (s.at - s.lo)
-      → r ≡ halving (s.at - count) s.at s.hit → r ≡ resumed s seen id
-  unfolding resumed
-  resume_before {count} h f u c q =
-      let k : apart seen id ≤ 32 = rw e at f in
-      let m = count-before s.lo s.at (apart seen id) count h (rw e at c) in
-      rw (le-ltb 32 (apart seen id) k, le-ltb seen id u, ← m) q
-
-pub ruleset resuming = (resume_far, resume_after, resume_before)
-
 pub ruleset looks = (look_guessed, look_failed, look_met, look_missed, look_above, look_below)
 
 -- how many looks a search may still take
@@ -144,21 +94,14 @@ ahead p = p.hi - p.lo + p.guess
 module _ (cap : ℕ) (p : Probe) (row : Row) (id : ℕ) (b : Bounded cap p) (m : p.lo < p.hi) where
   pub nearer : (r : Probe) → Narrowed p row id r → ahead r < ahead p
   nearer r (met e q) = rw q (omega arith)
-  nearer r (failed g n (far q)) = rw q (omega arith)
-  nearer r (failed g n (onward k q)) = rw q (omega (arith, (b.inside m).0))
-  nearer r (failed g n (backward k q)) =
-      rw q (omega (arith, fewer-before p.lo p.at p.hi (apart row.id id) (b.inside m).0 (b.inside m).1))
+  nearer r (failed g q) = rw q (omega arith)
   nearer r (missed w n q) = rw q (omega arith)
   nearer r (above g w e q) = rw q (omega (arith, b.middle m (omega arith)))
   nearer r (below g w e q) = rw q (omega (arith, b.middle m (omega arith)))
 
   pub bounded : (r : Probe) → Narrowed p row id r → Bounded cap r
   bounded r (met e q) = rw q (record { inside = λ m. absurd (omega arith); middle = λ m z. absurd (omega arith); high = b.high })
-  bounded r (failed g n (far q)) = rw q (halving-bounded cap p.lo p.hi p.hit b.high)
-  bounded r (failed g n (onward k q)) =
-      rw q (halving-bounded cap (p.at + 1) (min p.hi (p.at + 1 + apart row.id id)) p.hit (omega (arith, b.high)))
-  bounded r (failed g n (backward k q)) =
-      rw q (halving-bounded cap (max p.lo (p.at - apart row.id id)) p.at p.hit (omega (arith, b.high, (b.inside m).1)))
+  bounded r (failed g q) = rw q (halving-bounded cap p.lo p.hi p.hit b.high)
   bounded r (missed w n q) = rw q (record { inside = λ m. absurd (omega arith); middle = λ m z. absurd (omega arith); high = b.high })
   bounded r (above g w e q) = rw q (halving-bounded cap p.at p.hi p.hit b.high)
   bounded r (below g w e q) = rw q (halving-bounded cap p.lo p.at p.hit (omega (arith, b.high, (b.inside m).1)))
@@ -189,8 +132,8 @@ module _ (R : ℕ → Row) (id : ℕ) (p g : Probe) (w : Left R id p g) where
       go zero n t = absurd (omega arith)
       go (suc k) n t = record { fuel = k; enough = omega (arith, near); todo = rw e (rw (lt-ltb p.lo p.hi h) at t) }
 
-pub left_all : (xs : List Row) (n id at : ℕ) → Left (rows_of xs) id (started (min n (length xs)) at) (look_up xs n id at)
-left_all xs n id at = record { fuel = suc (length xs); enough = omega arith; todo = refl }
+pub left_all : (xs : List Row) (n id : ℕ) → Left (rows_of xs) id (started (min n (length xs)) id) (look_up xs n id)
+left_all xs n id = record { fuel = suc (length xs); enough = omega arith; todo = refl }
 
 -- a search of n rows: still to be met, or met
 pub data Seeking (R : ℕ → Row) (n id : ℕ) (p : Probe) : Type 0 where
@@ -225,32 +168,11 @@ module _ (R : ℕ → Row) (n : ℕ) (up : Rising R n) where
       go true t = absurd (omega (arith, up.up i k (ltb-true i k t) h))
       go false t = ltb-false i k t
 
-  -- rows are no farther apart than their ids
-  no_farther : (d i k : ℕ) → k ≡ i + d → k < n → (R i).id + d ≤ (R k).id
-  no_farther zero i k e h =
-      let w : (R k).id ≡ (R i).id = ap (λ j. (R j).id) (omega arith) in
-      omega arith
-  no_farther (suc d) i k e h = omega (arith, no_farther d i (i + d) refl (omega arith), up.up (i + d) k (omega arith) h)
-
   module _ (id : ℕ) (p : Probe) (l : p.lo ≤ p.at) (h : p.at < p.hi) where
     looked : Seeking R n id p → (r : Probe) → Narrowed p (R p.at) id r → Seeking R n id r
     looked (holds e a b c) r _ = absurd (omega arith)
     looked (seeks k w z) r (met e q) = rw q (holds refl (omega arith) refl e)
-    looked (seeks k w z) r (failed g n (far q)) = rw q (seeks k w z)
-    looked (seeks k w z) r (failed g n (onward u q)) =
-        rw q (seeks (omega arith)
-        (λ i m f.
-        let a = in_order p.at i (omega arith) (omega arith) in
-        let d = no_farther (i - p.at) p.at i (omega arith) m in
-        (omega arith, omega (arith, (w i m f).1)))
-        z)
-    looked (seeks k w z) r (failed g n (backward u q)) =
-        rw q (seeks (omega arith)
-        (λ i m f.
-        let a = in_order i p.at m (omega arith) in
-        let d = no_farther (p.at - i) i p.at (omega arith) (omega arith) in
-        (omega (arith, (w i m f).0), a))
-        z)
+    looked (seeks k w z) r (failed g q) = rw q (seeks k w z)
     looked (seeks k w z) r (missed u n q) =
         rw q (seeks k
         (λ i m f.
@@ -288,13 +210,13 @@ module _ (R : ℕ → Row) (n : ℕ) (up : Rising R n) where
       go ih false t = ends R n id p s (ltb-false p.lo p.hi t)
 
 -- the search finds the row with the id
-pub finds : (xs : List Row) (n id at : ℕ) (p : Probe) → p ≡ look_up xs n id at → Finds (length xs) (rows_of xs) n id p
-finds xs n id at p e =
+pub finds : (xs : List Row) (n id : ℕ) (p : Probe) → p ≡ look_up xs n id → Finds (length xs) (rows_of xs) n id p
+finds xs n id p e =
     record {
       found =
           λ h up.
           let m : min n (length xs) ≡ n = omega arith in
           rw (e, m)
-          (seeks_found (rows_of xs) n up (suc (length xs)) id (started n at) (starts-bounded n n at (omega arith)) (omega arith)
+          (seeks_found (rows_of xs) n up (suc (length xs)) id (started n id) (starts-bounded n n id (omega arith)) (omega arith)
           (seeks (omega arith) (λ i l f. (omega arith, l)) refl));
     }

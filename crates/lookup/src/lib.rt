@@ -1,11 +1,11 @@
 // A clause's row is found by its id.
-ghost use Rattle.std.specs.Prelude.{◌≡◌, ◌≤◌, ◌<◌, ◌-◌, min};
-ghost use Rattle.lookup.specs.Lookup.{started, halving, ended, apart, resumed, narrowed, look_up};
+ghost use Rattle.std.specs.Prelude.{◌≡◌, ◌≤◌, ◌<◌, min};
+ghost use Rattle.lookup.specs.Lookup.{started, halving, ended, narrowed, look_up};
 
 use directory::{Row, id_of, no_row};
 
 // Where a search stands: the row is in lo..hi if it is anywhere, at is looked at next, and hit is the row once it is met. The
-// first look is a guess of the caller, and guess is 1 before it, then 0.
+// first look is a guess from the id, and guess is 1 before it, then 0.
 #[derive(Drop)]
 pub struct Probe {
     pub lo: usize,
@@ -14,9 +14,6 @@ pub struct Probe {
     pub hit: Row,
     pub guess: usize,
 }
-
-// Ids that are farther apart narrow nothing: the searches for all ids then halve the same rows, which the cache holds.
-const NEAR: usize = 32;
 
 fn least(a: usize, b: usize) -> usize
     ensures { result ≡ min a b }
@@ -27,32 +24,15 @@ fn least(a: usize, b: usize) -> usize
     b
 }
 
-// How far apart two ids are.
-fn distance(a: usize, b: usize) -> usize
-    ensures { result ≡ apart a b }
-{
-    if a <= b {
-        return b - a;
-    }
-    a - b
-}
-
-// The last of n rows, or 0.
-fn last(n: usize) -> usize
-    ensures { result ≡ n - 1 }
-{
-    if n == 0 {
-        return 0;
-    }
-    n - 1
-}
-
-// A search in n rows, whose first look is at row at, or at the last.
-fn start(n: usize, at: usize) -> Probe
-    ensures { result ≡ started n at }
+// A search for an id in n rows: the first look is at row id - 1, which has the id where no id was left out, or at the last.
+fn start(n: usize, id: usize) -> Probe
+    ensures { result ≡ started n id }
 {
     let hit = no_row();
-    let at = least(at, last(n));
+    let mut at = least(n, id);
+    if at != 0 {
+        at -= 1;
+    }
     Probe {
         lo: 0,
         hi: n,
@@ -90,27 +70,8 @@ fn end(s: Probe, hit: Row) -> Probe
     }
 }
 
-// The search after a first look that saw another id. Ids ascend, so that two rows are no farther apart than their ids.
-fn resume(s: Probe, seen: usize, id: usize) -> Probe
-    requires { (s.lo ≤ s.at) × (s.at < s.hi) }
-    ensures { result ≡ resumed s seen id }
-{
-    let hit = s.hit;
-    let far = distance(seen, id);
-    if NEAR < far {
-        return halve(s.lo, s.hi, hit);
-    }
-    if seen < id {
-        let from = s.at + 1;
-        let count = least(far, s.hi - from);
-        return halve(from, from + count, hit);
-    }
-    let count = least(far, s.at - s.lo);
-    halve(s.at - count, s.at, hit)
-}
-
-// The search after a look at a row. Ids are compared for being the same at the guess and the last look alone, so that the next look
-// can begin before this one is over.
+// The search after a look at a row. A guess that fails narrows nothing: the searches for all ids then halve the same rows, which the
+// cache holds. Ids are compared for being the same at the last look alone, so that the next look can begin before this one is over.
 fn narrow(s: Probe, row: Row, id: usize) -> Probe
     requires { (s.lo ≤ s.at) × (s.at < s.hi) }
     ensures { result ≡ narrowed s row id }
@@ -121,7 +82,7 @@ fn narrow(s: Probe, row: Row, id: usize) -> Probe
         if seen == id {
             return end(s, row);
         }
-        return resume(s, seen, id);
+        return halve(s.lo, s.hi, hit);
     }
     if s.hi - s.lo < 2 {
         if seen == id {
@@ -135,12 +96,11 @@ fn narrow(s: Probe, row: Row, id: usize) -> Probe
     halve(s.lo, s.at, hit)
 }
 
-// The row with an id among the first n, whose ids ascend, looked for at row at first; where there is none, the row that is found is
-// not live.
-pub fn find(rows: &[Row], n: usize, id: usize, at: usize) -> Probe
-    ensures { result ≡ look_up rows.now n id at }
+// The row with an id among the first n, whose ids ascend; where there is none, the row that is found is not live.
+pub fn find(rows: &[Row], n: usize, id: usize) -> Probe
+    ensures { result ≡ look_up rows.now n id }
 {
-    let mut s = start(least(n, rows.len()), at);
+    let mut s = start(least(n, rows.len()), id);
     while s.lo < s.hi {
         let row = rows[s.at];
         s = narrow(s, row, id);

@@ -1,7 +1,7 @@
 // Reading a number: groups of seven bits, lowest first, in the shortest form. The instance file and proofs are made of them.
 // The work is one turn for each byte.
 ghost use Rattle.std.specs.Prelude.{◌≡◌, ◌-◌};
-ghost use Rattle.scope.specs.Number.{number as number_at, limited_by, limited as limitedAt, reference as referenceAt};
+ghost use Rattle.scope.specs.Number.{number as number_at, limited as limited_at, reference as reference_at};
 ghost use Rattle.number.specs.Answers.{said, refusal_of};
 
 use scope::Refusal;
@@ -92,13 +92,17 @@ fn near(s: &[u8], at: usize) -> Number
     number_at(s, at)
 }
 
-// The number at an offset, from lo to hi, or the refusal for one outside.
-pub fn within(s: &[u8], at: usize, lo: u32, hi: u32, outside: Refusal) -> Number
-    ensures { said result ≡ limited_by outside.number outside.value lo hi s.now at }
+// The number at an offset, from lo to hi.
+pub fn limited(s: &[u8], at: usize, lo: u32, hi: u32) -> Number
+    ensures { said result ≡ limited_at lo hi s.now at }
 {
     let n = near(s, at);
     let Number::Value(v, next) = n else {
         return n;
+    };
+    let outside = Refusal {
+        number: OUTSIDE_LIMIT,
+        value: at as u64,
     };
     if v < lo {
         return Number::Refused(outside);
@@ -109,20 +113,9 @@ pub fn within(s: &[u8], at: usize, lo: u32, hi: u32, outside: Refusal) -> Number
     Number::Value(v, next)
 }
 
-// The number at an offset, from lo to hi, or 2 there.
-pub fn limited(s: &[u8], at: usize, lo: u32, hi: u32) -> Number
-    ensures { said result ≡ limitedAt lo hi s.now at }
-{
-    let outside = Refusal {
-        number: OUTSIDE_LIMIT,
-        value: at as u64,
-    };
-    within(s, at, lo, hi, outside)
-}
-
 // A reference to one of n things, above the one before it.
 pub fn reference(s: &[u8], at: usize, before: u32, n: u32) -> Number
-    ensures { said result ≡ referenceAt before n s.now at }
+    ensures { said result ≡ reference_at before n s.now at }
 {
     let r = near(s, at);
     let Number::Value(v, next) = r else {

@@ -9,12 +9,13 @@ use lib.ListN.{length}
 use Rattle.scope.specs.Parsed.{Parsed, got, refused}
 use Rattle.scope.specs.Number.{number}
 use Rattle.directory.specs.declared.Row.{Row}
+use Rattle.lookup.specs.Lookup.{look_up}
 use Rattle.reader.proofs.Loops.{nearer}
 use Rattle.hints.specs.declared.machine.Phase.TheVariants.{Refused}
 use Rattle.hints.specs.declared.machine.Machine.{Machine}
 use Rattle.hints.specs.Machine.{turn_of, stopped, onward}
 use Rattle.deletion.specs.Passed.{id_on, passed_id}
-use Rattle.run.specs.Turned.{found, Deletion, deletes, id_deleted}
+use Rattle.run.specs.Turned.{Deletion, deletes, id_deleted}
 
 module _ (s : List ℕ) where
   -- what is left of a machine that deletes
@@ -38,6 +39,6 @@ module _ (s : List ℕ) where
       go true = omega arith
       go false = id_less m (number s m.at) refl
 
-  pub delete_falls : (d : Deletion) → deletes d ≡ true → to_delete (id_deleted s d) < to_delete d
+  pub delete_falls : (n : ℕ) (d : Deletion) → deletes d ≡ true → to_delete (id_deleted s n d) < to_delete d
   unfolding id_deleted
-  delete_falls d e = rw e (pass_less d.machine (found d.check d.rows d.machine.want).hit)
+  delete_falls n d e = rw e (pass_less d.machine (look_up d.rows n d.machine.want).hit)

@@ -13,6 +13,7 @@ use Rattle.marks.specs.Marks.{marks_of, put_mark}
 use Rattle.marks.proofs.laws.Marks.{put-length}
 use Rattle.standing.specs.Clauses.{part, wiped}
 use Rattle.directory.specs.Rows.{row_clause}
+use Rattle.lookup.specs.Lookup.{look_up}
 use Rattle.reader.specs.Loop.{while_more}
 use Rattle.passing.specs.declared.numbers.Numbers.{Numbers}
 use Rattle.passing.specs.declared.numbers.Numbers.TheVariants.{End, Cut}
@@ -28,9 +29,7 @@ use Rattle.hints.specs.declared.machine.Machine.{Machine}
 use Rattle.hints.specs.Machine.{turn_of, walked_marks, walked_trail, turned_marks, turned_trail, read_marks, read_trail, advanced_marks, advanced_trail, stands_by}
 use Rattle.turns.specs.declared.check.Check.{Check}
 use Rattle.turns.specs.Check.{with_phase, stepped, StepTaken, step_taken, unwound_marks}
-use Rattle.room.specs.Room.{room_made}
-use Rattle.room.proofs.laws.Room.{room_rows}
-use Rattle.run.specs.Turned.{State, found, deletion, id_deleted, by_turn, turned}
+use Rattle.run.specs.Turned.{State, deletion, id_deleted, by_turn, turned}
 
 wiped-long : (c ms : List ℕ) → length (wiped ms c) ≡ length ms
 unfolding wiped
@@ -98,8 +97,8 @@ marks-unwound : (c : Check) (m : Machine) (ws ms tr : List ℕ) → length (unwo
 unfolding unwound_marks
 marks-unwound c m ws ms tr = go (leb m.set (length tr))
   where
-    go : (t : Bool) → length (cond t (wiped (wiped ms (part (c.tally.used.words - c.clause.size) c.clause.size ws)) (part 0 m.set tr)) ms) ≡ length ms
-    go true = wiped-long (part 0 m.set tr) (wiped ms (part (c.tally.used.words - c.clause.size) c.clause.size ws)) ∙ wiped-long (part (c.tally.used.words - c.clause.size) c.clause.size ws) ms
+    go : (t : Bool) → length (cond t (wiped (wiped ms (part (c.tally.words - c.clause.size) c.clause.size ws)) (part 0 m.set tr)) ms) ≡ length ms
+    go true = wiped-long (part 0 m.set tr) (wiped ms (part (c.tally.words - c.clause.size) c.clause.size ws)) ∙ wiped-long (part (c.tally.words - c.clause.size) c.clause.size ws) ms
     go false = refl
 
 -- the literals of a new clause are made false
@@ -181,16 +180,11 @@ turned-long s last w = go (turn_of w.machine.phase)
     go zero =
         record {
           rows = refl;
-          marks = marks-advanced (number s w.machine.at) w.machine (found w.check w.rows w.machine.want).hit w.words w.marks;
-          trail = trail-advanced (number s w.machine.at) w.machine (found w.check w.rows w.machine.want).hit w.words w.marks w.trail;
+          marks = marks-advanced (number s w.machine.at) w.machine (look_up w.rows w.check.tally.rows w.machine.want).hit w.words w.marks;
+          trail = trail-advanced (number s w.machine.at) w.machine (look_up w.rows w.check.tally.rows w.machine.want).hit w.words w.marks w.trail;
         }
     go (suc zero) = record { rows = length-set w.rows _ _; marks = refl; trail = refl }
-    go (suc (suc zero)) =
-        record {
-          rows = length-set (room_made w.check w.rows w.words).rows _ _ ∙ room_rows w.check w.rows w.words;
-          marks = marks-unwound _ w.machine _ w.marks w.trail;
-          trail = refl;
-        }
+    go (suc (suc zero)) = record { rows = length-set w.rows _ _; marks = marks-unwound _ w.machine _ w.marks w.trail; trail = refl }
     go (suc (suc (suc zero))) = record { rows = refl; marks = refl; trail = refl }
     go (suc (suc (suc (suc zero)))) =
         record { rows = refl; marks = marks-taken s w.check w.machine.at last w.marks; trail = refl }

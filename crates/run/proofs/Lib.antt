@@ -4,4 +4,3 @@ mod Lengths
 mod Deletions
 pub mod Turning
 mod Local
-mod Values

@@ -11,6 +11,7 @@ use Rattle.scope.specs.declared.CheckAnswer.{CheckAnswer}
 use Rattle.directory.specs.declared.Row.{Row}
 use Rattle.directory.specs.Directory.{rows_of, with_dead}
 use Rattle.directory.proofs.laws.Directory.{dies-at, appends-at}
+use Rattle.lookup.specs.Lookup.{look_up}
 use Rattle.lookup.proofs.Search.{finds}
 use Rattle.reader.specs.Loop.{while_more}
 use Rattle.reader.proofs.Loops.{Left, left_more}
@@ -22,9 +23,7 @@ use Rattle.trail.specs.Recorded.{largest}
 use Rattle.deletion.proofs.laws.Passed.{passes-id}
 use Rattle.turns.specs.declared.check.Check.{Check}
 use Rattle.turns.specs.Check.{row_of, answer_of}
-use Rattle.room.specs.Room.{room_made}
-use Rattle.room.proofs.laws.Room.{room_rows}
-use Rattle.run.specs.Turned.{State, found, Deletion, deletion, deletes, id_deleted, ids_deleted, with_deletion, by_turn, turned, going, left, to_go, ended, at_first, outcome, driven_with, no_trail, driven_by}
+use Rattle.run.specs.Turned.{State, Deletion, deletion, deletes, id_deleted, ids_deleted, with_deletion, by_turn, turned, going, left, to_go, ended, at_first, outcome, driven_with, no_trail, driven_by}
 use Rattle.run.proofs.laws.Run.{World, world, Turn, looks, keeps, judges, reads, Ran, none, more, Driven}
 use Rattle.run.proofs.laws.Termination.{Past, Falls, turn-falls, some_left, ran_on}
 use Rattle.run.proofs.Taking.{takes_step}
@@ -41,19 +40,18 @@ turned_turn s last w h = go (turn_of w.machine.phase) refl h
   where
     go : (k : ℕ) → turn_of w.machine.phase ≡ k → k ≤ 4 → Turn s last (length w.rows) (seen w) (seen (by_turn s last w k))
     go zero e l =
-        let p = found w.check w.rows w.machine.want in
-        looks p (omega arith) (finds w.rows w.check.tally.used.rows w.machine.want _ p refl) (λ z. refl) (λ z. absurd (omega arith))
-        (advances s w.machine p.hit w.words w.marks w.trail (λ z. omega arith)) (λ z. refl) (λ z. absurd (omega arith)) refl
+        let p = look_up w.rows w.check.tally.rows w.machine.want in
+        looks p (omega arith) (finds w.rows w.check.tally.rows w.machine.want p refl) (λ z. refl) (λ z. absurd (omega arith))
+        (advances s w.machine p.hit w.words w.marks w.trail (λ z. omega arith)) refl refl
     go (suc zero) e l =
-        let p = found w.check w.rows w.machine.want in
-        looks p (omega arith) (finds w.rows w.check.tally.used.rows w.machine.want _ p refl) (λ z. absurd (omega arith))
+        let p = look_up w.rows w.check.tally.rows w.machine.want in
+        looks p (omega arith) (finds w.rows w.check.tally.rows w.machine.want p refl) (λ z. absurd (omega arith))
         (λ z. dies-at w.rows (with_dead w.rows p.at) p.at refl)
         (passes-id s w.machine p.hit w.words w.marks w.trail (turn-phase w.machine.phase e (omega arith) (omega arith)))
-        (λ z. absurd (omega arith)) (λ z. refl) refl
+        refl refl
     go (suc (suc zero)) e l =
-        let r = room_made w.check w.rows w.words in
-        keeps w.rows r refl refl refl e (rw (room_rows w.check w.rows w.words) at (appends-at r.rows _ r.check.tally.used.rows (row_of r.check) refl)) refl
-        (copies_at s r.check.clause.literals r.words r.check.tally.used.words) refl refl
+        keeps e (appends-at w.rows _ w.check.tally.rows (row_of w.check) refl) refl
+        (copies_at s w.check.clause.literals w.words w.check.tally.words) refl refl
     go (suc (suc (suc zero))) e l = judges e refl refl refl refl refl refl
     go (suc (suc (suc (suc zero)))) e l = reads e (takes_step s w.check w.machine.at last w.marks) refl refl refl
     go (suc (suc (suc (suc (suc k))))) e l = absurd (omega arith)
@@ -147,9 +145,9 @@ module _ (s : List ℕ) (last : ℕ) (g : State) where
 
   -- one of them
   abbrev one_deleted : State → State
-  one_deleted w = with_deletion w (id_deleted s (deletion w.check w.machine w.rows))
+  one_deleted w = with_deletion w (id_deleted s w.check.tally.rows (deletion w.machine w.rows))
 
-  deleted_turn : (w : State) → deletes (deletion w.check w.machine w.rows) ≡ true
+  deleted_turn : (w : State) → deletes (deletion w.machine w.rows) ≡ true
       → turned s last w ≡ one_deleted w
   unfolding turned
   deleted_turn w e = rw (eqb-true (turn_of w.machine.phase) 1 e)
@@ -168,33 +166,33 @@ module _ (s : List ℕ) (last : ℕ) (g : State) where
         near = f.1;
       }
 
-  delete_nearer : (w : State) → deletes (deletion w.check w.machine w.rows) ≡ true → Past w.check w.machine → Onto w
+  delete_nearer : (w : State) → deletes (deletion w.machine w.rows) ≡ true → Past w.check w.machine → Onto w
       → Nearer w (one_deleted w)
   delete_nearer w e p l =
       let h = eqb-true (turn_of w.machine.phase) 1 e in
       subst (Nearer w) (deleted_turn w e) (turn_nearer w (omega (arith, h)) p l)
 
   further : (k : ℕ) (w : State) → Past w.check w.machine → Onto w
-      → Further w (with_deletion w (while_more deletes (id_deleted s) k (deletion w.check w.machine w.rows)))
+      → Further w (with_deletion w (while_more deletes (id_deleted s w.check.tally.rows) k (deletion w.machine w.rows)))
   unfolding while_more
   further zero w p l = record { past = p; onto = l; near = omega arith }
-  further (suc k) w p l = go (further k (one_deleted w)) (deletes (deletion w.check w.machine w.rows)) refl
+  further (suc k) w p l = go (further k (one_deleted w)) (deletes (deletion w.machine w.rows)) refl
     where
-      go : (Past (one_deleted w).check (one_deleted w).machine → Onto (one_deleted w) → Further (one_deleted w) (with_deletion w (while_more deletes (id_deleted s) k (id_deleted s (deletion w.check w.machine w.rows)))))
-          → (t : Bool) → deletes (deletion w.check w.machine w.rows) ≡ t
-          → Further w (with_deletion w (cond {A = Deletion} t (while_more deletes (id_deleted s) k (id_deleted s (deletion w.check w.machine w.rows))) (deletion w.check w.machine w.rows)))
+      go : (Past (one_deleted w).check (one_deleted w).machine → Onto (one_deleted w) → Further (one_deleted w) (with_deletion w (while_more deletes (id_deleted s w.check.tally.rows) k (id_deleted s w.check.tally.rows (deletion w.machine w.rows)))))
+          → (t : Bool) → deletes (deletion w.machine w.rows) ≡ t
+          → Further w (with_deletion w (cond {A = Deletion} t (while_more deletes (id_deleted s w.check.tally.rows) k (id_deleted s w.check.tally.rows (deletion w.machine w.rows))) (deletion w.machine w.rows)))
       go ih true e =
           let n = delete_nearer w e p l in
           let f = ih n.past n.onto in record { past = f.past; onto = f.onto; near = omega (arith, f.near, n.near) }
       go ih false e = record { past = p; onto = l; near = omega arith }
 
-  pub ids_nearer : (w : State) → turn_of w.machine.phase ≡ 1 → Past w.check w.machine → Onto w → (c : Check) (m : Machine) (ys : List Row)
-      → deletion c m ys ≡ ids_deleted s w.check w.machine w.rows → Nearer w (with_deletion w (deletion c m ys))
+  pub ids_nearer : (w : State) → turn_of w.machine.phase ≡ 1 → Past w.check w.machine → Onto w → (m : Machine) (ys : List Row)
+      → deletion m ys ≡ ids_deleted s w.check.tally.rows w.machine w.rows → Nearer w (with_deletion w (deletion m ys))
   unfolding ids_deleted while_more
-  ids_nearer w h p l c m ys e = subst (λ d. Nearer w (with_deletion w d)) (sym e) (go (deletes (deletion w.check w.machine w.rows)) refl)
+  ids_nearer w h p l m ys e = subst (λ d. Nearer w (with_deletion w d)) (sym e) (go (deletes (deletion w.machine w.rows)) refl)
     where
-      go : (t : Bool) → deletes (deletion w.check w.machine w.rows) ≡ t
-          → Nearer w (with_deletion w (cond {A = Deletion} t (while_more deletes (id_deleted s) (length s) (id_deleted s (deletion w.check w.machine w.rows))) (deletion w.check w.machine w.rows)))
+      go : (t : Bool) → deletes (deletion w.machine w.rows) ≡ t
+          → Nearer w (with_deletion w (cond {A = Deletion} t (while_more deletes (id_deleted s w.check.tally.rows) (length s) (id_deleted s w.check.tally.rows (deletion w.machine w.rows))) (deletion w.machine w.rows)))
       go true t =
           let n = delete_nearer w t p l in
           let f = further (length s) (one_deleted w) n.past n.onto in record { past = f.past; onto = f.onto; near = omega (arith, f.near, n.near) }

@@ -15,9 +15,7 @@ use Rattle.hints.specs.declared.machine.Machine.{Machine}
 use Rattle.hints.specs.Machine.{turn_of, stopped, advanced, advanced_marks, advanced_trail}
 use Rattle.deletion.specs.Passed.{passed_id}
 use Rattle.turns.specs.declared.check.Check.{Check}
-use Rattle.turns.specs.Places.{first_look}
-use Rattle.turns.specs.Check.{begun, judged, row_of, kept_as, released, entered, proceeded, unwound, unwound_marks, StepTaken, step_taken, answer_of}
-use Rattle.room.specs.Room.{Made, room_made}
+use Rattle.turns.specs.Check.{begun, judged, row_of, kept_as, entered, proceeded, unwound, unwound_marks, StepTaken, step_taken, answer_of}
 
 -- the trail holds the literals that the hints of the step at hand set true, as far as it has room
 pub record State : Type 0 where
@@ -31,31 +29,25 @@ pub record State : Type 0 where
 abbrev pub state : Check → Machine → List Row → List ℕ → List ℕ → List ℕ → State
 state c m ys ws ms tr = record { check = c; machine = m; rows = ys; words = ws; marks = ms; trail = tr }
 
--- the row of an id, looked for where it should stand
-abbrev pub found : Check → List Row → ℕ → Probe
-found c ys id = look_up ys c.tally.used.rows id (first_look c.tally.places id)
-
--- Ids that are deleted: one, with the row that was found; and all, each of which takes a byte at least
+-- Ids that are deleted among the first n rows: one, with the row that was found; and all, each of which takes a byte at least
 pub record Deletion : Type 0 where
-  pub check : Check
   pub machine : Machine
   pub rows : List Row
 
-abbrev pub deletion : Check → Machine → List Row → Deletion
-deletion c m ys = record { check = c; machine = m; rows = ys }
+abbrev pub deletion : Machine → List Row → Deletion
+deletion m ys = record { machine = m; rows = ys }
 
-abbrev pub found_deleted : List ℕ → Deletion → Probe → Deletion
-found_deleted s d p =
-    deletion (released d.check p.hit) (passed_id (number s d.machine.at) d.machine p.hit) (with_dead d.rows p.at)
+abbrev pub found_deleted : List ℕ → Machine → List Row → Probe → Deletion
+found_deleted s m ys p = deletion (passed_id (number s m.at) m p.hit) (with_dead ys p.at)
 
-unfoldable pub id_deleted : List ℕ → Deletion → Deletion
-id_deleted s d = found_deleted s d (found d.check d.rows d.machine.want)
+unfoldable pub id_deleted : List ℕ → ℕ → Deletion → Deletion
+id_deleted s n d = found_deleted s d.machine d.rows (look_up d.rows n d.machine.want)
 
 abbrev pub deletes : Deletion → Bool
 deletes d = eqb (turn_of d.machine.phase) 1
 
-unfoldable pub ids_deleted : List ℕ → Check → Machine → List Row → Deletion
-ids_deleted s c m ys = while_more deletes (id_deleted s) (suc (length s)) (deletion c m ys)
+unfoldable pub ids_deleted : List ℕ → ℕ → Machine → List Row → Deletion
+ids_deleted s n m ys = while_more deletes (id_deleted s n) (suc (length s)) (deletion m ys)
 
 -- A turn, for the proof s: a clause is looked at, with the row that was found
 abbrev pub looked_at : List ℕ → State → Row → State
@@ -66,18 +58,13 @@ looked_at s w row =
 
 -- ids were deleted
 abbrev pub with_deletion : State → Deletion → State
-with_deletion w d = state d.check d.machine d.rows w.words w.marks w.trail
+with_deletion w d = state w.check d.machine d.rows w.words w.marks w.trail
 
--- the clause at hand is kept, in the rows ys: c and ws are the check and the words with it
-abbrev pub kept_with : State → List Row → Check → List ℕ → State
-kept_with w ys c ws =
-    state c (unwound c w.machine (length w.trail)) ys ws (unwound_marks c w.machine ws w.marks w.trail) w.trail
-
--- where room was made for it
-abbrev pub kept_in : List ℕ → State → Made → State
-kept_in s w r =
-    kept_with w (set r.rows r.check.tally.used.rows (row_of r.check)) (kept_as r.check)
-    (copied_at s r.check.clause.literals r.words r.check.tally.used.words)
+-- the clause at hand is kept: c and ws are the check and the words with it
+abbrev pub kept_with : State → Check → List ℕ → State
+kept_with w c ws =
+    state c (unwound c w.machine (length w.trail)) (set w.rows w.check.tally.rows (row_of w.check)) ws
+    (unwound_marks c w.machine ws w.marks w.trail) w.trail
 
 -- it was judged
 abbrev pub judged_as : State → Check → State
@@ -89,9 +76,10 @@ step_read s w x = state x.check (entered s x.check) w.rows w.words x.marks w.tra
 
 -- by the number of the turn; the variables of the proof go up to the last
 abbrev pub by_turn : List ℕ → ℕ → State → ℕ → State
-by_turn s last w zero = looked_at s w (found w.check w.rows w.machine.want).hit
-by_turn s last w (suc zero) = with_deletion w (id_deleted s (deletion w.check w.machine w.rows))
-by_turn s last w (suc (suc zero)) = kept_in s w (room_made w.check w.rows w.words)
+by_turn s last w zero = looked_at s w (look_up w.rows w.check.tally.rows w.machine.want).hit
+by_turn s last w (suc zero) = with_deletion w (id_deleted s w.check.tally.rows (deletion w.machine w.rows))
+by_turn s last w (suc (suc zero)) =
+    kept_with w (kept_as w.check) (copied_at s w.check.clause.literals w.words w.check.tally.words)
 by_turn s last w (suc (suc (suc zero))) =
     judged_as w (judged w.check w.machine.at (length s) (length w.words) (length w.rows))
 by_turn s last w (suc (suc (suc (suc zero)))) = step_read s w (step_taken s w.check w.machine.at last w.marks)

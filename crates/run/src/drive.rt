@@ -11,11 +11,9 @@ use hints::machine::{DELETE, JUDGE, KEEP, LOOK, Machine, Phase, READ, advance, s
 use lookup::find;
 use phases::next::{answer, enter, proceed};
 use reader::{moved, over, read_number};
-use room::make_room;
 use scope::CheckAnswer;
 use taking::step::next_step;
 use turns::check::{begin, judge, keep, row_of};
-use turns::places::first_look;
 use unwinding::marks::unwind;
 
 // The machine before the first step.
@@ -46,17 +44,13 @@ fn drive_with(
         r = moved(r, m.at);
         let turn = turn_of(m);
         if turn == LOOK {
-            let at = first_look(c.tally.places, m.want);
-            let p = find(rows, c.tally.used.rows, m.want, at);
+            let p = find(rows, c.tally.rows, m.want);
             let t = read_number(r);
             m = advance(m, p.hit, t, words, marks, trail);
         } else if turn == DELETE {
-            let d = delete_ids(c, m, proof, rows);
-            c = d.check;
-            m = d.machine;
+            m = delete_ids(m, proof, rows, c.tally.rows);
         } else if turn == KEEP {
-            c = make_room(c, words, rows);
-            append(rows, c.tally.used.rows, row_of(c));
+            append(rows, c.tally.rows, row_of(c));
             c = keep(c, proof, words);
             m = unwind(c, m, words, marks, trail);
         } else if turn == JUDGE {

@@ -2,7 +2,6 @@
 pub mod Hints
 pub mod Invariant
 pub mod LookMeans
-pub mod RoomMeans
 pub mod StepMeans
 pub mod ReadMeans
 pub mod Meaning

@@ -2,7 +2,7 @@
 use Rattle.std.specs.Prelude.{ℕ, zero, suc, ◌+◌, ◌-◌, cond, ◌&&◌, List, [], ◌∷◌, length, get_or, take, leb, ltb}
 use Rattle.std.proofs.Math.Option.{Option, none, some}
 use Rattle.scope.specs.Parsed.{Parsed, got, and_then, unless, cons, repeat}
-use Rattle.scope.specs.Number.{limited_by}
+use Rattle.scope.specs.Number.{number}
 
 -- a period of a day, in minutes from midnight
 pub record Period : Type 0 where
@@ -11,7 +11,8 @@ pub record Period : Type 0 where
 
 -- a number from lo to hi, else 22 with the offset of the count, period or window that it belongs to
 unfoldable pub limited_in : (place lo hi : ℕ) → List ℕ → ℕ → Parsed ℕ
-limited_in place lo hi s at = limited_by 22 place lo hi s at
+limited_in place lo hi s at =
+    and_then (number s at) (λ v next. unless (leb lo v) 22 place (unless (leb v hi) 22 place (got v next)))
 
 -- a start and an end "in minutes from 0 to 1,440, start below end, a period starting no earlier than the previous one of its day ends"
 unfoldable pub period_at : (before : ℕ) → List ℕ → ℕ → Parsed Period

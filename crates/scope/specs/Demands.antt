@@ -1,10 +1,8 @@
 -- Demands 2 and 3, what is owed for the two operations beside them, what kinds 3, 9, 10 and 11 count, idle times in one walk, what is
--- read of a solver's text, what a window stands for, and when a clause does not fit, as types over the definitions. The upper crates
--- prove them.
+-- read of a solver's text, and what a window stands for, as types over the definitions. The upper crates prove them.
 use Rattle.std.specs.Prelude.{◌≡◌, Bool, true, not, ◌&&◌, ◌||◌, cond, ◌↔◌, ℕ, ◌+◌, ◌-◌, ◌*◌, ◌≤◌, ◌<◌, length, get_or, take, leb, ltb, eqb}
-use mathlib.Core.List.{List, [], ◌∷◌, map, foldl, sum}
-use Rattle.std.proofs.Math.Option.{none, some}
-use Rattle.scope.specs.Parsed.{got, answered, refusal}
+use mathlib.Core.List.{List, [], map, foldl, sum}
+use Rattle.scope.specs.Parsed.{got, answered}
 use Rattle.scope.specs.Kinds.{preferred, idle, distribute, lengths, precedence, Atom, Listed, entries, uses_at, gaps, member, event_of, group_at, from_outside, of_length, of_length_outside, early, late, gap_outside, rules_of}
 use Rattle.scope.specs.Calendar.{Period, period_count, window_of}
 use Rattle.scope.specs.Instance.{Instance, file_up_to, parse}
@@ -17,10 +15,7 @@ use Rattle.scope.specs.Idle.{idle_times, kept_after, yes, idle_step_of}
 use Rattle.scope.specs.Formula.{node_gate, variables, hard_of, words, most_variables}
 use Rattle.scope.specs.SolverText.{model_in, model_text}
 use Rattle.scope.specs.Operations.{read_of, score_of, same_sheet_of, sizes_of, text_size_of, text_of, decode_of, part, falsified_soft, solver_text_of, check_of, check_hard_of, best_of, Lent}
-use Rattle.scope.specs.Steps.{Step, add, well_formed, follows, hints_show}
-use Rattle.scope.specs.PlainRun.{State, Limits, perform, plain_run}
-use Rattle.scope.specs.Formerly.{plain_run_formerly, check_formerly_of}
-use Rattle.scope.specs.Refutation.{Uses, NoTimetable, NoneAtAll}
+use Rattle.scope.specs.Refutation.{NoTimetable, NoneAtAll}
 use Rattle.scope.specs.declared.Objective.{Objective}
 
 -- "an accepted instance": the file gives none of 1 to 6, 19 and 22
@@ -212,26 +207,3 @@ pub record DemandCalendar : Type 0 where
   -- and where it has up to 1,024 of them, every operation answers for it as for the file itself
   pub alike : (file : List ℕ) (i : Instance) (s : List ℕ) (end : ℕ) → Accepted file i → spelled_out file ≡ got s end
       → length i.groups ≤ 1024 → Alike file s
-
--- clauses that use so many words and rows, and a new one, "need more words or more directory rows than were lent"
-pub data NeedMore (lim : Limits) (words rows : ℕ) (c : List ℕ) : Type 0 where
-  more_words : lim.words_lent < words + length c → NeedMore lim words rows c
-  more_rows : lim.rows_lent < rows + 1 → NeedMore lim words rows c
-
--- Deleted clauses' words and rows are used again
-pub record DemandPacking : Type 0 where
-  -- "At a step without 14, 15 or 16, number 17 is now given if and only if the live clauses with a new non-empty one need more .."
-  pub not_fitting : (lim : Limits) (st : State) (n id l w r : ℕ) (ls hs : List ℕ) → hints_show st.live (l ∷ ls) hs ≡ follows
-      → Uses st.live (st.highest + 1) w r → (perform lim st n (add id (l ∷ ls) hs) ≡ refusal 17 n) ↔ NeedMore lim w r (l ∷ ls)
-  -- and at no step but one whose new clause follows and is not empty
-  pub only_new : (lim : Limits) (st : State) (n : ℕ) (x : Step) → perform lim st n x ≡ refusal 17 n
-      → (id : ℕ) × (l : ℕ) × (ls : List ℕ) × (hs : List ℕ) × (x ≡ add id (l ∷ ls) hs) × (hints_show st.live (l ∷ ls) hs ≡ follows)
-  -- "a deleted id stays dead": an id up to the highest that names no live clause names none after any step
-  pub stays_dead : (lim : Limits) (st st' : State) (n : ℕ) (x : Step) → well_formed lim.last_variable st.highest x ≡ true
-      → perform lim st n x ≡ answered (some st') → (j : ℕ) → j ≤ st.highest → st.live j ≡ none
-      → (j ≤ st'.highest) × (st'.live j ≡ none)
-  -- "A proof that 17 didn't end is answered as before": by the run, and by a check
-  pub as_before : (lim : Limits) (f : List (List ℕ)) (proof : List ℕ) → ((n : ℕ) → plain_run_formerly lim f proof ≡ refusal 17 n → ⊥)
-      → plain_run lim f proof ≡ plain_run_formerly lim f proof
-  pub check_as_before : (file : List ℕ) (B : ℕ) (proof : List ℕ) (l : Lent) → ((n : ℕ) → check_formerly_of file B proof l ≡ refusal 17 n → ⊥)
-      → check_of file B proof l ≡ check_formerly_of file B proof l

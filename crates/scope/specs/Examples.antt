@@ -1,14 +1,13 @@
--- The examples of document 01 that are marked P, file A's listing, its limits, those of kinds 3, 9, 10 and 11, of idle times in one walk,
--- of solvers' texts, of calendars and of words that are used again, as tables under one theorem. A case is what the definitions compute and what the paper says, both as
--- numbers.
+-- The examples of document 01 that are marked P, file A's listing, its limits, those of kinds 3, 9, 10 and 11, of idle times in one walk
+-- and of solvers' texts, as one table under one theorem. A case is what the definitions compute and what the paper says, both as numbers.
 use Rattle.std.specs.Prelude.{◌≡◌, refl, Bool, true, false, cond, ◌||◌, ℕ, ◌+◌, ◌/◌, ◌%◌, length, take, replicate, eqb, ltb}
 use mathlib.Core.List.{List, [], ◌∷◌, ◌++◌, map, flat_map}
 use Rattle.scope.specs.Parsed.{Parsed, got, refused, Answer, answered, refusal, repeat}
-use Rattle.scope.specs.Number.{group, front, within, number, limited_by, limited, reference, references, listed}
+use Rattle.scope.specs.Number.{group, front, within, number, limited, reference, references, listed}
 use Rattle.scope.specs.Kinds.{Atom, Y, S, X, Rule, rule, Listed, atom, entries_nodes, entries_members, entries, spread, limit, up_to, uses_at, from, member, users_from, outside, group_at, gaps_after, gaps, reached, reaches_nodes, reaches_members, from_outside, going_on, span, time_by_time, of_length, of_length_outside, or_more, or_chain, down, begun, too_soon, lasting, too_late, either_way, gap_outside, counted_of, rules_of, longest}
 use Rattle.scope.specs.Instance.{event_at, fields_read, fields_table, ended, constraint_at, times_at, sizes_at, groups_at, all_groups_at, constraints_at, file_up_to, parse}
 use Rattle.scope.specs.Calendar.{Period, limited_in, period_at, periods_at, day_at, period_count, calendar_at, shown, window_of, window_at, windows_at}
-use Rattle.scope.specs.SpelledOut.{spelt as speltBytes, spelled_out}
+use Rattle.scope.specs.SpelledOut.{spelt as spelt_bytes, spelled_out}
 use Rattle.scope.specs.Cnf.{pos, Item, gate, bit, lit, clause, clauses, has_true, without_false, tidy, pairs, gate_clauses, hard_clauses, soft_units, falsified}
 use Rattle.scope.specs.Score.{layout_at, var_at, trues, any, all, deviation, charged, values_after, count, deviations, truth, event_right, first_wrong, infeasibility_of, objective_of, first_above}
 use Rattle.scope.specs.Subevents.{before, subevents, held_from, times_held, lengths_from}
@@ -18,9 +17,8 @@ use Rattle.scope.specs.Formula.{ref_literal, node_gate, no_row, ones, row, count
 use Rattle.scope.specs.Text.{digits, literal_text, line, sum_weights, top, header_line, text}
 use Rattle.scope.specs.SolverText.{until, lines_after, words_after, tokens, numeral, word_of, gathered, times_given, not_once, model_in, literals_from, model_text}
 use Rattle.scope.specs.Steps.{numbers, step_at, literals_ok, well_formed, hints_show, deleted}
-use Rattle.scope.specs.PlainRun.{used_below, perform, run, start, plain_run}
+use Rattle.scope.specs.PlainRun.{perform, run, start, plain_run}
 use Rattle.scope.specs.Operations.{Lent, read_of, score_of, same_bytes, same_sheet_of, sizes_of, text_size_of, text_of, program_prints, lowest_false, decode_of, solver_text_of, formula_fits, check_of, check_hard_of, best_of}
-use Rattle.scope.specs.Formerly.{perform_formerly, run_formerly, plain_run_formerly, check_formerly_of}
 use Rattle.scope.specs.declared.Infeasibility.{Infeasibility}
 use Rattle.scope.specs.declared.Objective.{Objective}
 use Rattle.scope.specs.declared.InstanceSize.{InstanceSize}
@@ -252,10 +250,8 @@ pub record Case : Type 0 where
 abbrev shows : List ℕ → List ℕ → Case
 shows c e = record { computed = c; expected = e }
 
--- Each table is shown by itself, since one that is refused takes time by its length.
--- Document 01: A's text, numbers, scores, models, proofs, bounds, counters, limits
-pub paper_cases : List Case
-paper_cases =
+pub cases : List Case
+cases =
     -- A's text
     shows (program_prints file_a) listing_a
     -- 80 01 is 128; 80 00 gives 1
@@ -322,13 +318,8 @@ paper_cases =
     ∷ shows (size_said (read_of (list_file 255))) (0 ∷ 1 ∷ 1 ∷ 1 ∷ 255 ∷ 1 ∷ [])
     ∷ shows (size_said (read_of (list_file 256))) (4 ∷ 264 ∷ [])
     ∷ shows (check_a 4096 []) (7 ∷ 4096 ∷ [])
-    ∷ []
-
--- kinds 9, 10, 3 and 11, and idle times in one walk (orders 1 to 4)
-pub kind_cases : List Case
-kind_cases =
     -- two doubles and a single, the last after a gap; a triple and a double: one double, one single and one length outside are wrong
-    shows (score_said (score_of doubles (1 ∷ 1 ∷ 1 ∷ 1 ∷ 0 ∷ 1 ∷ 1 ∷ 0 ∷ 1 ∷ 0 ∷ 0 ∷ 1 ∷ []))) (0 ∷ 0 ∷ 0 ∷ [])
+    ∷ shows (score_said (score_of doubles (1 ∷ 1 ∷ 1 ∷ 1 ∷ 0 ∷ 1 ∷ 1 ∷ 0 ∷ 1 ∷ 0 ∷ 0 ∷ 1 ∷ []))) (0 ∷ 0 ∷ 0 ∷ [])
     ∷ shows (score_said (score_of doubles (1 ∷ 1 ∷ 1 ∷ 0 ∷ 1 ∷ 1 ∷ 1 ∷ 0 ∷ 0 ∷ 0 ∷ 1 ∷ 0 ∷ []))) (0 ∷ 3 ∷ 0 ∷ [])
     -- a double at the last two times; two singles side by side are no double; a length above the duration counts 0
     ∷ shows (score_said (score_of (soft_nine 6 2 2 1 1) (0 ∷ 0 ∷ 0 ∷ 0 ∷ 1 ∷ 1 ∷ 0 ∷ 0 ∷ 0 ∷ 0 ∷ 1 ∷ 0 ∷ []))) (0 ∷ 0 ∷ 0 ∷ [])
@@ -407,14 +398,9 @@ kind_cases =
     -- any value for yes; what does not fit is given as the largest number
     ∷ shows (kept_said (idle_step_of 7 3 9 0) ++ kept_said (idle_step_of 7 3 9 5)) (7 ∷ 4 ∷ 1 ∷ 10 ∷ 0 ∷ 1 ∷ [])
     ∷ shows (kept_said (idle_step_of 4294967295 1 1 1) ++ kept_said (idle_step_of 5 4294967295 1 0)) (4294967295 ∷ 0 ∷ 1 ∷ 5 ∷ 4294967295 ∷ 1 ∷ [])
-    ∷ []
-
--- what a solver prints (order 5)
-pub text_cases : List Case
-text_cases =
     -- A's one model, from "v 1 2 3 4 0" with its line's end, without the 0, without the end; from two lines with others before, between
     -- and after them, the last an empty v line
-    shows (solver_a (v_one_two ++ three_four ++ then_zero ++ 10 ∷ [])) (0 ∷ 1 ∷ 1 ∷ 1 ∷ 1 ∷ 2 ∷ 4 ∷ [])
+    ∷ shows (solver_a (v_one_two ++ three_four ++ then_zero ++ 10 ∷ [])) (0 ∷ 1 ∷ 1 ∷ 1 ∷ 1 ∷ 2 ∷ 4 ∷ [])
     ∷ shows (solver_a (v_one_two ++ three_four ++ 10 ∷ [])) (0 ∷ 1 ∷ 1 ∷ 1 ∷ 1 ∷ 2 ∷ 4 ∷ [])
     ∷ shows (solver_a (v_one_two ++ three_four)) (0 ∷ 1 ∷ 1 ∷ 1 ∷ 1 ∷ 2 ∷ 4 ∷ [])
     ∷ shows
@@ -457,6 +443,11 @@ text_cases =
     ∷ shows (solver_a (118 ∷ 32 ∷ 45 ∷ 49 ∷ 32 ∷ 50 ∷ three_four)) (13 ∷ 1 ∷ [])
     ∷ []
 
+-- the definitions compute what the paper says
+pub examples : map (λ c. c.computed) cases ≡ map (λ c. c.expected) cases
+unfolding repeat group front within number limited reference references listed from member users_from outside gaps_after gaps reached reaches_nodes reaches_members from_outside going_on span time_by_time of_length of_length_outside or_more or_chain down begun too_soon lasting too_late either_way gap_outside taken_among gap_within entries_nodes entries_members counted_of longest event_at fields_read fields_table ended constraint_at times_at sizes_at groups_at all_groups_at constraints_at file_up_to parse bit lit clause clauses has_true without_false tidy pairs gate_clauses hard_clauses soft_units falsified trues any all deviation charged values_after count deviations truth event_right first_wrong infeasibility_of objective_of first_above row counter last_row low_units high_units short_units bound_items count_into rule_items rules_items starts uses duration_rules constraint_rules formula variables hard_of soft_of tail bounded bounded_variables bounded_hard words digits literal_text line sum_weights top header_line text numbers step_at literals_ok well_formed hints_show deleted perform run start plain_run read_of score_of same_bytes same_sheet_of sizes_of text_size_of text_of program_prints lowest_false decode_of until lines_after words_after tokens numeral word_of gathered times_given not_once model_in literals_from model_text solver_text_of formula_fits check_of check_hard_of best_of file_a file_hard_a file_free proof_a listing_a number_said steps_said score_said decode_said solver_said best_said size_said ample check_a room_a best_a lent_a solver_a v_one_two three_four then_zero busy_times start_at1 counter3 holds3 times_file spelt list_file six idle_six before subevents held_from times_held lengths_from idle_times kept_after drawn kept_said length_file preferred_file chain_listing both_listing members_of doubles soft_nine read_nine read_ten node_listing nine_listing ten_listing three_starts gap_file read_eleven gap_score spaced gap_listing cases flat_map
+examples = refl
+
 -- two periods on the first day, one on the second
 few_days : List (List Period)
 few_days =
@@ -485,7 +476,7 @@ bytes_said : Parsed (List ℕ) → List ℕ
 bytes_said (got bs end) = bs
 bytes_said (refused k v) = k ∷ v ∷ []
 
--- calendars and windows (order 6)
+-- calendars and windows: a table of its own, since a table that is refused takes time by its length
 pub calendar_cases : List Case
 calendar_cases =
     -- a window shows the periods that lie within it, both ends included, by their times: none that only overlaps it
@@ -531,48 +522,6 @@ calendar_cases =
     ∷ shows (score_said (score_of file_spelled (1 ∷ 1 ∷ 0 ∷ 1 ∷ 0 ∷ 0 ∷ []))) (0 ∷ 0 ∷ 7 ∷ [])
     ∷ []
 
--- a step that adds the clause (3) of A, under an id; a step that deletes one id
-adds_three : ℕ → List ℕ
-adds_three id = 0x61 ∷ id ∷ 0x06 ∷ 0x00 ∷ 0x05 ∷ 0x00 ∷ []
-
-deletes : ℕ → List ℕ
-deletes id = 0x64 ∷ id ∷ 0x00 ∷ []
-
--- a proof for A at bound 3, which needs 30 words and 16 rows, with so many words and rows lent; and before order 7
-lent_for : ℕ → ℕ → Lent
-lent_for w r = record { words = w; rows = r; bytes = 8 }
-
-packed_a : (w r : ℕ) → List ℕ → List ℕ
-packed_a w r proof = steps_said (check_of file_a 3 proof (lent_for w r))
-
-formerly_a : (w r : ℕ) → List ℕ → List ℕ
-formerly_a w r proof = steps_said (check_formerly_of file_a 3 proof (lent_for w r))
-
--- words and rows that are used again (order 7)
-pub packing_cases : List Case
-packing_cases =
-    -- clause 1, of two words, makes room for two clauses of one word; an added clause for the next one; before order 7 it did not
-    shows (packed_a 30 17 (deletes 0x01 ++ adds_three 0x11 ++ adds_three 0x12)) (18 ∷ 3 ∷ [])
-    ∷ shows (formerly_a 30 17 (deletes 0x01 ++ adds_three 0x11 ++ adds_three 0x12)) (17 ∷ 2 ∷ [])
-    ∷ shows (packed_a 31 17 (adds_three 0x11 ++ deletes 0x11 ++ adds_three 0x12)) (18 ∷ 3 ∷ [])
-    ∷ shows (formerly_a 31 17 (adds_three 0x11 ++ deletes 0x11 ++ adds_three 0x12)) (17 ∷ 3 ∷ [])
-    -- rows alone are short, then words alone; clause 2, of two words, makes room for two clauses, not for three
-    ∷ shows (packed_a 32 17 (adds_three 0x11 ++ adds_three 0x12)) (17 ∷ 2 ∷ [])
-    ∷ shows (packed_a 31 18 (adds_three 0x11 ++ adds_three 0x12)) (17 ∷ 2 ∷ [])
-    ∷ shows (packed_a 30 17 (adds_three 0x11)) (17 ∷ 1 ∷ [])
-    ∷ shows (packed_a 30 20 (deletes 0x02 ++ adds_three 0x11 ++ adds_three 0x12 ++ adds_three 0x13)) (17 ∷ 4 ∷ [])
-    -- a deleted id stays dead: it is not given again, not a hint, not deleted again
-    ∷ shows (packed_a 31 17 (adds_three 0x11 ++ deletes 0x11 ++ adds_three 0x11)) (14 ∷ 3 ∷ [])
-    ∷ shows (packed_a 31 17 (adds_three 0x11 ++ deletes 0x11 ++ 0x61 ∷ 0x12 ∷ 0x06 ∷ 0x00 ∷ 0x11 ∷ 0x00 ∷ [])) (15 ∷ 3 ∷ [])
-    ∷ shows (packed_a 31 17 (adds_three 0x11 ++ deletes 0x11 ++ adds_three 0x12 ++ deletes 0x11)) (15 ∷ 4 ∷ [])
-    -- the empty clause needs no room
-    ∷ shows (packed_a 30 16 (proof_a 0x11)) (0 ∷ 1 ∷ [])
-    ∷ []
-
--- the definitions compute what the paper says
-abbrev Shown : List Case → Type 0
-Shown cs = map (λ c. c.computed) cs ≡ map (λ c. c.expected) cs
-
-pub examples : Shown paper_cases × Shown kind_cases × Shown text_cases × Shown calendar_cases × Shown packing_cases
-unfolding repeat group front within number limited_by limited reference references listed from member users_from outside gaps_after gaps reached reaches_nodes reaches_members from_outside going_on span time_by_time of_length of_length_outside or_more or_chain down begun too_soon lasting too_late either_way gap_outside taken_among gap_within entries_nodes entries_members counted_of longest event_at fields_read fields_table ended constraint_at times_at sizes_at groups_at all_groups_at constraints_at file_up_to parse bit lit clause clauses has_true without_false tidy pairs gate_clauses hard_clauses soft_units falsified trues any all deviation charged values_after count deviations truth event_right first_wrong infeasibility_of objective_of first_above row counter last_row low_units high_units short_units bound_items count_into rule_items rules_items starts uses duration_rules constraint_rules formula variables hard_of soft_of tail bounded bounded_variables bounded_hard words digits literal_text line sum_weights top header_line text numbers step_at literals_ok well_formed hints_show deleted used_below perform run start plain_run perform_formerly run_formerly plain_run_formerly check_formerly_of read_of score_of same_bytes same_sheet_of sizes_of text_size_of text_of program_prints lowest_false decode_of until lines_after words_after tokens numeral word_of gathered times_given not_once model_in literals_from model_text solver_text_of formula_fits check_of check_hard_of best_of file_a file_hard_a file_free proof_a listing_a number_said steps_said score_said decode_said solver_said best_said size_said ample check_a room_a best_a lent_a solver_a v_one_two three_four then_zero busy_times start_at1 counter3 holds3 times_file spelt list_file six idle_six before subevents held_from times_held lengths_from idle_times kept_after drawn kept_said length_file preferred_file chain_listing both_listing members_of doubles soft_nine read_nine read_ten node_listing nine_listing ten_listing three_starts gap_file read_eleven gap_score spaced gap_listing flat_map limited_in period_at periods_at day_at period_count calendar_at shown window_of window_at windows_at speltBytes spelled_out bytes_said few_days one_period file_window file_spelled calendar_cases paper_cases kind_cases text_cases adds_three deletes lent_for packed_a formerly_a packing_cases
-examples = (refl, refl, refl, refl, refl)
+pub calendar-examples : map (λ c. c.computed) calendar_cases ≡ map (λ c. c.expected) calendar_cases
+unfolding repeat group front within number limited reference references listed from member users_from gaps_after gaps entries_nodes entries_members counted_of longest event_at fields_read fields_table ended constraint_at times_at sizes_at groups_at all_groups_at constraints_at file_up_to parse limited_in period_at periods_at day_at period_count calendar_at shown window_of window_at windows_at spelt_bytes spelled_out from_outside reached reaches_nodes reaches_members bit trues any all deviation charged values_after count deviations truth event_right first_wrong infeasibility_of objective_of first_above read_of score_of size_said score_said bytes_said few_days one_period file_window file_spelled calendar_cases flat_map
+calendar-examples = refl

@@ -15,7 +15,6 @@ pub mod SolverText
 pub mod Steps
 pub mod PlainRun
 pub mod Operations
-pub mod Formerly
 pub mod Answers
 pub mod Spelling
 pub mod Refutation

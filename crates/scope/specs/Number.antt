@@ -34,13 +34,9 @@ number_from at (whole v n) = got v (at + n)
 unfoldable pub number : List ℕ → ℕ → Parsed ℕ
 number s at = number_from at (within (front (drop at s)))
 
--- a number from lo to hi, else refusal k with the value x
-unfoldable pub limited_by : (k x lo hi : ℕ) → List ℕ → ℕ → Parsed ℕ
-limited_by k x lo hi s at = and_then (number s at) (λ v next. unless (leb lo v) k x (unless (leb v hi) k x (got v next)))
-
--- else 2 with its own offset
-unfoldable pub limited : (lo hi : ℕ) → List ℕ → ℕ → Parsed ℕ
-limited lo hi s at = limited_by 2 at lo hi s at
+-- a number within its limits, else 2
+unfoldable pub limited : ℕ → ℕ → List ℕ → ℕ → Parsed ℕ
+limited lo hi s at = and_then (number s at) (λ v next. unless (leb lo v) 2 at (unless (leb v hi) 2 at (got v next)))
 
 -- a reference to one of n things, above the one before it, else 3
 unfoldable pub reference : ℕ → ℕ → List ℕ → ℕ → Parsed ℕ

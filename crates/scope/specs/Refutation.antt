@@ -1,6 +1,6 @@
 -- When a proof refutes a formula: the words of demand 3 and document 01 as relations, with none of the plain run's functions in
 -- them.
-use Rattle.std.specs.Prelude.{◌≡◌, ◌≢◌, ℕ, suc, ◌+◌, ◌/◌, ◌≤◌, ◌<◌, length, get_or}
+use Rattle.std.specs.Prelude.{◌≡◌, ◌≢◌, ℕ, ◌+◌, ◌/◌, ◌≤◌, ◌<◌, length, get_or}
 use mathlib.Core.List.{List, [], ◌∷◌, ◌++◌, map, flat_map, Memᴰ}
 use Rattle.std.proofs.Math.Option.{none, some}
 use Rattle.scope.specs.Cnf.{opp}
@@ -53,30 +53,25 @@ pub data Deletes : Live → List ℕ → Live → Type 0 where
   one_id : {L L' L'' : Live} {d : ℕ} {c ds : List ℕ} → L d ≡ some c → L' d ≡ none → Differs d L L' → Deletes L' ds L''
       → Deletes L (d ∷ ds) L''
 
--- what the live clauses with ids below a number use: "a word for each literal and one row"
-pub data Uses (L : Live) : (below words rows : ℕ) → Type 0 where
-  no_clause : Uses L 0 0 0
-  dead : {n w r : ℕ} → L n ≡ none → Uses L n w r → Uses L (suc n) w r
-  alive : {n w r : ℕ} {c : List ℕ} → L n ≡ some c → Uses L n w r → Uses L (suc n) (w + length c) (r + 1)
-
--- "A step a whose clause follows makes that clause live under its id. Unless empty, .. it fits if [the live clauses and the new one
--- use] no more .. than were lent. .. Each step counts one."
+-- "A step a whose clause follows makes that clause live under its id. Unless empty, the clause uses a word for each literal and
+-- one row; it fits if no more are then used than were lent. .. Each step counts one."
 pub record Adds (lim : Limits) (st : State) (id : ℕ) (c hs : List ℕ) (st' : State) : Type 0 where
   pub follows : Follows st.live c hs
   pub live : st'.live id ≡ some c
   pub others : Differs id st.live st'.live
   pub highest : st'.highest ≡ id
-  pub words : ℕ
-  pub rows : ℕ
-  pub used : Uses st.live (st.highest + 1) words rows
-  pub word_room : words + length c ≤ lim.words_lent
-  pub row_room : rows + 1 ≤ lim.rows_lent
+  pub words : st'.words_used ≡ st.words_used + length c
+  pub rows : st'.rows_used ≡ st.rows_used + 1
+  pub word_room : st'.words_used ≤ lim.words_lent
+  pub row_room : st'.rows_used ≤ lim.rows_lent
   pub steps : st'.steps ≡ st.steps + 1
 
 -- a step d changes only what is live, and counts one
 pub record Drops (st : State) (ids : List ℕ) (st' : State) : Type 0 where
   pub live : Deletes st.live ids st'.live
   pub highest : st'.highest ≡ st.highest
+  pub words : st'.words_used ≡ st.words_used
+  pub rows : st'.rows_used ≡ st.rows_used
   pub steps : st'.steps ≡ st.steps + 1
 
 -- what a step that adds no empty clause leaves
@@ -91,12 +86,14 @@ pub data Refutes (lim : Limits) : State → List Step → Type 0 where
   onward : {st st' : State} {s : Step} {ss : List Step} → WellFormed lim.last_variable st.highest s → Leaves lim st s st'
       → Refutes lim st' ss → Refutes lim st (s ∷ ss)
 
--- "It starts with the formula alone live, its last id the highest, no step counted."
+-- "It starts with the formula alone live, its words and rows used, its last id the highest, no step counted."
 pub record Starts (f : List (List ℕ)) (st : State) : Type 0 where
   pub live : (n : ℕ) → n < length f → st.live (n + 1) ≡ some (get_or f n [])
   pub no_zero : st.live 0 ≡ none
   pub alone : (n : ℕ) → length f < n → st.live n ≡ none
   pub highest : st.highest ≡ length f
+  pub words : st.words_used ≡ length (flat_map (λ c. c) f)
+  pub rows : st.rows_used ≡ length f
   pub steps : st.steps ≡ 0
 
 -- a formula f with variables up to the last is refuted by a proof of n steps

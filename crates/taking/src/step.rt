@@ -25,15 +25,11 @@ pub fn next_step(c: Check, at: usize, proof: &[u8], last: usize, marks: &mut [u8
         return in_phase(c, Phase::Refused(BAD_END));
     }
     let old = c.tally;
-    let used = old.used;
-    let live = old.live;
-    let places = old.places;
     let tally = Tally {
         steps: next_number(old.steps),
         highest: old.highest,
-        used,
-        live,
-        places,
+        rows: old.rows,
+        words: old.words,
     };
     let none = c.clause;
     let read = read_step(proof, at, old.highest, last, marks);

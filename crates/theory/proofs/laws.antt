@@ -1,7 +1,5 @@
 -- Laws, for other crates to use.
 pub mod Readings
-pub mod Room
-pub mod Formerly
 pub mod Accepted
 pub mod Outputs
 pub mod LastRow

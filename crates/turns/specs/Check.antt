@@ -16,22 +16,13 @@ use Rattle.turns.specs.declared.check.Check.{Check}
 use Rattle.steps.specs.Step.{step_at}
 use Rattle.hints.specs.Machine.{stopped, onward}
 use Rattle.trail.specs.Recorded.{largest}
-use Rattle.packing.specs.Extent.{grown, shrunk}
-use Rattle.turns.specs.Places.{standing, one_less}
 
 -- before the first step, with a formula of so many rows and words
 abbrev pub begun : ℕ → ℕ → Check
 begun rows words =
     record {
       phase = Next;
-      tally =
-          record {
-            steps = 0;
-            highest = rows;
-            used = record { rows = rows; words = words };
-            live = record { rows = rows; words = words };
-            places = standing rows;
-          };
+      tally = record { steps = 0; highest = rows; rows = rows; words = words };
       clause = record { id = 0; literals = 0; size = 0; hints = 0 };
     }
 
@@ -39,18 +30,18 @@ abbrev pub with_phase : Check → Phase → Check
 with_phase c p = record { phase = p; tally = c.tally; clause = c.clause }
 
 -- the clause at hand follows, and what comes after its step stands at an offset: the empty clause ends the proof, another is
--- kept if it and the live ones fit
+-- kept if it fits
 unfoldable pub verdict : Check → ℕ → ℕ → ℕ → ℕ → Phase
 verdict c at bytes words rows =
     cond (eqb c.clause.size 0) (cond (ltb at bytes) (Refused 18) Proved)
-    (cond (leb (c.tally.live.words + c.clause.size) words && leb (c.tally.live.rows + 1) rows) Keep (Refused 17))
+    (cond (leb (c.tally.words + c.clause.size) words && leb (c.tally.rows + 1) rows) Keep (Refused 17))
 
 abbrev pub judged : Check → ℕ → ℕ → ℕ → ℕ → Check
 judged c at bytes words rows = with_phase c (verdict c at bytes words rows)
 
 -- the row of the clause at hand
 abbrev pub row_of : Check → Row
-row_of c = new_row c.clause.id c.tally.used.words c.clause.size
+row_of c = new_row c.clause.id c.tally.words c.clause.size
 
 -- the clause at hand was stored, and is counted
 abbrev pub kept_as : Check → Check
@@ -61,26 +52,11 @@ kept_as c =
           record {
             steps = c.tally.steps;
             highest = c.clause.id;
-            used = grown c.tally.used c.clause.size;
-            live = grown c.tally.live c.clause.size;
-            places = c.tally.places;
+            rows = min (c.tally.rows + 1) largest;
+            words = min (c.tally.words + c.clause.size) largest;
           };
       clause = c.clause;
     }
-
--- the clause of a row was deleted
-abbrev pub released_from : Tally → Row → Tally
-released_from t row =
-    record {
-      steps = t.steps;
-      highest = t.highest;
-      used = t.used;
-      live = shrunk t.live row.len;
-      places = one_less t.places row.id;
-    }
-
-abbrev pub released : Check → Row → Check
-released c row = record { phase = c.phase; tally = released_from c.tally row; clause = c.clause }
 
 -- a walk over the ids at an offset, where x is the number there
 abbrev pub first_id : Phase → Phase → ℕ → Parsed ℕ → Machine
@@ -112,11 +88,11 @@ unwound c m k = cond (leb m.set k) (stopped Next m.at) (record { phase = Wipe; a
 unfoldable pub unwound_marks : Check → Machine → List ℕ → List ℕ → List ℕ → List ℕ
 unwound_marks c m ws ms tr =
     cond (leb m.set (length tr))
-    (wiped (wiped ms (part (c.tally.used.words - c.clause.size) c.clause.size ws)) (part 0 m.set tr)) ms
+    (wiped (wiped ms (part (c.tally.words - c.clause.size) c.clause.size ws)) (part 0 m.set tr)) ms
 
 -- one step more
 abbrev pub counted : Tally → Tally
-counted t = record { steps = min (t.steps + 1) largest; highest = t.highest; used = t.used; live = t.live; places = t.places }
+counted t = record { steps = min (t.steps + 1) largest; highest = t.highest; rows = t.rows; words = t.words }
 
 -- a step was read
 abbrev pub stepped : Check → Read → Check

@@ -1,25 +1,21 @@
 // A check between two walks over ids: what is counted, and the clause at hand.
-ghost use Rattle.std.specs.Prelude.{◌≡◌};
+ghost use Rattle.std.specs.Prelude.{◌≡◌, ◌+◌, min};
 ghost use Rattle.copying.specs.Copies.{copied_at};
-ghost use Rattle.turns.specs.Check.{begun, with_phase, judged, row_of, kept_as, released};
+ghost use Rattle.turns.specs.Check.{begun, with_phase, judged, row_of, kept_as};
 
-use crate::places::{Places, all_stand, one_less};
 use copying::literals::copy_literals;
-use directory::{Row, id_of, new_row, word_count};
+use directory::{Row, new_row};
 use hints::machine::Phase;
-use packing::extent::{Extent, grown, shrunk};
 use scope::refusals::{BAD_END, CLAUSE_TOO_LONG};
 use steps::step::Clause;
 
-// Steps, the one at hand counted; the highest id; the rows and words in use, with those of dead clauses that were not packed away; the
-// rows and words of the live clauses; where rows stand.
+// Steps, the one at hand counted; the highest id; rows and words in use.
 #[derive(Drop)]
 pub struct Tally {
     pub steps: u64,
     pub highest: usize,
-    pub used: Extent,
-    pub live: Extent,
-    pub places: Places,
+    pub rows: usize,
+    pub words: usize,
 }
 
 // What comes next, what is counted, and the clause at hand; for a step that deletes, its hints are where the ids stand.
@@ -30,6 +26,16 @@ pub struct Check {
     pub clause: Clause,
 }
 
+// A sum that stays at the largest number.
+fn sum(a: usize, b: usize) -> usize
+    ensures { result ≡ min (a + b) 18446744073709551615 }
+{
+    if 18446744073709551615 - a < b {
+        return 18446744073709551615;
+    }
+    a + b
+}
+
 // Before the first step, with a formula of so many rows and words.
 pub fn begin(rows: usize, words: usize) -> Check
     ensures { result ≡ begun rows words }
@@ -37,9 +43,8 @@ pub fn begin(rows: usize, words: usize) -> Check
     let tally = Tally {
         steps: 0,
         highest: rows,
-        used: Extent { rows, words },
-        live: Extent { rows, words },
-        places: all_stand(rows),
+        rows,
+        words,
     };
     let clause = Clause {
         id: 0,
@@ -68,26 +73,25 @@ pub fn in_phase(c: Check, phase: Phase) -> Check
 }
 
 // The clause at hand follows, and what comes after its step stands at an offset. The empty clause ends the proof; another is
-// kept if it and the live ones fit the words and rows that are lent.
+// kept if it fits the words and rows that are lent.
 pub fn judge(c: Check, at: usize, bytes: usize, words: usize, rows: usize) -> Check
     ensures { result ≡ judged c at bytes words rows }
 {
     let clause = c.clause;
     let tally = c.tally;
-    let live = tally.live;
     if clause.size == 0 {
         if at < bytes {
             return in_phase(c, Phase::Refused(BAD_END));
         }
         return in_phase(c, Phase::Proved);
     }
-    if words < live.words {
+    if words < tally.words {
         return in_phase(c, Phase::Refused(CLAUSE_TOO_LONG));
     }
-    if words - live.words < clause.size {
+    if words - tally.words < clause.size {
         return in_phase(c, Phase::Refused(CLAUSE_TOO_LONG));
     }
-    if rows <= live.rows {
+    if rows <= tally.rows {
         return in_phase(c, Phase::Refused(CLAUSE_TOO_LONG));
     }
     in_phase(c, Phase::Keep)
@@ -99,54 +103,25 @@ pub fn row_of(c: Check) -> Row
 {
     let clause = c.clause;
     let tally = c.tally;
-    let used = tally.used;
-    new_row(clause.id, used.words, clause.size)
+    new_row(clause.id, tally.words, clause.size)
 }
 
 // The clause at hand is stored, and counted.
 pub fn keep(c: Check, proof: &[u8], words: &mut [u32]) -> Check
     ensures value { result ≡ kept_as c }
-    ensures words_after { words.new ≡ copied_at proof.now c.clause.literals words.old c.tally.used.words }
+    ensures words_after { words.new ≡ copied_at proof.now c.clause.literals words.old c.tally.words }
 {
     let clause = c.clause;
     let old = c.tally;
-    let used = old.used;
-    let live = old.live;
-    let places = old.places;
-    copy_literals(proof, clause.literals, words, used.words);
+    copy_literals(proof, clause.literals, words, old.words);
     let tally = Tally {
         steps: old.steps,
         highest: clause.id,
-        used: grown(used, clause.size),
-        live: grown(live, clause.size),
-        places,
+        rows: sum(old.rows, 1),
+        words: sum(old.words, clause.size),
     };
     Check {
         phase: Phase::Wipe,
-        tally,
-        clause,
-    }
-}
-
-// The clause of a row was deleted: its room is free.
-pub fn release(c: Check, row: Row) -> Check
-    ensures { result ≡ released c row }
-{
-    let old = c.tally;
-    let phase = c.phase;
-    let clause = c.clause;
-    let used = old.used;
-    let live = old.live;
-    let places = old.places;
-    let tally = Tally {
-        steps: old.steps,
-        highest: old.highest,
-        used,
-        live: shrunk(live, word_count(row)),
-        places: one_less(places, id_of(row)),
-    };
-    Check {
-        phase,
         tally,
         clause,
     }

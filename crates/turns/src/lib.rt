@@ -1,3 +1,2 @@
 // A check between two walks over ids: what is counted, the clause at hand, and what each step does to them. specs/ says what.
 pub mod check;
-pub mod places;

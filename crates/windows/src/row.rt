@@ -1,13 +1,13 @@
 // A window becomes a group: one walk over the row of its day.
 ghost use Rattle.std.specs.Prelude.{◌≡◌, cond, length};
 ghost use Rattle.tables.specs.Rows.{row_of};
-ghost use Rattle.windows.specs.Window.{fits as fitsIn, in_window};
+ghost use Rattle.windows.specs.Window.{fits as fits_in, in_window};
 
 use calendar::Period;
 
 // 1 if there is a period and it lies within the window, else 0.
 fn fits(p: Period, from: u32, to: u32) -> usize
-    ensures { result ≡ cond (fitsIn from to p) 1 0 }
+    ensures { result ≡ cond (fits_in from to p) 1 0 }
 {
     if p.time == 0 {
         return 0;

@@ -764,12 +764,9 @@ fn mistakes_that_the_cases_let_pass() {
         Mistake::OrderAfterTheDay,
         Mistake::StartOf1440RefusedAtOnce,
         Mistake::OnlyWithTheFirstPeriodCompared,
-        Mistake::LimitsAfterTo,
-        Mistake::OverlappingPeriods,
         Mistake::PeriodsThatStartInside,
-        Mistake::PeriodsThatEndInside,
-        Mistake::TimesOfADayFrom1,
         Mistake::TimesByTheClock,
+        Mistake::WindowsBackwards,
     ];
     assert_eq!(missed, expected);
 }

@@ -12,7 +12,7 @@ use testing::generate::{
 use testing::prover::{clause_list, solve, Verdict};
 use testing::reference::{Instance, Kind, Objective, Refusal, Sizes};
 use testing::steps::{encode_steps, Step};
-use timetable::proof::{added as counted, Room};
+use timetable::proof::{room, Room};
 
 /// Shapes with at most 12 variables Y and S.
 fn shapes() -> [Shape; 5] {
@@ -256,9 +256,7 @@ fn stores_that_just_fit(file: &[u8], bound: u64, steps: &[Step]) {
         words: (words - sizes.words) as usize,
         rows: (rows - sizes.clauses) as usize,
     };
-    // Nothing is deleted, so that all are live at the end.
-    let counted = counted(&proof);
-    assert_eq!((counted.all, counted.live), (added, added));
+    assert_eq!(room(&proof), added);
     let run = |words, rows| check(file, bound, &proof, words, rows, sizes.variables);
     assert_eq!(run(words, rows), Ok(steps.len() as u64));
     let refusal = match last {

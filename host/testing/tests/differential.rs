@@ -17,13 +17,13 @@ use support::both::{
 use support::{long_list, oversized, same_event};
 use testing::forgeries::forgeries;
 use testing::generate::{
-    churned, damaged_bytes, damaged_calendar, damaged_instance, damaged_numbers, damaged_table,
-    damaged_text, encode, idle_limits_in_windows, in_clock_time, instance, lent, model,
-    naming_dead, printed, proof, school_of_every_kind, timetable, wrapped, Random, Shape,
+    damaged_bytes, damaged_calendar, damaged_instance, damaged_numbers, damaged_table,
+    damaged_text, encode, idle_limits_in_windows, in_clock_time, instance, lent, model, printed,
+    proof, school_of_every_kind, timetable, wrapped, Random, Shape,
 };
 use testing::prover::{clause_list, solve, Verdict};
-use testing::reference::{self, Instance, Literal, Refusal, Sizes};
-use testing::steps::{decode_steps, encode_steps, least, needs, with_deletions, with_gaps, Step};
+use testing::reference::{self, Instance, Refusal, Sizes};
+use testing::steps::{encode_steps, with_deletions, with_gaps};
 use timetable::engine;
 
 /// Cases of a run where a call takes some microseconds, and where it walks over
@@ -160,14 +160,12 @@ fn proofs_are_checked_alike() {
         let [words, rows, bytes] = ample_for(sizes, &proof);
         let ample = check(&file, bound, &proof, words, rows, bytes);
         if file == encode(&instance) {
-            let checked = engine::check(&file, bound, &proof);
-            assert_eq!(checked.map(|checked| checked.steps), ample);
+            assert_eq!(engine::check(&file, bound, &proof), ample);
         }
         if random.below(3) == 0 {
             return number_of(ample);
         }
-        let clauses = clause_list(&instance, Some(bound));
-        let [words, rows, bytes] = scant_for(random, sizes, &clauses, &proof);
+        let [words, rows, bytes] = scant_for(random, sizes, &proof);
         number_of(check(&file, bound, &proof, words, rows, bytes))
     });
     assert_eq!(
@@ -198,15 +196,12 @@ fn proofs_without_the_tail_are_checked_alike() {
         let proof = any_proof(random, &instance, None, sizes);
         let ample = check_hard(&file, &proof, ample_for(sizes, &proof));
         if file == encode(&instance) {
-            let checked = engine::check_hard(&file, &proof);
-            assert_eq!(checked.map(|checked| checked.steps), ample);
+            assert_eq!(engine::check_hard(&file, &proof), ample);
         }
-        if random.below(3) == 0 {
-            return number_of(ample);
+        match random.below(3) {
+            0 => number_of(ample),
+            _ => number_of(check_hard(&file, &proof, scant_for(random, sizes, &proof))),
         }
-        let clauses = clause_list(&instance, None);
-        let scant = scant_for(random, sizes, &clauses, &proof);
-        number_of(check_hard(&file, &proof, scant))
     });
     assert_eq!(
         seen,
@@ -251,15 +246,17 @@ fn best_models_are_found_alike() {
         let proof = any_proof(random, &instance, Some(bound), sizes);
         let ample = best(&file, &model, &proof, ample_for(sizes, &proof));
         if file == encode(&instance) {
-            let checked = engine::best(&file, &model, &proof);
-            assert_eq!(checked.map(|(cost, checked)| (cost, checked.steps)), ample);
+            assert_eq!(engine::best(&file, &model, &proof), ample);
         }
-        if random.below(3) == 0 {
-            return number_of(ample);
+        match random.below(3) {
+            0 => number_of(ample),
+            _ => number_of(best(
+                &file,
+                &model,
+                &proof,
+                scant_for(random, sizes, &proof),
+            )),
         }
-        let clauses = clause_list(&instance, Some(bound));
-        let scant = scant_for(random, sizes, &clauses, &proof);
-        number_of(best(&file, &model, &proof, scant))
     });
     assert_eq!(
         seen,
@@ -330,7 +327,7 @@ fn every_prefix_of_a_proof_is_checked_alike() {
     let file = include_bytes!("../../schools/toy.instance");
     let proof = include_bytes!("../../schools/toy.proof");
     for length in 0..=proof.len() {
-        let answer = check(file, 2, &proof[..length], 11_961, 4_770, 1_466);
+        let answer = check(file, 2, &proof[..length], 12_016, 4_809, 1_466);
         assert_eq!(answer.is_ok(), length == proof.len());
     }
 }
@@ -343,7 +340,7 @@ fn every_byte_of_a_proof_changed_is_checked_alike() {
     for at in 0..proof.len() {
         let mut proof = proof.to_vec();
         proof[at] ^= 1 << random.below(8);
-        let _ = check(file, 2, &proof, 11_969, 4_776, 1_466);
+        let _ = check(file, 2, &proof, 12_033, 4_816, 1_466);
     }
 }
 
@@ -524,8 +521,7 @@ fn with_damaged_calendar(random: &mut Random, instance: &Instance) -> Vec<u8> {
 }
 
 /// A proof for the formula of an instance, with its tail if there is a bound,
-/// honest, forged or damaged, some that delete most of what they add; random steps
-/// where there is none.
+/// honest, forged or damaged; random steps where there is none.
 fn any_proof(
     random: &mut Random,
     instance: &Instance,
@@ -535,20 +531,16 @@ fn any_proof(
     let clauses = clause_list(instance, bound);
     let variables = sizes.variables as usize;
     let honest = match solve(variables, &clauses) {
-        Verdict::Refutation(steps) => match random.below(6) {
+        Verdict::Refutation(steps) => match random.below(4) {
             0 => encode_steps(&steps),
             1 => encode_steps(&with_deletions(clauses.len(), &steps)),
             2 => encode_steps(&with_gaps(clauses.len(), &steps, 7)),
-            3 => {
+            _ => {
                 let mut forged = forgeries(random, variables, clauses.len(), &steps);
                 forged.swap_remove(random.below(forged.len())).proof
             }
-            _ => deleting(random, sizes, &clauses, &steps),
         },
-        Verdict::Model(_) => match random.below(2) {
-            0 => proof(random, sizes.variables, sizes.clauses),
-            _ => deleting(random, sizes, &clauses, &[]),
-        },
+        Verdict::Model(_) => proof(random, sizes.variables, sizes.clauses),
     };
     match random.below(4) {
         0 => damaged_numbers(random, &honest),
@@ -557,52 +549,22 @@ fn any_proof(
     }
 }
 
-/// The steps with most clauses deleted, and now and then a dead one named again.
-fn deleting(
-    random: &mut Random,
-    sizes: Sizes,
-    clauses: &[Vec<Literal>],
-    steps: &[Step],
-) -> Vec<u8> {
-    let steps = churned(random, sizes.variables, clauses, steps);
-    let named = match random.below(4) {
-        0 => naming_dead(random, sizes.variables, &steps),
-        _ => None,
-    };
-    encode_steps(&named.map_or(steps, |(longer, _)| longer))
-}
-
 /// Words, rows and bytes that are never too short for the proof.
 fn ample_for(sizes: Sizes, proof: &[u8]) -> [u64; 3] {
     let more = proof.len() as u64;
     [sizes.words + more, sizes.clauses + more, sizes.variables]
 }
 
-/// Words, rows and bytes that are room for a part of the proof, near the formula's own
-/// sizes, or near the least in which the proof's live clauses fit.
-fn scant_for(
-    random: &mut Random,
-    sizes: Sizes,
-    clauses: &[Vec<Literal>],
-    proof: &[u8],
-) -> [u64; 3] {
-    match random.below(4) {
+/// Words, rows and bytes that are room for a part of the proof, or near the
+/// formula's own sizes.
+fn scant_for(random: &mut Random, sizes: Sizes, proof: &[u8]) -> [u64; 3] {
+    match random.below(2) {
         0 => [
             sizes.words + random.below(proof.len() + 1) as u64 / 2,
             sizes.clauses + random.below(proof.len() + 1) as u64 / 8,
             sizes.variables,
         ],
-        1 => [sizes.words, sizes.clauses, sizes.variables].map(|fits| lent(random, fits)),
-        _ => {
-            let lengths = clauses.iter().map(Vec::len);
-            let [words, rows] = least(&needs(lengths, &decode_steps(proof)));
-            let near = [words, rows].map(|fits| match random.below(6) {
-                0 => fits - 1,
-                1 => fits + 1,
-                _ => fits,
-            });
-            [near[0], near[1], sizes.variables]
-        }
+        _ => [sizes.words, sizes.clauses, sizes.variables].map(|fits| lent(random, fits)),
     }
 }
 

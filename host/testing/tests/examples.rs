@@ -418,32 +418,6 @@ fn windows_are_groups_of_periods() {
     assert_eq!(read(&beyond), refused(3, beyond.len() as u64 - 1));
 }
 
-/// A at bound 3 in these words and rows.
-#[test]
-fn words_and_rows_used_again() {
-    let file = hex(FILE_A);
-    let run = |words, rows, proof: &[&str]| {
-        let proof = hex(&proof.join(" "));
-        check(&file, 3, &proof, words, rows, 8)
-    };
-    let first = "61 11 06 00 05 00";
-    let second = "61 12 06 00 05 00";
-    let third = "61 13 06 00 05 00";
-    let gone = "64 11 00";
-    assert_eq!(run(30, 17, &["64 01 00", first, second]), refused(18, 3));
-    assert_eq!(run(31, 17, &[first, gone, second]), refused(18, 3));
-    assert_eq!(run(32, 17, &[first, second]), refused(17, 2));
-    assert_eq!(run(31, 18, &[first, second]), refused(17, 2));
-    assert_eq!(run(30, 17, &[first]), refused(17, 1));
-    let three = ["64 02 00", first, second, third];
-    assert_eq!(run(30, 20, &three), refused(17, 4));
-    assert_eq!(run(31, 17, &[first, gone, first]), refused(14, 3));
-    let dead = [first, gone, "61 12 06 00 11 00"];
-    assert_eq!(run(31, 17, &dead), refused(15, 3));
-    assert_eq!(run(31, 17, &[first, gone, second, gone]), refused(15, 4));
-    assert_eq!(run(30, 16, &[PROOF_A]), Ok(1));
-}
-
 #[test]
 fn limits() {
     let with_times = |times| read(&numbers(&[times, 1, 0, 1, 0, 0, 0]));

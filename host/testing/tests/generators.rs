@@ -8,16 +8,14 @@ use support::both::{
     check, decode, read, same_sheet, score, sizes, solver_text, text, text_program, text_size,
 };
 use testing::generate::{
-    churned, damaged_calendars, damaged_instance, damaged_numbers, damaged_table, damaged_text,
-    damaged_texts, encode, instance, lent, model, naming_dead, number_starts, printed, proof,
-    timetable, wrapped, Line, Printed, Random, Shape,
+    damaged_calendars, damaged_instance, damaged_numbers, damaged_table, damaged_text,
+    damaged_texts, encode, instance, lent, model, number_starts, printed, proof, timetable,
+    wrapped, Line, Printed, Random, Shape,
 };
-use testing::prover::{clause_list, solve, Verdict};
 use testing::reference::{
-    Calendar, Constraint, Infeasibility, Instance, Kind, Literal, Period, Range, Refusal, Sheet,
-    Sizes, Window, LARGEST_GAP, LAST_MINUTE,
+    Calendar, Constraint, Infeasibility, Instance, Kind, Period, Range, Refusal, Sheet, Window,
+    LARGEST_GAP, LAST_MINUTE,
 };
-use testing::steps::{decode_steps, encode_steps, least, needs, with_most_deleted, Step};
 
 /// How often each refusal was given; 0 stands for acceptance.
 #[derive(Default, Debug)]
@@ -789,113 +787,6 @@ fn random_proofs_reach_refusals_14_to_18() {
     for number in [9, 14, 15, 16, 17, 18] {
         assert!(seen.times(number) >= 5, "refusal {number}");
     }
-}
-
-/// Proofs that delete much: every step follows; most of what they add is deleted, and so
-/// is much of the formula. With a step that names a dead clause they earn its refusal.
-#[test]
-fn proofs_that_delete_much_follow() {
-    let mut seen = Seen::default();
-    let (mut added, mut dead, mut dead_of_formula) = (0, 0, 0);
-    for seed in 0..300 {
-        let mut random = Random::new(seed);
-        let instance = instance(&mut random, &Shape::tiny());
-        let file = encode(&instance);
-        let bound = random.below(4) as u64;
-        let Sizes {
-            variables,
-            clauses,
-            words,
-            ..
-        } = sizes(&file, Some(bound)).unwrap();
-        let list = clause_list(&instance, Some(bound));
-        let refutation = match solve(variables as usize, &list) {
-            Verdict::Refutation(steps) => steps,
-            Verdict::Model(_) => Vec::new(),
-        };
-        let steps = churned(&mut random, variables, &list, &refutation);
-        let run = |steps: &[Step]| {
-            let more = 10_000;
-            let proof = encode_steps(steps);
-            check(
-                &file,
-                bound,
-                &proof,
-                words + more,
-                clauses + more,
-                variables,
-            )
-        };
-        let answer = run(&steps);
-        let count = steps.len() as u64;
-        let wanted = match refutation.is_empty() {
-            true => Err(Refusal {
-                number: 18,
-                value: count,
-            }),
-            false => Ok(count),
-        };
-        assert_eq!(answer, wanted, "seed {seed}");
-        seen.count(&answer);
-        for step in &steps {
-            match step {
-                Step::Add { .. } => added += 1,
-                Step::Delete { ids } => {
-                    let formula = ids.iter().filter(|&&id| u64::from(id) <= clauses);
-                    let formula = formula.count();
-                    dead_of_formula += formula;
-                    dead += ids.len() - formula;
-                }
-            }
-        }
-        if let Some((longer, refusal)) = naming_dead(&mut random, variables, &steps) {
-            assert_eq!(run(&longer), Err(refusal), "seed {seed}");
-            seen.count(&Err::<u64, _>(refusal));
-        }
-    }
-    println!("seeds 0..300: {seen:?}; {added} added, {dead} of them and {dead_of_formula} of the formulas deleted");
-    assert_eq!(seen.numbers(), [0, 14, 15, 16, 18]);
-    assert!(2 * dead > added && 2 * dead_of_formula > added);
-}
-
-/// Nine of ten of what is added is deleted, and nothing of the formula.
-#[test]
-fn most_of_what_is_learned_is_deleted() {
-    let clause = |id: u32| Step::Add {
-        id,
-        literals: vec![Literal::positive(1)],
-        hints: vec![1, id - 1],
-    };
-    let steps: Vec<Step> = (5..10_005).map(clause).collect();
-    let deleting = with_most_deleted(&mut Random::new(1), 4, &steps);
-    assert_eq!(decode_steps(&encode_steps(&deleting)), deleting);
-    let mut live = 0;
-    let (mut added, mut deleted) = (0, 0);
-    for step in &deleting {
-        match step {
-            Step::Add { id, .. } => {
-                added += 1;
-                live = *id;
-            }
-            // Each is named by the next one alone.
-            Step::Delete { ids } => {
-                deleted += ids.len();
-                assert!(ids
-                    .iter()
-                    .all(|&id| id > 4 && (live - 1..=live).contains(&id)));
-            }
-        }
-    }
-    assert_eq!(added, 10_000);
-    assert!((8_900..9_100).contains(&deleted), "{deleted}");
-    let needs = needs([2, 2, 2, 2], &deleting);
-    let last = *needs.last().unwrap();
-    assert_eq!(
-        last,
-        [8 + (added - deleted) as u64, 4 + (added - deleted) as u64]
-    );
-    assert_eq!(least(&needs[..1]), [8, 4]);
-    assert!(least(&needs)[1] <= last[1] + 2);
 }
 
 #[test]

@@ -1193,71 +1193,17 @@ mod proofs {
         assert_eq!(check_a("61 11 06 12 00 05 00"), refused(14, 1));
     }
 
-    /// The check of A at bound 3, whose formula has 30 words and 16 rows.
-    fn check_in(proof: &str, words: u64, rows: u64) -> Result<u64, Refusal> {
-        check(&hex(FILE_A), 3, &hex(proof), words, rows, 8)
-    }
-
-    /// Add the clause (3), with one word.
-    const UNIT: &str = "61 11 06 00 05 00";
-    const NEXT: &str = "61 12 06 00 05 00";
-
-    /// Decision 44: A clause needs a word for each literal and a row, unless it is empty.
+    /// Decision 44: A clause needs a word for each literal and a row; deleted ones stay used.
     #[test]
     fn a_clause_must_fit_unless_empty() {
-        assert_eq!(check_in(UNIT, 31, 17), refused(18, 1));
-        assert_eq!(check_in(UNIT, 30, 17), refused(17, 1));
-        assert_eq!(check_in(UNIT, 31, 16), refused(17, 1));
-        assert_eq!(check_in(PROOF_A, 30, 16), Ok(1));
-    }
-
-    /// Decision 112: In use are the live clauses' words and rows, the formula's own only
-    /// while they are live. Clause 1 has two words.
-    #[test]
-    fn deleted_clauses_give_their_room_back() {
-        let freed = format!("64 01 00 {UNIT}");
-        assert_eq!(check_in(&freed, 30, 16), refused(18, 2));
-        assert_eq!(check_in(&format!("{freed} {NEXT}"), 30, 17), refused(18, 3));
-        assert_eq!(check_in(&format!("{freed} {NEXT}"), 30, 16), refused(17, 3));
-        let freed = format!("{UNIT} 64 11 00 {NEXT}");
-        assert_eq!(check_in(&freed, 31, 17), refused(18, 3));
-    }
-
-    /// Decision 113: Words and rows count each by itself.
-    #[test]
-    fn words_or_rows_may_lack() {
-        let both = format!("{UNIT} {NEXT}");
-        assert_eq!(check_in(&both, 32, 18), refused(18, 2));
-        assert_eq!(check_in(&both, 32, 17), refused(17, 2));
-        assert_eq!(check_in(&both, 31, 18), refused(17, 2));
-    }
-
-    /// Decision 114: No id is freed.
-    #[test]
-    fn a_deleted_id_stays_dead() {
-        let dead = format!("{UNIT} 64 11 00");
-        assert_eq!(check_in(&format!("{dead} {UNIT}"), 31, 17), refused(14, 3));
-        let hint = format!("{dead} 61 12 06 00 11 00");
-        assert_eq!(check_in(&hint, 31, 17), refused(15, 3));
-        let packed = format!("{dead} {NEXT} 64 11 00");
-        assert_eq!(check_in(&packed, 31, 17), refused(15, 4));
-    }
-
-    /// Decision 115: Room for the whole formula is wanted, whatever is deleted.
-    #[test]
-    fn the_whole_formula_must_fit() {
-        let freed = format!("64 01 00 {UNIT}");
-        assert_eq!(check_in(&freed, 29, 16), refused(9, 0));
-        assert_eq!(check_in(&freed, 30, 15), refused(9, 0));
-    }
-
-    /// Decision 116: 17 comes after 14, 15 and 16.
-    #[test]
-    fn room_is_looked_at_last() {
-        assert_eq!(check_in("61 11 06 00 05 80 00", 30, 16), refused(14, 1));
-        assert_eq!(check_in("61 11 06 00 63 00", 30, 16), refused(15, 1));
-        assert_eq!(check_in("61 11 06 00 01 00", 30, 16), refused(16, 1));
-        assert_eq!(check_in("61 11 06 00 00", 30, 16), refused(16, 1));
+        let file = hex(FILE_A);
+        let unit = "61 11 06 00 05 00";
+        let run = |proof: &str, words, rows| check(&file, 3, &hex(proof), words, rows, 8);
+        assert_eq!(run(unit, 31, 17), refused(18, 1));
+        assert_eq!(run(unit, 30, 17), refused(17, 1));
+        assert_eq!(run(unit, 31, 16), refused(17, 1));
+        assert_eq!(run(&format!("64 01 00 {unit}"), 30, 16), refused(17, 2));
+        assert_eq!(run(PROOF_A, 30, 16), Ok(1));
     }
 
     /// Decision 45: A bad number in a proof is 14; a step's first byte is a byte.

@@ -58,7 +58,7 @@ fn toy() -> School {
             ..without_tail
         },
         steps: 81,
-        fits: [11_961, 4_770, 1_466],
+        fits: [12_016, 4_809, 1_466],
     }
 }
 
@@ -93,7 +93,7 @@ fn small() -> School {
             ..without_tail
         },
         steps: 530,
-        fits: [245_457, 92_725, 25_455],
+        fits: [245_982, 92_971, 25_455],
     }
 }
 

@@ -8,7 +8,6 @@ use std::process::Command;
 use support::{
     file, folder, hex, oversized, program, repository, run, school, schools, Run, FILE_A,
 };
-use timetable::number::write_number;
 
 /// The text of file A.
 const TEXT_A: &str = "\
@@ -183,49 +182,8 @@ fn check_says_no_timetable_for_a_refutation() {
         let [instance, proof] = ["instance", "proof"].map(|kind| school(&format!("{name}.{kind}")));
         let found = run(&["check", &instance, bound, &proof]);
         assert_eq!(found.printed, printed);
-        assert_eq!((found.said.as_str(), found.status), (lent(name), 0));
+        assert_eq!((found.said.as_str(), found.status), ("", 0));
     }
-}
-
-/// What is said of the stores for the proofs of the schools, which are short: room for
-/// all that they add.
-fn lent(name: &str) -> &'static str {
-    match name {
-        "toy" => "lent: words 12016, rows 4809, bytes 1466\n",
-        _ => "lent: words 245982, rows 92971, bytes 25455\n",
-    }
-}
-
-/// A long proof over a small formula: (3) is added and deleted again and again.
-#[test]
-fn check_lends_what_is_live_at_once() {
-    let mut proof = Vec::new();
-    for id in 17..17 + 5_000 {
-        proof.push(b'a');
-        write_number(id, &mut proof);
-        proof.extend([6, 0, 5, 0, b'd']);
-        write_number(id, &mut proof);
-        proof.push(0);
-    }
-    proof.push(b'a');
-    write_number(17 + 5_000, &mut proof);
-    proof.extend([0, 5, 4, 2, 6, 14, 16, 0]);
-    let a = file("a-to-check", &hex(FILE_A));
-    let long = file("long-proof", &proof);
-    let found = run(&["check", &a, "3", &long]);
-    assert_eq!(found.printed, "no timetable\nbound 3\nsteps 10001\n");
-    // Twice 30 words and 16 rows of the formula, and one of each.
-    let said = "lent: words 62, rows 34, bytes 8\n";
-    assert_eq!((found.said.as_str(), found.status), (said, 0));
-    let found = run(&["best", &a, &file("model-of-a", &[1, 1, 1, 1]), &long]);
-    assert_eq!(found.printed, "best\nobjective 4\nsteps 10001\n");
-    assert_eq!((found.said.as_str(), found.status), (said, 0));
-    let found = run(&["check", "--json", &a, "3", &long]);
-    assert_eq!((found.said.as_str(), found.status), (said, 0));
-    // A refused check says why it is refused, and no more.
-    let found = run(&["check", &a, "4", &long]);
-    assert_eq!(found.printed, "refused 14 1\n");
-    assert!(!found.said.contains("lent"), "{}", found.said);
 }
 
 /// The script that README.md names.
@@ -257,8 +215,7 @@ fn check_at_none_says_that_there_is_no_timetable_at_all() {
     let proof = file("proof-without-tail", &hex("61 09 00 05 04 02 06 08 00"));
     let found = run(&["check", &hard, "none", &proof]);
     assert_eq!(found.printed, "no timetable at all\nsteps 1\n");
-    let said = "lent: words 14, rows 8, bytes 4\n";
-    assert_eq!((found.said.as_str(), found.status), (said, 0));
+    assert_eq!((found.said.as_str(), found.status), ("", 0));
     // The proof at a bound names clauses of the tail.
     let found = run(&[
         "check",
@@ -282,7 +239,7 @@ fn best_says_that_nothing_costs_less_than_a_model() {
             ["instance", "model", "proof"].map(|kind| school(&format!("{name}.{kind}")));
         let found = run(&["best", &instance, &model, &proof]);
         assert_eq!(found.printed, printed);
-        assert_eq!((found.said.as_str(), found.status), (lent(name), 0));
+        assert_eq!((found.said.as_str(), found.status), ("", 0));
         // Without the proof nothing is shown; a timetable is no model.
         let nothing = file("no-proof", &[]);
         let found = run(&["best", &instance, &model, &nothing]);

@@ -53,8 +53,6 @@ fn a_week_ends_with_the_engines_answers() {
     );
     assert_eq!(found.status, 0);
     assert!(found.said.contains("best cost"), "{}", found.said);
-    let lent = "\nlent for the proof: words ";
-    assert!(found.said.contains(lent), "{}", found.said);
     let toy = school("toy.instance");
     let decoded = run(&["decode", &toy, "both-out/best.model"]);
     assert_eq!(decoded.printed, "objective 3\nbytes 108\n");

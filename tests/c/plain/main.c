@@ -7,9 +7,7 @@
  * text the cost and a checksum of the model), the bytes of output and stores, the
  * most bytes that the process held, and for each span the microseconds of a call.
  * Each time the instance file is read anew. The job "lines" reads none: it counts
- * the lines of the other file. What stands after a colon behind BOUND, which says what
- * the engine is lent, is passed over: here there is room for every clause. All times
- * are the process's own time on a processor.
+ * the lines of the other file. All times are the process's own time on a processor.
  */
 #define _POSIX_C_SOURCE 199309L
 #include "plain.h"

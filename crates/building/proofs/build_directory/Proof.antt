@@ -50,7 +50,7 @@ use mathlib.Core.WellFounded.InvImage
 use mathlib.Core.WellFounded.{WellFounded}
 use Rattle.standing.proofs.laws.Clauses.{take_min, drop_min}
 use Rattle.building.specs.Marked.{flat, first_clause, parted, rows_for, row_between, Built}
-use Rattle.building.proofs.Building.{Building, clause_long, build-start, build_next, build_end}
+use Rattle.building.proofs.Building.{Building, clause-long, build-start, build_next, build_end}
 use Rattle.walks.proofs.Calls.{uint-same, unit-same, both-said, told, says_all, calls_to}
 use Rattle.building.specs.contracts.least as least
 use Rattle.building.proofs.least.Symbol as least-def
@@ -115,7 +115,7 @@ turned : {us₀ : List ℕ} {ys₀ : List Row} {total end : ℕ} → end ≤ len
     → Unmarked t.us t.first end next us → row ≡ row_between t.n t.first next → zs ≡ set t.zs t.n row
     → length us ≡ length t.us → length zs ≡ length t.zs → Upto us₀ ys₀ total end
 turned {us₀} {ys₀} {total} {end} to t h next us zs row u e put kept kept' =
-    let on = clause_long (slice t.first end t.us) (rw (length-slice t.first end t.us (omega (arith, t.long-us))) (omega arith)) in
+    let on = clause-long (slice t.first end t.us) (rw (length-slice t.first end t.us (omega (arith, t.long-us))) (omega arith)) in
     record {
       us = us;
       zs = zs;
@@ -247,7 +247,7 @@ module _ {M : Type 1} {𝓤 : Ura M} (𝓛 : Logic 𝓤) (mem : Memory → SProp
     After t = after_turn 𝓤 H (Below 𝓛 (Nearer end) At t) (after_block 𝓤 H (after_seq 𝓤 H (Wp 𝓤 H C Λ En body.t-6 (at_return 𝓤 H En Post)) (at_return 𝓤 H En Post)))
 
     further : (t : Upto us ys total end) → t.first < end → (next : ℕ) {xs : List ℕ} → Unmarked t.us t.first end next xs → t.first < next
-    further t h next u = omega (arith, u.0, (clause_long (slice t.first end t.us) (rw (length-slice t.first end t.us (omega (arith, few, t.long-us))) (omega arith))).0)
+    further t h next u = omega (arith, u.0, (clause-long (slice t.first end t.us) (rw (length-slice t.first end t.us (omega (arith, few, t.long-us))) (omega arith))).0)
 
     -- a clause more
     adding : (t : Upto us ys total end) → t.first < end → Sq 𝓛 (At t) (runs C Λ En (rest (rest body.turn-1)) (any_q (After t)))

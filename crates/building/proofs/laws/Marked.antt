@@ -77,9 +77,9 @@ rows_snoc id first (d ∷ ds) c =
     let g : first + (length d + words ds) ≡ first + length d + words ds = omega arith in
     rw (e, g) (ap (λ x. new_row id first (length d) ∷ x) (rows_snoc (suc id) (first + length d) ds c))
 
-pub sets_snoc : {A : Type 0} (ys : List A) (i : ℕ) (rs : List A) (r : A) → sets ys i (rs ++ r ∷ []) ≡ set (sets ys i rs) (i + length rs) r
-sets_snoc ys i [] r = let e : i + 0 ≡ i = omega arith in rw e
-sets_snoc ys i (x ∷ xs) r = let e : i + suc (length xs) ≡ suc i + length xs = omega arith in rw e (sets_snoc (set ys i x) (suc i) xs r)
+pub sets-snoc : {A : Type 0} (ys : List A) (i : ℕ) (rs : List A) (r : A) → sets ys i (rs ++ r ∷ []) ≡ set (sets ys i rs) (i + length rs) r
+sets-snoc ys i [] r = let e : i + 0 ≡ i = omega arith in rw e
+sets-snoc ys i (x ∷ xs) r = let e : i + suc (length xs) ≡ suc i + length xs = omega arith in rw e (sets-snoc (set ys i x) (suc i) xs r)
 
 -- what the building of the directory leaves, for clauses that stand marked in the words
 pub record BuiltFor (f : List (List ℕ)) (rest ws' : List ℕ) (R : ℕ → Row) (n : ℕ) : Type 0 where

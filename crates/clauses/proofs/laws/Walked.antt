@@ -20,7 +20,7 @@ use Rattle.sink.specs.World.{World}
 use Rattle.literals.specs.Numbered.{constraint_items}
 use Rattle.fitting.proofs.laws.Fitting.{known_fits}
 use Rattle.items.specs.Written.{Room, Wrote, Left, left_start, left_turn, left_end, left_room}
-use Rattle.items.proofs.laws.Written.{room_first, room_same}
+use Rattle.items.proofs.laws.Written.{room_first, room-same}
 use Rattle.clauses.specs.Fits.{Fits, constraint_part}
 use Rattle.clauses.specs.Walked.{items_of, Walkable}
 
@@ -73,7 +73,7 @@ module _ {f : Line → World → World} {s d us tg list : List ℕ} {h : Head} {
 
       pub part_room : Room v (constraint_part d us tg h c.kind c.weight v)
       part_room =
-          room_first _ _ (room_same (next_items d us tg h v n.whole refl) (left_room p.some p.left k.room))
+          room_first _ _ (room-same (next_items d us tg h v n.whole refl) (left_room p.some p.left k.room))
 
       -- and was
       pub part_next : {v' : ℕ} {w' : World} → Wrote f v (constraint_part d us tg h c.kind c.weight v) w w' v'

@@ -48,14 +48,6 @@ words-within [] i l = absurd (omega arith)
 words-within (c ∷ cs) zero l = omega arith
 words-within (c ∷ cs) (suc i) l = omega (arith, words-within cs i (omega arith))
 
--- a clause's words end before those of a later one begin
-words-apart : (f : List (List ℕ)) (i j : ℕ) → i < j → j < length f → words_before f i + length (clause_at f i) ≤ words_before f j
-unfolding words
-words-apart [] i j l h = absurd (omega arith)
-words-apart (c ∷ cs) i zero l h = absurd (omega arith)
-words-apart (c ∷ cs) zero (suc j) l h = omega arith
-words-apart (c ∷ cs) (suc i) (suc j) l h = omega (arith, words-apart cs i j (omega arith) (omega arith))
-
 part-flat : (f : List (List ℕ)) (rest : List ℕ) (i : ℕ) → i < length f
     → part (words_before f i) (length (clause_at f i)) (flat f ++ rest) ≡ clause_at f i
 unfolding words flat_map
@@ -154,10 +146,6 @@ module _ (f : List (List ℕ)) (rest ws : List ℕ) (R : ℕ → Row) (n : ℕ) 
             (all-at (Good last) (flat f) (all_flat (Good last) f good) k (rw (length-flat f) l));
         room = rw (b.unmarked, length-append, length-flat f) (omega arith);
         fit = fits;
-        apart = λ i j l h p q. rw ((exact i (omega arith)).begins, (exact i (omega arith)).long, (exact j h).begins) (words-apart f i j l h);
-        small = λ i l.
-            let inside = words-within f i l in
-            rw (the_id i l, (exact i l).long) (omega (arith, few.few_clauses), omega (arith, few.few_words));
       }
 
   -- its live clauses are those of the formula, under the ids 1, 2, ..

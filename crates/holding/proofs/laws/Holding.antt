@@ -20,7 +20,7 @@ use Rattle.directory.specs.Rows.{first_word, row_clause, dying}
 use Rattle.directory.proofs.laws.Rows.{Rising}
 use Rattle.directory.proofs.Exact.{Exact, dying-begins}
 use Rattle.lookup.proofs.laws.Lookup.{Found, hit, miss}
-use Rattle.holding.proofs.laws.Live.{live_rows, rising_append, rising_dead, live_append, row-missing, same_id, put_other}
+use Rattle.holding.proofs.laws.Live.{live_rows, rising_append, rising_dead, live_append, row-missing, same_id}
 use Rattle.holding.specs.Holding.{All, Good}
 
 -- n rows of cap, used words, ids up to the highest
@@ -31,8 +31,6 @@ pub record Holding (last cap : ℕ) (R : ℕ → Row) (ws : List ℕ) (n used hi
   pub good : (k : ℕ) → k < used → Good last (get_or ws k 0)
   pub room : used ≤ length ws
   pub fit : n ≤ cap
-  pub apart : (i j : ℕ) → i < j → j < n → ((R i).live ≡ 0 → ⊥) → ((R j).live ≡ 0 → ⊥) → first_word (R i) + (R i).len ≤ first_word (R j)
-  pub small : (i : ℕ) → i < n → ((R i).id ≤ 4294967295) × ((R i).len ≤ 4294967295)
 
 -- a clause among words that P holds of
 pub all-part : (P : ℕ → Type 0) (ws : List ℕ) (used : ℕ) → used ≤ length ws → ((k : ℕ) → k < used → P (get_or ws k 0))
@@ -105,52 +103,28 @@ module _ (ws : List ℕ) (used : ℕ) where
         ∙ get_or-append ls (drop (used + length ls) ws) 0 i l)
 
 -- P of each row where one is put
-pub put-elim : (P : Row → Type 0) (R : ℕ → Row) (i k : ℕ) (x : Row) → (k ≡ i → P x) → ((k ≡ i → ⊥) → P (R k)) → P (put R i x k)
+put-elim : (P : Row → Type 0) (R : ℕ → Row) (i k : ℕ) (x : Row) → (k ≡ i → P x) → ((k ≡ i → ⊥) → P (R k)) → P (put R i x k)
 put-elim P R i k x f g = go (eqb k i) refl
   where
     go : (t : Bool) → eqb k i ≡ t → P (cond t x (R k))
     go true t = f (eqb-true k i t)
     go false t = g (eqb-false k i t)
 
--- a row is stored, and a clause is kept
+-- a clause is kept
 module _ (last cap : ℕ) (R : ℕ → Row) (ws : List ℕ) (n used highest : ℕ) (b : Holding last cap R ws n used highest) where
-  -- a row after those that are there
-  pub holding_past : (row : Row) → Holding last cap (put R n row) ws n used highest
-  holding_past row =
-      let at : (i : ℕ) → i < n → put R n row i ≡ R i = λ i h. put_other R n i row (λ e. omega arith) in
-      record {
-        rising = record { up = λ i j l h. rw (at i (omega arith), at j h) (b.rising.up i j l h) };
-        below = λ i h. rw (at i h) (b.below i h);
-        within = λ i h. rw (at i h) (b.within i h);
-        good = b.good;
-        room = b.room;
-        fit = b.fit;
-        apart = λ i j l h. rw (at i (omega arith), at j h) (b.apart i j l h);
-        small = λ i h. rw (at i h) (b.small i h);
-      }
+  module _ (row : Row) (id : ℕ) (ls : List ℕ) (fresh : highest < id) (x : Exact id used (length ls) row) where
+    kept_below : (i : ℕ) → i < suc n → (put R n row i).id ≤ id
+    kept_below i h =
+        put-elim (λ r. r.id ≤ id) R n i row (λ e. omega (arith, x.named)) (λ d. omega (arith, b.below i (omega arith)))
 
-  -- a clause of which the row is exact, after the words that are used
-  module _ (row : Row) (id : ℕ) (ls : List ℕ) (x : Exact id used (length ls) row) where
-    more_below : (top : ℕ) → highest ≤ top → id ≤ top → (i : ℕ) → i < suc n → (put R n row i).id ≤ top
-    more_below top low up i h =
-        put-elim (λ r. r.id ≤ top) R n i row (λ e. omega (arith, x.named)) (λ d. omega (arith, b.below i (omega arith)))
-
-    more_within : (i : ℕ) → i < suc n → first_word (put R n row i) + (put R n row i).len ≤ used + length ls
-    more_within i h =
+    kept_within : (i : ℕ) → i < suc n → first_word (put R n row i) + (put R n row i).len ≤ used + length ls
+    kept_within i h =
         put-elim (λ r. first_word r + r.len ≤ used + length ls) R n i row (λ e. omega (arith, x.begins, x.long))
         (λ d. omega (arith, b.within i (omega arith)))
 
-    more_apart : (i j : ℕ) → i < j → j < suc n → ((put R n row i).live ≡ 0 → ⊥) → ((put R n row j).live ≡ 0 → ⊥)
-        → first_word (put R n row i) + (put R n row i).len ≤ first_word (put R n row j)
-    more_apart i j l h =
-        rw (put_other R n i row (λ e. omega arith))
-        (put-elim (λ r. ((R i).live ≡ 0 → ⊥) → (r.live ≡ 0 → ⊥) → first_word (R i) + (R i).len ≤ first_word r) R n j row
-        (λ e p q. omega (arith, x.begins, b.within i (omega arith)))
-        (λ d. b.apart i j l (omega arith)))
-
-    module _ (fits : used + length ls ≤ length ws) where
-      more_good : All (Good last) ls → (k : ℕ) → k < used + length ls → Good last (get_or (sets ws used ls) k 0)
-      more_good good k h = go (ltb k used) refl
+    module _ (fits : used + length ls ≤ length ws) (free : n < cap) (good : All (Good last) ls) where
+      kept_good : (k : ℕ) → k < used + length ls → Good last (get_or (sets ws used ls) k 0)
+      kept_good k h = go (ltb k used) refl
         where
           go : (t : Bool) → ltb k used ≡ t → Good last (get_or (sets ws used ls) k 0)
           go true t = let l = ltb-true k used t in rw (word_before ws used ls used k ws l) (b.good k l)
@@ -160,55 +134,28 @@ module _ (last cap : ℕ) (R : ℕ → Row) (ws : List ℕ) (n used highest : �
               let w = word_stored ws used ls fits (k - used) (omega arith) in
               rw (ap (λ i. get_or (sets ws used ls) i 0) e ∙ w) (all-at (Good last) ls good (k - used) (omega arith))
 
-      pub live_more : live_rows (put R n row) (sets ws used ls) (suc n) ≡ put (live_rows R ws n) id (some ls)
-      live_more =
+      pub holding_kept : Holding last cap (put R n row) (sets ws used ls) (suc n) (used + length ls) id
+      holding_kept =
+          record {
+            rising = rising_append R n row b.rising (λ i h. omega (arith, b.below i h, x.named));
+            below = kept_below;
+            within = kept_within;
+            good = kept_good;
+            room = rw (length-sets ws used ls) fits;
+            fit = omega arith;
+          }
+
+      pub live_kept : live_rows (put R n row) (sets ws used ls) (suc n) ≡ put (live_rows R ws n) id (some ls)
+      live_kept =
           live_append R n row ws (sets ws used ls) ls (λ i h. part_before ws used ls (first_word (R i)) (R i).len (b.within i h))
           (rw (ne_eqb row.live 0 x.alive, x.begins, x.long, part_stored ws used ls fits))
           ∙ ap (λ k. put (live_rows R ws n) k (some ls)) x.named
-
-      -- its id is above those of the rows
-      pub holding_more : (top : ℕ) → highest ≤ top → id ≤ top → ((i : ℕ) → i < n → (R i).id < id)
-          → (row.id ≤ 4294967295) × (row.len ≤ 4294967295) → n < cap → All (Good last) ls
-          → Holding last cap (put R n row) (sets ws used ls) (suc n) (used + length ls) top
-      holding_more top low up fresh few free good =
-          record {
-            rising = rising_append R n row b.rising (λ i h. omega (arith, fresh i h, x.named));
-            below = more_below top low up;
-            within = more_within;
-            good = more_good good;
-            room = rw (length-sets ws used ls) fits;
-            fit = omega arith;
-            apart = more_apart;
-            small = λ i h.
-                put-elim (λ r. (r.id ≤ 4294967295) × (r.len ≤ 4294967295)) R n i row (λ e. few) (λ d. b.small i (omega arith));
-          }
-
-  -- a clause is kept
-  module _ (row : Row) (id : ℕ) (ls : List ℕ) (fresh : highest < id) (x : Exact id used (length ls) row) where
-    pub holding_kept : (row.id ≤ 4294967295) × (row.len ≤ 4294967295) → used + length ls ≤ length ws → n < cap → All (Good last) ls
-        → Holding last cap (put R n row) (sets ws used ls) (suc n) (used + length ls) id
-    holding_kept few fits free good =
-        holding_more row id ls x fits id (omega arith) (omega arith) (λ i h. omega (arith, b.below i h)) few free good
-
-    pub live_kept : used + length ls ≤ length ws → n < cap → All (Good last) ls
-        → live_rows (put R n row) (sets ws used ls) (suc n) ≡ put (live_rows R ws n) id (some ls)
-    live_kept fits free good = live_more row id ls x fits
 
   -- an id above the highest names no clause
   pub id_free : (id : ℕ) → highest < id → live_rows R ws n id ≡ none
   id_free id h = row-missing R ws n id (λ k l e. omega (arith, b.below k l))
 
   -- a clause dies
-  dead_apart : (i j k : ℕ) → j < k → k < n → ((put R i (dying (R i)) j).live ≡ 0 → ⊥) → ((put R i (dying (R i)) k).live ≡ 0 → ⊥)
-      → first_word (put R i (dying (R i)) j) + (put R i (dying (R i)) j).len ≤ first_word (put R i (dying (R i)) k)
-  dead_apart i j k l h =
-      let x = dying (R i) in
-      put-elim (λ r. (r.live ≡ 0 → ⊥) → ((put R i x k).live ≡ 0 → ⊥) → first_word r + r.len ≤ first_word (put R i x k)) R i j x
-      (λ e p q. absurd (p refl))
-      (λ d. put-elim (λ r. ((R j).live ≡ 0 → ⊥) → (r.live ≡ 0 → ⊥) → first_word (R j) + (R j).len ≤ first_word r) R i k x
-      (λ e p q. absurd (q refl))
-      (λ f. b.apart j k l h))
-
   pub holding_dead : (i : ℕ) → Holding last cap (put R i (dying (R i))) ws n used highest
   holding_dead i =
       record {
@@ -219,9 +166,6 @@ module _ (last cap : ℕ) (R : ℕ → Row) (ws : List ℕ) (n used highest : �
         good = b.good;
         room = b.room;
         fit = b.fit;
-        apart = dead_apart i;
-        small = λ k h.
-            put-elim (λ r. (r.id ≤ 4294967295) × (r.len ≤ 4294967295)) R i k (dying (R i)) (λ e. rw e at (b.small k h)) (λ d. b.small k h);
       }
 
   -- the clause that a search finds has good literals

@@ -77,26 +77,6 @@ live_same R R' ws ws' zero j h k = refl
 live_same R R' ws ws' (suc n) j h k =
     rw (h n (omega arith), k n (omega arith), live_same R R' ws ws' n j (λ i l. h i (omega arith)) (λ i l. k i (omega arith)))
 
--- a row that stands after the first n
-pub live-past : (R : ℕ → Row) (n : ℕ) (row : Row) (ws : List ℕ) → live_rows (put R n row) ws n ≡ live_rows R ws n
-live-past R n row ws =
-    fun_ext λ j. live_same R (put R n row) ws ws n j (λ i l. put_other R n i row (λ e. omega arith)) (λ i l. refl)
-
--- one row more: a live one, and a dead one
-pub live-next : (R : ℕ → Row) (ws : List ℕ) (n : ℕ) → ((R n).live ≡ 0 → ⊥)
-    → live_rows R ws (suc n) ≡ put (live_rows R ws n) (R n).id (some (row_clause (R n) ws))
-unfolding live_rows
-live-next R ws n h = fun_ext λ j. rw (ne_eqb (R n).live 0 h, eqb-sym (R n).id j)
-
-pub dead-next : (R : ℕ → Row) (ws : List ℕ) (n : ℕ) → live_rows R ws n (R n).id ≡ none → (R n).live ≡ 0
-    → live_rows R ws (suc n) ≡ live_rows R ws n
-unfolding live_rows
-dead-next R ws n missing h = fun_ext λ j. go j (eqb (R n).id j) refl
-  where
-    go : (j : ℕ) (t : Bool) → eqb (R n).id j ≡ t → cond t (held (R n).live (row_clause (R n) ws)) (live_rows R ws n j) ≡ live_rows R ws n j
-    go j true t = rw (eq-eqb (R n).live 0 h, ← eqb-true (R n).id j t, missing)
-    go j false t = refl
-
 -- a row that is appended
 module _ (R : ℕ → Row) (n : ℕ) (row : Row) where
   pub rising_append : Rising R n → ((i : ℕ) → i < n → (R i).id < row.id) → Rising (put R n row) (suc n)

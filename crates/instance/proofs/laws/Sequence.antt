@@ -7,7 +7,7 @@ use Rattle.scope.specs.Kinds.{Event}
 use Rattle.scope.specs.declared.Refusal.{Refusal}
 use Rattle.number.specs.declared.Number.{Number}
 use Rattle.number.specs.Answers.{refusal_of}
-use Rattle.number.proofs.laws.Sequence.{step, sequence as numberSequence}
+use Rattle.number.proofs.laws.Sequence.{step, sequence as number_sequence}
 use Rattle.tables.specs.Rows.{rows, events_of}
 use Rattle.table_lists.specs.Answers.{said_rows, said_events}
 use Rattle.table_lists.proofs.laws.Sequence.{rows_value, rows_refused, events_value, events_refused}
@@ -67,4 +67,4 @@ pub groups-stop : (t : List ℕ) (x : Number) (p : Parsed (List (List ℕ))) (g 
 groups-stop t x p g f e h k = rw (k, h) (rows_refused t x e h)
 
 pub ruleset sequence =
-    (numberSequence, step-sizes, sizes-stop, step-tables, step-events, events-stop, step-groups, groups-stop)
+    (number_sequence, step-sizes, sizes-stop, step-tables, step-events, events-stop, step-groups, groups-stop)

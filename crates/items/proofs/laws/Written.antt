@@ -7,8 +7,8 @@ use Rattle.scope.specs.Cnf.{Item, gates}
 use Rattle.items.specs.Written.{gates_both, Room}
 
 -- the same room
-pub room_same : {v : ℕ} {is js : List Item} → is ≡ js → Room v is → Room v js
-room_same e r = rw e at r
+pub room-same : {v : ℕ} {is js : List Item} → is ≡ js → Room v is → Room v js
+room-same e r = rw e at r
 
 -- some items and then others
 module _ {v : ℕ} (is js : List Item) where

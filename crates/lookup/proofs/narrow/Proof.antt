@@ -12,8 +12,8 @@ end-requires c κs = search rules
 returns : tie.Need-returns
 returns c = search looks depth 12
 
-resume-requires : tie.Need-resume-requires
-resume-requires c κs = search rules
+halve-requires : tie.Need-halve-requires
+halve-requires c κs = search rules
 
 returns-2 : tie.Need-returns-2
 returns-2 c = search looks depth 12
@@ -33,14 +33,14 @@ end-requires-3 c κs = search rules
 returns-4 : tie.Need-returns-4
 returns-4 c = search looks depth 12
 
-halve-requires : tie.Need-halve-requires
-halve-requires c κs = search rules
+halve-requires-2 : tie.Need-halve-requires-2
+halve-requires-2 c κs = search rules
 
 returns-5 : tie.Need-returns-5
 returns-5 c = search looks depth 12
 
-halve-requires-2 : tie.Need-halve-requires-2
-halve-requires-2 c κs = search rules
+halve-requires-3 : tie.Need-halve-requires-3
+halve-requires-3 c κs = search rules
 
 returns-6 : tie.Need-returns-6
 returns-6 c = search looks depth 12
@@ -52,14 +52,14 @@ narrow-spec =
     id-of-requires
     end-requires
     returns
-    resume-requires
+    halve-requires
     returns-2
     sub-if3
     end-requires-2
     returns-3
     end-requires-3
     returns-4
-    halve-requires
-    returns-5
     halve-requires-2
+    returns-5
+    halve-requires-3
     returns-6)

@@ -9,11 +9,11 @@ use lib.ListN.{length, get_or, take}
 use native.Mathlib.Omega.{arith}
 use borrow.Author.Tests.{ltb-true, leb-true, eqb-false}
 use Rattle.scope.specs.Parsed.{Parsed, got, and_then, unless, cons, repeat}
-use Rattle.scope.specs.Number.{limited}
+use Rattle.scope.specs.Number.{number, limited}
 use Rattle.scope.specs.Calendar.{Period, limited_in, period_at, periods_at, day_at, period_count, calendar_at, shown, window_of, window_at, windows_at, windows_after}
 use Rattle.scope.specs.Instance.{Times, times_at}
 use Rattle.parsing.proofs.laws.Parsing.{and_then-got, unless-got, cons-got, got-value, repeat-length}
-use Rattle.parsing.proofs.laws.Numbers.{LimitedAt, limited_by-got, limited-got, repeat-got}
+use Rattle.parsing.proofs.laws.Numbers.{LimitedAt, number-got, limited-got, repeat-got}
 use Rattle.parsing.proofs.laws.Each.{repeat-each}
 use Rattle.parsing.specs.Each.{Each, each_none, each_more}
 use Rattle.parsing.specs.Numbers.{Ascending, none as no_more, more}
@@ -21,7 +21,16 @@ use Rattle.parsing.specs.Numbers.{Ascending, none as no_more, more}
 -- a number within its limits
 pub limited_in-got : (place lo hi : ℕ) (s : List ℕ) (at : ℕ) {v next : ℕ} → limited_in place lo hi s at ≡ got v next → LimitedAt lo hi s at v next
 unfolding limited_in
-limited_in-got place lo hi s at e = limited_by-got 22 place lo hi s at e
+limited_in-got place lo hi s at {v} {next} e =
+    let p = and_then-got (number s at) (λ v next. unless (leb lo v) 22 place (unless (leb v hi) 22 place (got v next))) e in
+    let q = unless-got (leb lo p.value) 22 place (unless (leb p.value hi) 22 place (got p.value p.next)) p.rest in
+    let r = unless-got (leb p.value hi) 22 place (got p.value p.next) q.rest in
+    let same : p.value ≡ v = cc r.rest in
+    let end : p.next ≡ next = cc r.rest in
+    let n = number-got s at p.first in
+    let low = leb-true lo p.value q.test in
+    let high = leb-true p.value hi r.test in
+    record { low = omega arith; high = omega arith; ahead = omega arith; inside = omega arith }
 
 -- a period: it lies within the day, after the one before it
 pub record PeriodRead (before : ℕ) (s : List ℕ) (at : ℕ) (p : Period) (next : ℕ) : Type 0 where

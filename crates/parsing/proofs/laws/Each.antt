@@ -20,11 +20,6 @@ pub each_last : {A : Type 0} {P : A → Type 0} (xs : List A) {y : A} → Each P
 each_last [] (each_more p e) = p
 each_last (x ∷ xs) (each_more p e) = each_last xs e
 
--- of one list after another
-pub each_append : {A : Type 0} {P : A → Type 0} (xs ys : List A) → Each P xs → Each P ys → Each P (xs ++ ys)
-each_append [] ys each_none e = e
-each_append (x ∷ xs) ys (each_more p ps) e = each_more p (each_append xs ys ps e)
-
 -- of the member at an index
 pub each_at : {A : Type 0} {P : A → Type 0} {xs : List A} (i : ℕ) (d : A) → Each P xs → i < length xs → P (get_or xs i d)
 each_at i d each_none h = elim (not-suc-le-zero h) [ ]

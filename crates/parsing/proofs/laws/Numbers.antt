@@ -1,6 +1,6 @@
 -- What is known of numbers, references and lists that were read: their sizes, and where they end: laws.
 use Prim.Native.Nat.{ℕ, zero, suc, ◌+◌, ◌-◌, ◌≤◌, ◌<◌}
-use mathlib.Core.Path.{◌≡◌, refl, ap, ◌∙◌}
+use mathlib.Core.Path.{◌≡◌, refl, ap}
 use mathlib.Core.List.{List, [], ◌∷◌}
 use mathlib.Core.Bool.{Bool, true, false, cond}
 use lib.Dec.{ltb, leb, eqb}
@@ -8,7 +8,7 @@ use lib.ListN.{length, drop, length-drop}
 use native.Mathlib.Omega.{arith}
 use borrow.Author.Tests.{ltb-true, leb-true}
 use Rattle.scope.specs.Parsed.{Parsed, got, unless, cons, repeat}
-use Rattle.scope.specs.Number.{Front, broken, whole, group, front, within, most, number_from, number, limited_by, limited, reference, references, listed}
+use Rattle.scope.specs.Number.{Front, broken, whole, group, front, within, most, number_from, number, limited, reference, references, listed}
 use Rattle.parsing.proofs.laws.Parsing.{and_then-got, unless-got, cons-got, refused-got, cond-case}
 use Rattle.parsing.specs.Numbers.{Ascending, none, more}
 
@@ -75,30 +75,18 @@ pub record LimitedAt (lo hi : ℕ) (s : List ℕ) (at value next : ℕ) : Type 0
   pub ahead : at < next
   pub inside : next ≤ length s
 
-pub limited_by-got : (k x lo hi : ℕ) (s : List ℕ) (at : ℕ) {v next : ℕ} → limited_by k x lo hi s at ≡ got v next → LimitedAt lo hi s at v next
-unfolding limited_by
-limited_by-got k x lo hi s at {v} {next} e =
-    let p = and_then-got (number s at) (λ v next. unless (leb lo v) k x (unless (leb v hi) k x (got v next))) e in
-    let q = unless-got (leb lo p.value) k x (unless (leb p.value hi) k x (got p.value p.next)) p.rest in
-    let r = unless-got (leb p.value hi) k x (got p.value p.next) q.rest in
+pub limited-got : (lo hi : ℕ) (s : List ℕ) (at : ℕ) {v next : ℕ} → limited lo hi s at ≡ got v next → LimitedAt lo hi s at v next
+unfolding limited
+limited-got lo hi s at {v} {next} e =
+    let p = and_then-got (number s at) (λ v next. unless (leb lo v) 2 at (unless (leb v hi) 2 at (got v next))) e in
+    let q = unless-got (leb lo p.value) 2 at (unless (leb p.value hi) 2 at (got p.value p.next)) p.rest in
+    let r = unless-got (leb p.value hi) 2 at (got p.value p.next) q.rest in
     let same : p.value ≡ v = cc r.rest in
     let end : p.next ≡ next = cc r.rest in
     let n = number-got s at p.first in
     let low = leb-true lo p.value q.test in
     let high = leb-true p.value hi r.test in
     record { low = omega arith; high = omega arith; ahead = omega arith; inside = omega arith }
-
-pub limited-got : (lo hi : ℕ) (s : List ℕ) (at : ℕ) {v next : ℕ} → limited lo hi s at ≡ got v next → LimitedAt lo hi s at v next
-unfolding limited
-limited-got lo hi s at e = limited_by-got 2 at lo hi s at e
-
--- and a number
-pub limited-number : (lo hi : ℕ) (s : List ℕ) (at : ℕ) {v next : ℕ} → limited lo hi s at ≡ got v next → number s at ≡ got v next
-unfolding limited limited_by
-limited-number lo hi s at e =
-    let p = and_then-got (number s at) (λ v next. unless (leb lo v) 2 at (unless (leb v hi) 2 at (got v next))) e in
-    let q = unless-got (leb lo p.value) 2 at (unless (leb p.value hi) 2 at (got p.value p.next)) p.rest in
-    p.first ∙ (unless-got (leb p.value hi) 2 at (got p.value p.next) q.rest).rest
 
 -- a reference to one of n things, above the one before it
 pub record ReferenceAt (before n : ℕ) (s : List ℕ) (at value next : ℕ) : Type 0 where

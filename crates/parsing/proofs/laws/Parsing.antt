@@ -98,17 +98,11 @@ repeat-length (suc n) f at {xs} {end} e =
     let q = cons-got p.value (repeat n f p.next) p.rest in
     rw q.whole (ap suc (repeat-length n f p.next q.rest))
 
--- readings that go on alike, and one reading after two
-pub after_same : {A B : Type 0} (p : Parsed A) (f g : A → ℕ → Parsed B) → ((a : A) (next : ℕ) → f a next ≡ g a next) → and_then p f ≡ and_then p g
+-- readings that agree at each offset agree when they are repeated
+after_same : {A B : Type 0} (p : Parsed A) (f g : A → ℕ → Parsed B) → ((a : A) (next : ℕ) → f a next ≡ g a next) → and_then p f ≡ and_then p g
 after_same (got a next) f g h = h a next
 after_same (refused k v) f g h = refl
 
-pub after-twice : {A B C : Type 0} (p : Parsed A) (f : A → ℕ → Parsed B) (g : B → ℕ → Parsed C)
-    → and_then (and_then p f) g ≡ and_then p (λ a n. and_then (f a n) g)
-after-twice (got a n) f g = refl
-after-twice (refused k v) f g = refl
-
--- readings that agree at each offset agree when they are repeated
 pub repeat-same : {A : Type 0} (n : ℕ) (f g : ℕ → Parsed A) (at : ℕ) → ((at : ℕ) → f at ≡ g at) → repeat n f at ≡ repeat n g at
 unfolding repeat
 repeat-same zero f g at h = refl

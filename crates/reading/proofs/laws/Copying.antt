@@ -25,15 +25,15 @@ pub record Copies (s : List ℕ) (at : ℕ) (ws : List ℕ) (first : ℕ) (ws' :
   pub copies : (ls : List ℕ) (ts : Tokens) → numbers_at s at ≡ up_to0 ls ts → ws' ≡ sets ws first ls
 
 -- past the words nothing is stored
-sets_past : (ws ls : List ℕ) (k : ℕ) → length ws ≤ k → sets ws k ls ≡ ws
-sets_past ws [] k h = refl
-sets_past ws (l ∷ ls) k h = rw (set_out ws k l h) (sets_past ws ls (suc k) (omega arith))
+sets-past : (ws ls : List ℕ) (k : ℕ) → length ws ≤ k → sets ws k ls ≡ ws
+sets-past ws [] k h = refl
+sets-past ws (l ∷ ls) k h = rw (set_out ws k l h) (sets-past ws ls (suc k) (omega arith))
 
 pub copies-cut : (s : List ℕ) (at k o : ℕ) (ws : List ℕ) (first : ℕ) → number s at ≡ refused k o → Copies s at ws first ws
 copies-cut s at k o ws first e = record { copies = λ ls ts f. let c = list-cut s at k o e in impossible (cc) }
 
 pub copies-past : (s : List ℕ) (at : ℕ) (ws : List ℕ) (first : ℕ) → length ws ≤ first → Copies s at ws first ws
-copies-past s at ws first h = record { copies = λ ls ts f. sym (sets_past ws ls first h) }
+copies-past s at ws first h = record { copies = λ ls ts f. sym (sets-past ws ls first h) }
 
 module _ (s : List ℕ) (at n next : ℕ) (e : number s at ≡ got n next) (ws : List ℕ) (first : ℕ) where
   pub copies_end : n ≡ 0 → Copies s at ws first ws

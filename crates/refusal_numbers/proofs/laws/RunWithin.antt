@@ -1,7 +1,7 @@
 -- The plain run gives 14 to 18.
 use Prim.Native.Nat.{ℕ, zero, suc, ◌+◌}
 use mathlib.Core.Path.{◌≡◌}
-use mathlib.Core.Bool.{Bool, true}
+use mathlib.Core.Bool.{true}
 use mathlib.Core.List.{List, [], ◌∷◌}
 use mathlib.Core.Option.{Option, none, some}
 use lib.Dec.{leb, ltb}
@@ -24,15 +24,15 @@ then-within accepts h = h _
 then-within (refuses e) h = refuses e
 
 module _ {ns : List ℕ} (p : Proofs ns) where
-  shown : (s : Shown) (fit : Bool) (st : State) (n id : ℕ) (c : List ℕ) → Within ns (by_shown s fit st n id c)
-  shown not_live fit st n id c = refuses p.e15
-  shown breaks fit st n id c = refuses p.e16
-  shown follows fit st n id [] = accepts
-  shown follows fit st n id (l ∷ ls) = given_if fit 17 n p.e17 accepts
+  shown : (s : Shown) (lim : Limits) (st : State) (n id : ℕ) (c : List ℕ) → Within ns (by_shown s lim st n id c)
+  shown not_live lim st n id c = refuses p.e15
+  shown breaks lim st n id c = refuses p.e16
+  shown follows lim st n id [] = accepts
+  shown follows lim st n id (l ∷ ls) = given_if (fits lim st (l ∷ ls)) 17 n p.e17 accepts
 
   performed : (lim : Limits) (st : State) (n : ℕ) (x : Step) → Within ns (perform lim st n x)
   unfolding perform
-  performed lim st n (add id c hs) = shown (hints_show st.live c hs) (fits lim st c) st n id c
+  performed lim st n (add id c hs) = shown (hints_show st.live c hs) lim st n id c
   performed lim st n (delete ids) = go (deleted st.live ids)
     where
       go : (o : Option Live) → Within ns (either o (refusal 15 n) (λ L. answered (some (with_live st L))))

@@ -7,7 +7,7 @@ use mathlib.Core.Option.{Option, none, some}
 use lib.Dec.{eqb, leb, ltb}
 use lib.ListN.{length, drop}
 use Rattle.scope.specs.Parsed.{Parsed, got, refused, Answer, answered, refusal, and_then, unless, cons, repeat, with, provided}
-use Rattle.scope.specs.Number.{Front, broken, whole, within, front, number_from, number, limited_by, limited, reference, references, listed}
+use Rattle.scope.specs.Number.{Front, broken, whole, within, front, number_from, number, limited, reference, references, listed}
 use Rattle.scope.specs.Kinds.{Event, Kind, longest, duration_of, users, group_at, Counted, counted_of}
 use Rattle.scope.specs.Instance.{counts_of, Instance, event_at, Fields, a_reference, a_list, a_number, the_kind, fields_read, fields_of, distinct, ordered, ended, constraint_at, Times, times_at, sizes_at, groups_at, all_groups_at, constraints_at, file_up_to, parse}
 use Rattle.scope.specs.Calendar.{Period, limited_in, period_at, periods_at, day_at, period_count, calendar_at, window_of, window_at, windows_at, windows_after}
@@ -69,17 +69,13 @@ module _ {ns : List ℕ} (r : Reader ns) where
     unfolding number
     a-number = from_front at (within (front (drop at s)))
 
-    limited-by : (k x lo hi : ℕ) → one_of ns k ≡ true → Reads ns (limited_by k x lo hi s at)
-    unfolding limited_by
-    limited-by k x lo hi e = after a-number (λ v next. tested (leb lo v) k x e (tested (leb v hi) k x e reads))
-
     a_limit : (lo hi : ℕ) → Reads ns (limited lo hi s at)
     unfolding limited
-    a_limit lo hi = limited-by 2 at lo hi r.e2
+    a_limit lo hi = after a-number (λ v next. tested (leb lo v) 2 at r.e2 (tested (leb v hi) 2 at r.e2 reads))
 
     a_limit_in : (place lo hi : ℕ) → Reads ns (limited_in place lo hi s at)
     unfolding limited_in
-    a_limit_in place lo hi = limited-by 22 place lo hi r.e22
+    a_limit_in place lo hi = after a-number (λ v next. tested (leb lo v) 22 place r.e22 (tested (leb v hi) 22 place r.e22 reads))
 
     a-reference : (before n : ℕ) → Reads ns (reference before n s at)
     unfolding reference

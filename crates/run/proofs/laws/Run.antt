@@ -15,10 +15,8 @@ use Rattle.hints.specs.Machine.{turn_of, stopped}
 use Rattle.hints.proofs.laws.Machine.{Advances}
 use Rattle.trail.specs.Recorded.{largest}
 use Rattle.reading.proofs.laws.Copying.{Copies}
-use Rattle.turns.specs.Check.{begun, judged, row_of, kept_as, released, entered, proceeded, unwound, unwound_marks, answer_of}
+use Rattle.turns.specs.Check.{begun, judged, row_of, kept_as, entered, proceeded, unwound, unwound_marks, answer_of}
 use Rattle.turns.proofs.laws.Check.{TakesStep}
-use Rattle.directory.specs.Directory.{rows_of}
-use Rattle.room.specs.Room.{Made, room_made}
 
 -- the trail holds the literals that the hints of the step at hand set true, as far as it has room
 pub record World : Type 0 where
@@ -31,17 +29,13 @@ pub record World : Type 0 where
 
 -- a turn, for the proof s, with variables up to the last and a directory of cap rows
 pub data Turn (s : List ℕ) (last cap : ℕ) (w v : World) : Type 0 where
-  looks : (p : Probe) → turn_of w.machine.phase ≤ 1 → Finds cap w.rows w.check.tally.used.rows w.machine.want p
+  looks : (p : Probe) → turn_of w.machine.phase ≤ 1 → Finds cap w.rows w.check.tally.rows w.machine.want p
       → (turn_of w.machine.phase ≡ 0 → v.rows ≡ w.rows)
       → (turn_of w.machine.phase ≡ 1 → Dies cap w.rows v.rows p.at)
       → Advances s w.machine p.hit w.words w.marks w.trail v.machine v.marks v.trail
-      → (turn_of w.machine.phase ≡ 0 → v.check ≡ w.check)
-      → (turn_of w.machine.phase ≡ 1 → v.check ≡ released w.check p.hit) → v.words ≡ w.words → Turn s last cap w v
-  -- of the rows ys; r is what they, the words and the check are once there is room
-  keeps : (ys : List Row) (r : Made) → w.rows ≡ rows_of ys → length ys ≡ cap → r ≡ room_made w.check ys w.words
-      → turn_of w.machine.phase ≡ 2 → Appends cap (rows_of r.rows) v.rows r.check.tally.used.rows (row_of r.check)
-      → v.check ≡ kept_as r.check
-      → Copies s r.check.clause.literals r.words r.check.tally.used.words v.words
+      → v.check ≡ w.check → v.words ≡ w.words → Turn s last cap w v
+  keeps : turn_of w.machine.phase ≡ 2 → Appends cap w.rows v.rows w.check.tally.rows (row_of w.check)
+      → v.check ≡ kept_as w.check → Copies s w.check.clause.literals w.words w.check.tally.words v.words
       → v.machine ≡ unwound v.check w.machine (length w.trail)
       → v.marks ≡ unwound_marks v.check w.machine v.words w.marks w.trail → Turn s last cap w v
   judges : turn_of w.machine.phase ≡ 3 → v.check ≡ judged w.check w.machine.at (length s) (length w.words) cap

@@ -1,5 +1,5 @@
 -- A check ends: what is left of it falls with each turn.
-use mathlib.Core.Path.{◌≡◌, refl, ap}
+use mathlib.Core.Path.{◌≡◌, refl}
 use mathlib.Core.Bool.{Bool, true, false, cond, ◌&&◌}
 use mathlib.Core.List.{List}
 use Prim.Native.Nat.{ℕ, zero, suc, ◌+◌, ◌-◌, ◌*◌, ◌≤◌, ◌<◌}
@@ -16,18 +16,16 @@ use Rattle.directory.specs.declared.Row.{Row}
 use Rattle.hints.specs.declared.machine.Phase.{Phase}
 use Rattle.hints.specs.declared.machine.Phase.TheVariants.{Next, Walk, Followed, Keep, Wipe, Delete, Proved, Refused}
 use Rattle.hints.specs.declared.machine.Machine.{Machine}
-use Rattle.steps.specs.declared.step.Clause.{Clause}
 use Rattle.steps.specs.declared.step.Read.{Read}
 use Rattle.turns.specs.declared.check.Check.{Check}
 use Rattle.reading.proofs.laws.Reading.{ReadsStep, adds, deletes, misformed}
-use Rattle.hints.proofs.laws.Machine as machineLaws
+use Rattle.hints.proofs.laws.Machine as machine_laws
 use Rattle.hints.specs.Machine.{turn_of, stopped, onward, walked}
 use Rattle.hints.proofs.laws.Machine.{turn-phase, Advances, gone, broken, walks, wipes, idle}
 use Rattle.trail.specs.Recorded.{recorded_at}
 use Rattle.turns.specs.Check.{kept_as, verdict, first_id, entered_at, entered, unwound, stepped}
 use Rattle.turns.proofs.laws.Check.{TakesStep, over, takes}
 use Rattle.run.specs.Turned.{budget, left_at, left}
-use Rattle.room.proofs.laws.Room.{room_same}
 use Rattle.run.proofs.laws.Run.{World, Turn, looks, keeps, judges, reads, Ran, none, more}
 
 -- the machine is at the hints of the clause at hand, or past them
@@ -108,7 +106,7 @@ advance-lower s h m (wipes id next a e p q w) t l =
     rw (q, p)
     (on-lower (length s) h (budget (length s) h 1 m.at) Wipe Next id next 0 (omega (arith, k.ahead))
     (same-stage (length s) h 1 m.at next k.ahead k.inside) (next-stage (length s) h 0 1 next m.at (omega arith)))
-advance-lower s h m (machineLaws.deletes id next a e p q w) t l =
+advance-lower s h m (machine_laws.deletes id next a e p q w) t l =
     let k = number-got s m.at e in
     rw (q, p)
     (on-lower (length s) h (budget (length s) h 4 m.at) Delete Next id next 0 (omega (arith, k.ahead))
@@ -143,7 +141,7 @@ verdict-less : (P h at e : ℕ) (c : Check) (to bytes words rows : ℕ)
     → left_at P h at (verdict c to bytes words rows) < budget P h 3 e
 unfolding verdict left_at
 verdict-less P h at e c to bytes words rows =
-    go (eqb c.clause.size 0) (ltb to bytes) (leb (c.tally.live.words + c.clause.size) words && leb (c.tally.live.rows + 1) rows)
+    go (eqb c.clause.size 0) (ltb to bytes) (leb (c.tally.words + c.clause.size) words && leb (c.tally.rows + 1) rows)
   where
     some : (k : ℕ) → 0 < budget P h k e
     some k = some-budget P h k e
@@ -207,19 +205,13 @@ lower-falls P w v h l e = (rw e l.past, rw e l.less)
 pub turn-falls : (s : List ℕ) (last cap : ℕ) (w v : World) → Turn s last cap w v → Past w.check w.machine
     → Falls (length s) w v
 unfolding left_at
-turn-falls s last cap w v (looks p t f r d a c c' ws) l =
-    lower-falls (length s) w v _ (advance-lower s w.check.clause.hints w.machine a t l) (by (turn_of w.machine.phase) refl)
-  where
-    by : (n : ℕ) → turn_of w.machine.phase ≡ n → v.check.clause.hints ≡ w.check.clause.hints
-    by zero e = rw (c e)
-    by (suc zero) e = rw (c' e)
-    by (suc (suc n)) e = absurd (omega arith)
-turn-falls s last cap w v (keeps ys r ry lo rm t a c k e ms) l =
+turn-falls s last cap w v (looks p t f r d a c ws) l =
+    lower-falls (length s) w v _ (advance-lower s w.check.clause.hints w.machine a t l) (rw c)
+turn-falls s last cap w v (keeps t a c k e ms) l =
     let h = w.check.clause.hints in
-    let same : r.check.clause.hints ≡ h = rw rm (ap (λ (x : Clause). x.hints) (room_same w.check ys w.words).clause) in
     lower-falls (length s) w v h
-    (rw (turn-phase w.machine.phase t (omega arith) (omega arith), e, c) (unwound-lower (length s) w.check (kept_as r.check) w.machine (length w.trail) same l))
-    (rw (c, same))
+    (rw (turn-phase w.machine.phase t (omega arith) (omega arith), e, c) (unwound-lower (length s) w.check (kept_as w.check) w.machine (length w.trail) refl l))
+    (rw c)
 turn-falls s last cap w v (judges t c e r ws ms tr) l =
     let h = w.check.clause.hints in
     lower-falls (length s) w v h

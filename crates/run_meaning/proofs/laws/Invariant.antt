@@ -8,7 +8,7 @@ use Rattle.scope.specs.Parsed.{Answer, answered, refusal}
 use Rattle.scope.specs.Steps.{Live, follows, deleted}
 use Rattle.theory.proofs.laws.StepTokens.{Tokens, up_to0}
 use Rattle.theory.proofs.laws.Marked.{all_open, all_false, literals_ok, hints_show}
-use Rattle.scope.specs.PlainRun.{State, Limits, used_below, a_word_each, one_row, with_clause}
+use Rattle.scope.specs.PlainRun.{State, Limits, with_clause}
 use Rattle.theory.proofs.laws.MarkedRun.{Outcome, by_shown, by_deleted, by_outcome, run}
 use Rattle.directory.specs.declared.Row.{Row}
 use Rattle.marks.specs.Marks.{marks_of}
@@ -27,20 +27,17 @@ use Rattle.run_meaning.proofs.laws.Hints.{in_hints, AllLive}
 
 -- the plain run's state after so many steps
 abbrev pub state_of : ℕ → Tally → Live → State
-state_of steps t L = record { live = L; highest = t.highest; steps = steps }
+state_of steps t L = record { live = L; highest = t.highest; words_used = t.words; rows_used = t.rows; steps = steps }
 
 -- the live clauses
 abbrev pub live_in : Tally → (ℕ → Row) → List ℕ → Live
-live_in tally R ws = live_rows R ws tally.used.rows
+live_in tally R ws = live_rows R ws tally.rows
 
 -- the stores
 pub record Base (lim : Limits) (tally : Tally) (R : ℕ → Row) (ws ms : List ℕ) : Type 0 where
-  pub holding : Holding lim.last_variable lim.rows_lent R ws tally.used.rows tally.used.words tally.highest
+  pub holding : Holding lim.last_variable lim.rows_lent R ws tally.rows tally.words tally.highest
   pub lent : length ws ≡ lim.words_lent
   pub marked : lim.last_variable ≤ length ms
-  -- what the live clauses use is counted
-  pub live_words : tally.live.words ≡ used_below a_word_each (live_in tally R ws) (tally.highest + 1)
-  pub live-rows : tally.live.rows ≡ used_below one_row (live_in tally R ws) (tally.highest + 1)
 
 -- a step that was read: those before it are done, what comes after it, and how many steps more can be taken
 pub record InStep (s : List ℕ) (tally : Tally) (clause : Clause) : Type 0 where
@@ -79,11 +76,6 @@ abbrev pub before : {s : List ℕ} {lim : Limits} {tally : Tally} {clause : Clau
     → Adding s lim tally clause R ws ms → State
 before {tally = tally} {R = R} {ws = ws} a = state_of a.step.done tally (live_in tally R ws)
 
--- there is room for a clause behind what is in use
-pub record Roomy (lim : Limits) (tally : Tally) (literals : List ℕ) : Type 0 where
-  pub words : tally.used.words + length literals ≤ lim.words_lent
-  pub rows : tally.used.rows + 1 ≤ lim.rows_lent
-
 -- by the phase
 module _ (s : List ℕ) (lim : Limits) (A : Answer ℕ) (tally : Tally) (clause : Clause) (R : ℕ → Row) (ws ms : List ℕ) where
   -- a step is to be read
@@ -114,14 +106,14 @@ module _ (s : List ℕ) (lim : Limits) (A : Answer ℕ) (tally : Tally) (clause 
     pub after_at : tokens_at s at ≡ adding.step.after
     pub answer : A ≡ ending lim adding.step (by_shown follows lim (before adding) clause.id adding.literals)
 
-  -- it fits beside the live ones
+  -- it fits
   pub record Keeping (tr : List ℕ) (n at : ℕ) : Type 0 where
     pub adding : Adding s lim tally clause R ws ms
     pub trail : Trailed adding.literals tr ms n
     pub live : AllLive (live_in tally R ws) adding.hints
     pub after_at : tokens_at s at ≡ adding.step.after
-    pub words_fit : tally.live.words + length adding.literals ≤ lim.words_lent
-    pub rows_fit_lem : tally.live.rows + 1 ≤ lim.rows_lent
+    pub words_fit : tally.words + length adding.literals ≤ lim.words_lent
+    pub rows_fit_lem : tally.rows + 1 ≤ lim.rows_lent
     pub answer : A ≡ run adding.step.fuel lim (with_clause (before adding) clause.id adding.literals)
         adding.step.after
 

@@ -12,7 +12,7 @@ use borrow.Author.Tests.{ne_eqb, leb-false}
 use Rattle.scope.specs.Parsed.{Answer, refusal, got}
 use Rattle.scope.specs.Number.{number}
 use Rattle.theory.specs.Marked as steps
-use Rattle.theory.proofs.laws.Marked as stepsLaws
+use Rattle.theory.proofs.laws.Marked as steps_laws
 use Rattle.theory.specs.Marked.{Marks, Standing, standing}
 use Rattle.theory.proofs.laws.Marked.{all_open, all_false, make_true, by_standing, hints_show}
 use Rattle.scope.specs.PlainRun.{Limits}
@@ -48,7 +48,7 @@ module _ (s : List ℕ) (lim : Limits) (A : Answer ℕ) (c : Check) (R : ℕ →
     abbrev shown_by : Standing → Marks → List ℕ → Answer ℕ
     shown_by x m left =
         ending lim w.adding.step
-        (by_shown (stepsLaws.by_hint (by_standing x) (λ l. hints_show (live_in c.tally R ws) (make_true m l) left) (stepsLaws.if_last left))
+        (by_shown (steps_laws.by_hint (by_standing x) (λ l. hints_show (live_in c.tally R ws) (make_true m l) left) (steps_laws.if_last left))
         lim (before w.adding)
         c.clause.id w.adding.literals)
 
@@ -112,8 +112,6 @@ module _ (s : List ℕ) (lim : Limits) (A : Answer ℕ) (c : Check) (R : ℕ →
                 lent = a.base.lent;
                 marked = rw (put-length ms (l / 2) (1 + l % 2))
                     a.base.marked;
-                live_words = a.base.live_words;
-                live-rows = a.base.live-rows;
               };
               step = a.step;
               literals = a.literals;
@@ -189,14 +187,7 @@ module _ (s : List ℕ) (lim : Limits) (A : Answer ℕ) (c : Check) (R : ℕ →
   module _ (w : Wiping s lim A c.tally c.clause R ws ms h at) (cl ms' : List ℕ)
       (e : live_in c.tally R ws h ≡ some cl) (x : Wiped (in_clause cl) ms ms') (long : length ms' ≡ length ms) where
     wiped_base : Base lim c.tally R ws ms'
-    wiped_base =
-        record {
-          holding = w.base.holding;
-          lent = w.base.lent;
-          marked = rw long w.base.marked;
-          live_words = w.base.live_words;
-          live-rows = w.base.live-rows;
-        }
+    wiped_base = record { holding = w.base.holding; lent = w.base.lent; marked = rw long w.base.marked }
 
     outside' : (v : ℕ) → in_hints (live_in c.tally R ws) w.left v ≡ false → marks_of ms' v ≡ 0
     unfolding in_hints

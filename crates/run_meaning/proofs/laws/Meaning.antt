@@ -1,11 +1,10 @@
 -- What a check answers: the plain run's answer for the formula that stands in the stores: laws.
-use mathlib.Core.Path.{◌≡◌, refl, sym, ap, subst, ◌∙◌}
+use mathlib.Core.Path.{◌≡◌, refl, sym, ap, ◌∙◌}
 use mathlib.Core.List.{List, ◌++◌, flat_map}
 use mathlib.Core.Option.{none, some}
-use Prim.Native.Nat.{ℕ, zero, suc, ◌+◌, ◌≤◌, ◌<◌}
+use Prim.Native.Nat.{ℕ, zero, suc, ◌≤◌, ◌<◌}
 use native.Mathlib.Omega.{arith}
-use lib.ListN.{length, drop, length-drop}
-use lib.Seq.{length-take-le}
+use lib.ListN.{length}
 use borrow.Author.Tests.{eq-eqb, ne_eqb}
 use Rattle.scope.specs.Parsed.{Answer}
 use Rattle.theory.proofs.laws.Marked.{all_open}
@@ -19,7 +18,7 @@ use Rattle.scope.specs.declared.CheckAnswer.{CheckAnswer}
 use Rattle.directory.specs.declared.Row.{Row}
 use Rattle.lookup.specs.declared.Probe.{Probe}
 use Rattle.marks.specs.Marks.{marks_of}
-use Rattle.directory.specs.Rows.{first_word, row_clause}
+use Rattle.directory.specs.Rows.{row_clause}
 use Rattle.directory.proofs.laws.Rows.{Dies}
 use Rattle.lookup.proofs.laws.Lookup.{Found, hit, miss, Finds}
 use Rattle.holding.proofs.laws.Live.{held, live_rows, live-found}
@@ -36,22 +35,17 @@ use Rattle.hints.specs.declared.machine.Phase.TheVariants.{Next, Walk, Followed,
 use Rattle.hints.specs.declared.machine.Machine.{Machine}
 use Rattle.turns.specs.declared.check.Check.{Check}
 use Rattle.reading.proofs.laws.Listing.{list-cut}
-use Rattle.hints.proofs.laws.Machine as machineLaws
+use Rattle.hints.proofs.laws.Machine as machine_laws
 use Rattle.hints.specs.Machine.{turn_of}
 use Rattle.hints.proofs.laws.Machine.{turn-phase, Advances, gone, broken, walks, wipes, idle}
 use Rattle.trail.specs.Recorded.{largest}
-use Rattle.turns.specs.Check.{released_from, answer_of}
-use Rattle.steps.specs.declared.step.Clause.{Clause}
-use Rattle.theory.proofs.laws.Room.{words-start, rows_start}
-use Rattle.room.specs.Room.{Made}
-use Rattle.room.proofs.laws.Room.{room_same}
-use Rattle.run_meaning.proofs.laws.RoomMeans.{Ready, made_ready}
+use Rattle.turns.specs.Check.{answer_of}
 use Rattle.run.proofs.laws.Run as run
 use Rattle.run.proofs.laws.Run.{World, Turn, looks, keeps, judges, reads, Ran}
 use Rattle.run.specs.Turned.{outcome, driven_by}
 use Rattle.run.proofs.laws.Termination.{Past, turn-falls}
 use Rattle.run.proofs.Turning.{Few, driven-chain}
-use Rattle.run_meaning.proofs.laws.Invariant.{Base, live_in, Walking, Keeping, Wiping, Deleting, InvariantIn, InvariantAt, Invariant}
+use Rattle.run_meaning.proofs.laws.Invariant.{Base, live_in, Walking, Wiping, Deleting, InvariantIn, InvariantAt, Invariant}
 use Rattle.run_meaning.proofs.laws.LookMeans.{hint_gone, hint_judged, clause_wiped}
 use Rattle.run_meaning.proofs.laws.StepMeans.{id_gone, id-deleted, clause_kept, clause_judged}
 use Rattle.run_meaning.proofs.laws.ReadMeans.{step-read}
@@ -64,20 +58,16 @@ gone-none live cl e = rw (eq-eqb live 0 e)
 live-some : (live : ℕ) (cl : List ℕ) → (live ≡ 0 → ⊥) → held live cl ≡ some cl
 live-some live cl e = rw (ne_eqb live 0 e)
 
--- a row's clause has as many words as the row says
-row-long : (row : Row) (ws : List ℕ) → first_word row + row.len ≤ length ws → length (row_clause row ws) ≡ row.len
-row-long row ws h = length-take-le row.len (drop (first_word row) ws) (rw length-drop (omega arith))
-
 module _ (s : List ℕ) (lim : Limits) (A : Answer ℕ) (c : Check) (R : ℕ
     → Row) (ws ms tr : List ℕ) (m : Machine) (p : Probe) (r : Machine) (ms' tr' : List ℕ)
-    (f : Finds lim.rows_lent R c.tally.used.rows m.want p) (a : Advances s m p.hit ws ms tr r ms' tr') where
+    (f : Finds lim.rows_lent R c.tally.rows m.want p) (a : Advances s m p.hit ws ms tr r ms' tr') where
   -- what was found, in a store that holds clauses
   module _ (b : Base lim c.tally R ws ms) where
-    what : Found R c.tally.used.rows m.want p
+    what : Found R c.tally.rows m.want p
     what = f.found b.holding.fit b.holding.rising
 
     clause_is : live_in c.tally R ws m.want ≡ held p.hit.live (row_clause p.hit ws)
-    clause_is = live-found R ws c.tally.used.rows m.want p b.holding.rising what
+    clause_is = live-found R ws c.tally.rows m.want p b.holding.rising what
 
   walk_turn : m.phase ≡ Walk → length tr < largest → Walking s lim A c.tally c.clause R ws ms tr m.set m.want m.at
       → InvariantAt s lim A c.tally c.clause R ws ms' tr' r
@@ -92,11 +82,11 @@ module _ (s : List ℕ) (lim : Limits) (A : Answer ℕ) (c : Check) (R : ℕ
       by (walks id next l n z q t u) =
           rw (q, t, u)
           (hint_judged s lim A c R ws ms tr m.set m.want m.at w (row_clause p.hit ws) (clause_is b ∙ live-some _ _ l)
-          (found_good lim.last_variable lim.rows_lent R ws c.tally.used.rows c.tally.used.words c.tally.highest b.holding
+          (found_good lim.last_variable lim.rows_lent R ws c.tally.rows c.tally.words c.tally.highest b.holding
           m.want p (what b) l)
           few id next n)
       by (wipes id next l n z q t) = impossible (cc)
-      by (machineLaws.deletes id next l n z q t) = impossible (cc)
+      by (machine_laws.deletes id next l n z q t) = impossible (cc)
       by (idle z) = absurd (omega (arith, ap turn_of e))
 
   wipe_turn : m.phase ≡ Wipe → c.clause.hints ≤ m.at → length ms' ≡ length ms
@@ -112,28 +102,26 @@ module _ (s : List ℕ) (lim : Limits) (A : Answer ℕ) (c : Check) (R : ℕ
           rw q
           (clause_wiped s lim A c R ws ms tr m.set m.want m.at w (row_clause p.hit ws) ms' (clause_is w.base
           ∙ live-some _ _ l) t long tr' id next n past)
-      by (machineLaws.deletes id next l n z q t) = impossible (cc)
+      by (machine_laws.deletes id next l n z q t) = impossible (cc)
       by (idle z) = absurd (omega (arith, ap turn_of e))
 
   delete_turn : m.phase ≡ Delete → c.clause.hints ≤ m.at → (R' : ℕ → Row) → Dies lim.rows_lent R R' p.at
-      → Deleting s lim A c.tally c.clause R ws ms m.want m.at
-      → InvariantAt s lim A (released_from c.tally p.hit) c.clause R' ws ms' tr' r
+      → Deleting s lim A c.tally c.clause R ws ms m.want m.at → InvariantAt s lim A c.tally c.clause R' ws ms' tr' r
   delete_turn e past R' d w = by a
     where
-      by : Advances s m p.hit ws ms tr r ms' tr' → InvariantAt s lim A (released_from c.tally p.hit) c.clause R' ws ms' tr' r
+      by : Advances s m p.hit ws ms tr r ms' tr' → InvariantAt s lim A c.tally c.clause R' ws ms' tr' r
       by (gone z q) = rw q (id_gone s lim A c R ws ms m.want m.at w (clause_is w.base ∙ gone-none _ _ z))
       by (broken k v n q) = let x = list-cut s m.at k v n in let y = w.left_at in impossible (cc)
       by (walks id next l n z q t u) = impossible (cc)
       by (wipes id next l n z q t) = impossible (cc)
-      by (machineLaws.deletes id next l n z q t) = found (what w.base)
+      by (machine_laws.deletes id next l n z q t) = found (what w.base)
         where
-          found : Found R c.tally.used.rows m.want p → InvariantAt s lim A (released_from c.tally p.hit) c.clause R' ws ms' tr' r
+          found : Found R c.tally.rows m.want p → InvariantAt s lim A c.tally c.clause R' ws ms' tr' r
           found (hit h i j) =
-              rw (q, t, d.dies (omega (arith, w.base.holding.fit)), i)
+              rw (q, t, d.dies (omega (arith, w.base.holding.fit)))
               (id-deleted s lim A c R ws ms m.want m.at p.at w (row_clause p.hit ws) (clause_is w.base
               ∙ live-some _ _ l) h
-              (ap (λ x. x.id) (sym i) ∙ j)
-              (rw i (row-long (R p.at) ws (omega (arith, w.base.holding.within p.at h, w.base.holding.room)))) tr' id next n past)
+              (ap (λ x. x.id) (sym i) ∙ j) tr' id next n past)
           found (miss i j) = absurd (l (ap (λ x. x.live) i))
       by (idle z) = absurd (omega (arith, ap turn_of e))
 
@@ -148,7 +136,7 @@ pub record Short (s : List ℕ) (lim : Limits) : Type 0 where
 module _ (s : List ℕ) (lim : Limits) (A : Answer ℕ) (short : Short s lim) (w v : World)
     (long : length v.marks ≡ length w.marks) (few : length w.trail < largest) (past : Past w.check w.machine) where
   look_keeps : (p : Probe) → turn_of w.machine.phase ≡ 0
-      → Finds lim.rows_lent w.rows w.check.tally.used.rows w.machine.want p
+      → Finds lim.rows_lent w.rows w.check.tally.rows w.machine.want p
       → Advances s w.machine p.hit w.words w.marks w.trail v.machine v.marks v.trail
       → Invariant s lim A w → InvariantAt s lim A w.check.tally w.check.clause w.rows w.words v.marks v.trail
       v.machine
@@ -170,38 +158,29 @@ module _ (s : List ℕ) (lim : Limits) (A : Answer ℕ) (short : Short s lim) (w
 
   -- what holds in the phase of a turn
   in-phase : (n : ℕ) → turn_of w.machine.phase ≡ n → 1 ≤ n → n ≤ 4 → Invariant s lim A w
-      → InvariantIn s lim A w.check.tally w.check.clause w.rows w.words w.marks w.trail (machineLaws.phase_of n)
+      → InvariantIn s lim A w.check.tally w.check.clause w.rows w.words w.marks w.trail (machine_laws.phase_of n)
       w.machine.at
       w.machine.want w.machine.set
   in-phase n t l h x = rw (turn-phase w.machine.phase t l h) at x
 
   pub turn_keeps : Turn s lim.last_variable lim.rows_lent w v → Invariant s lim A w → Invariant s lim A v
-  turn_keeps (looks p t f r d a c c' ws) x = rw ws (by (turn_of w.machine.phase) refl)
+  turn_keeps (looks p t f r d a c ws) x = rw (c, ws) (by (turn_of w.machine.phase) refl)
     where
       by : (n : ℕ) → turn_of w.machine.phase ≡ n
-          → InvariantAt s lim A v.check.tally v.check.clause v.rows w.words v.marks v.trail v.machine
-      by zero e = rw (c e, r e) (look_keeps p e f a x)
+          → InvariantAt s lim A w.check.tally w.check.clause v.rows w.words v.marks v.trail v.machine
+      by zero e = rw (r e) (look_keeps p e f a x)
       by (suc zero) e =
-          rw (c' e)
-          (delete_turn s lim A w.check w.rows w.words w.marks w.trail w.machine p v.machine v.marks v.trail f a
+          delete_turn s lim A w.check w.rows w.words w.marks w.trail w.machine p v.machine v.marks v.trail f a
           (turn-phase w.machine.phase e (omega arith) (omega arith))
-          past v.rows (d e) (in-phase 1 e (omega arith) (omega arith) x))
+          past v.rows (d e) (in-phase 1 e (omega arith) (omega arith) x)
       by (suc (suc n)) e = absurd (omega arith)
-  turn_keeps (keeps ys r ry lo rm t a c k e ms) x =
-      let y₀ : Keeping s lim A w.check.tally w.check.clause (rows_of ys) w.words w.marks w.trail w.machine.set
-      w.machine.at = rw (← ry) (in-phase 2 t (omega arith) (omega arith) x) in
-      let ready : Ready s lim A w.marks w.trail w.machine.set w.machine.at r.check (rows_of r.rows) r.words =
-      subst (λ (z : Made). Ready s lim A w.marks w.trail w.machine.set w.machine.at z.check (rows_of z.rows) z.words) (sym rm)
-      (made_ready s lim A w.marks w.trail w.machine.set w.machine.at w.check ys w.words lo y₀
-      short.few_words short.few_rows) in
-      let y = ready.keeping in
+  turn_keeps (keeps t a c k e ms) x =
+      let y = in-phase 2 t (omega arith) (omega arith) x in
       let d = k.copies y.adding.literals y.adding.middle y.adding.literals-at in
       let l = rw (ms, c, d) at long in
-      let same : r.check.clause.hints ≡ w.check.clause.hints =
-      rw rm (ap (λ (x : Clause). x.hints) (room_same w.check ys w.words).clause) in
-      rw (e, ms, c, a.appends (omega (arith, ready.roomy.rows)), d)
-      (clause_kept s lim A r.check (rows_of r.rows) r.words w.marks w.trail w.machine y ready.roomy short.few_variables
-      short.few_rows short.few_words (omega (arith, same, past)) v.trail l)
+      rw (e, ms, c, a.appends (omega (arith, y.rows_fit_lem)), d)
+      (clause_kept s lim A w.check w.rows w.words w.marks w.trail w.machine y short.few_variables short.few_rows short.few_words past
+      v.trail l)
   turn_keeps (judges t c e r ws ms tr) x =
       rw (e, c, r, ws, ms, tr) (clause_judged s lim A w.check w.rows w.words w.marks w.trail w.machine.set w.machine.at
       (in-phase 3 t (omega arith) (omega arith) x))
@@ -281,19 +260,12 @@ driven-means s last n used ys ws ms r f few e least short-words x =
     let short : Short s lim = record { few_bytes = d.few_bytes; few_words = short-words; few_rows = d.few_rows; few_variables = least } in
     let begins : Invariant s lim A (run.ready n used R ws ms d.trail) =
     record {
-      base =
-          record {
-            holding = x.holding;
-            lent = refl;
-            marked = x.marked;
-            live_words = rw (x.live, x.count, x.size) (sym (words-start f));
-            live-rows = rw (x.live, x.count) (sym (rows_start f));
-          };
+      base = record { holding = x.holding; lent = refl; marked = x.marked };
       unmarked = x.unmarked;
       early = omega arith;
       fuel = suc (length s);
       enough = omega arith;
-      answer = rw (x.live, x.count);
+      answer = rw (x.live, x.count, x.size);
     } in
     ap check_means d.answer
     ∙ ended-answer s lim A d.end d.over (ran-keeps s lim A short (run.ready n used R ws ms d.trail) d.end d.ran

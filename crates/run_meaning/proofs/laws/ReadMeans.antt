@@ -10,7 +10,7 @@ use lib.Seq.{drop-cons}
 use borrow.Author.Tests.{ltb-true}
 use Rattle.scope.specs.Parsed.{Parsed, Answer, refusal, got, refused}
 use Rattle.scope.specs.Number.{Front, broken, whole, front, within, number}
-use Rattle.theory.proofs.laws.Marked as stepsLaws
+use Rattle.theory.proofs.laws.Marked as steps_laws
 use Rattle.scope.specs.Steps.{deleted}
 use Rattle.theory.proofs.laws.StepTokens.{Tokens, by_front, tokens_after, StepRead, read, misread, read_step}
 use Rattle.theory.proofs.laws.Marked.{well_formed, all_open, hints_show}
@@ -99,21 +99,14 @@ module _ (s : List ℕ) (lim : Limits) (A : Answer ℕ) (c : Check) (R : ℕ →
           }
 
       abbrev base' : Base lim (counted c.tally) R ws ms'
-      base' =
-          record {
-            holding = w.base.holding;
-            lent = w.base.lent;
-            marked = rw long w.base.marked;
-            live_words = w.base.live_words;
-            live-rows = w.base.live-rows;
-          }
+      base' = record { holding = w.base.holding; lent = w.base.lent; marked = rw long w.base.marked }
 
     -- a clause is to be added
     module _ (k : Clause) (ahead : at < k.hints) (ms' : List ℕ) (long : length ms' ≡ length ms)
         (a : AddsAt (read_step (tokens_at s at)) s c.tally.highest lim.last_variable ms' k) where
-      formed : (ltb c.tally.highest k.id ≡ true) × (stepsLaws.literals_ok lim.last_variable all_open a.literals ≡ true)
+      formed : (ltb c.tally.highest k.id ≡ true) × (steps_laws.literals_ok lim.last_variable all_open a.literals ≡ true)
       unfolding well_formed
-      formed = and-true (ltb c.tally.highest k.id) (stepsLaws.literals_ok lim.last_variable all_open a.literals) a.formed
+      formed = and-true (ltb c.tally.highest k.id) (steps_laws.literals_ok lim.last_variable all_open a.literals) a.formed
 
       abbrev adding : Adding s lim (counted c.tally) k R ws ms'
       adding =

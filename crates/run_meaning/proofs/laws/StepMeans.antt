@@ -16,7 +16,7 @@ use Rattle.scope.specs.Steps.{Live, put, follows, deleted}
 use Rattle.theory.proofs.laws.StepTokens.{by_front, tokens_after}
 use Rattle.theory.proofs.laws.Marked.{all_open}
 use Rattle.theory.proofs.laws.MarkedRun as plain
-use Rattle.scope.specs.PlainRun.{State, Limits, used_below, a_word_each, one_row, words_used, rows_used, with_clause, fits}
+use Rattle.scope.specs.PlainRun.{State, Limits, with_clause, fits}
 use Rattle.theory.proofs.laws.MarkedRun.{by_shown, by_deleted, at_end, run}
 use Rattle.parsing.proofs.laws.Numbers.{number-got}
 use Rattle.directory.specs.declared.Row.{Row}
@@ -42,11 +42,9 @@ use Rattle.reading.proofs.laws.Listing.{Ahead, last_id, more_ids, ids-ahead}
 use Rattle.hints.specs.Machine.{stopped, onward}
 use Rattle.hints.proofs.laws.Machine.{onward-end, onward-more}
 use Rattle.trail.specs.Recorded.{largest}
-use Rattle.turns.specs.Check.{verdict, row_of, kept_as, released_from, unwound, unwound_marks}
-use Rattle.theory.proofs.laws.Room.{used_put}
-use Rattle.theory.proofs.laws.Formerly.{used_new}
+use Rattle.turns.specs.Check.{verdict, row_of, kept_as, unwound, unwound_marks}
 use Rattle.run_meaning.proofs.laws.Hints.{in_hint, in_hints, IsLive, outside-false, literals-good, hints_same, live_same}
-use Rattle.run_meaning.proofs.laws.Invariant.{Base, InStep, ending, before, live_in, state_of, Roomy, Following, Keeping, Wiping, Deleting, InvariantAt}
+use Rattle.run_meaning.proofs.laws.Invariant.{Base, InStep, ending, before, live_in, state_of, Following, Keeping, Wiping, Deleting, InvariantAt}
 
 -- what a deletion leaves does not go by the clauses that were live before it
 not-by-live : (n : ℕ) (t : Tally) (L L' : Live) (o : Option Live) → by_deleted (state_of n t L) o ≡ by_deleted (state_of n t L') o
@@ -84,59 +82,24 @@ module _ (s : List ℕ) (lim : Limits) (A : Answer ℕ) (c : Check) (R : ℕ →
 
   -- a live clause is deleted
   module _ (h at i : ℕ) (w : Deleting s lim A c.tally c.clause R ws ms h at) (cl : List ℕ)
-      (e : live_in c.tally R ws h ≡ some cl) (l : i < c.tally.used.rows) (same : (R i).id ≡ h) (long : length cl ≡ (R i).len) where
+      (e : live_in c.tally R ws h ≡ some cl) (l : i < c.tally.rows) (same : (R i).id ≡ h) where
     abbrev R' : ℕ → Row
     R' = put R i (dying (R i))
 
-    abbrev tally' : Tally
-    tally' = released_from c.tally (R i)
-
     now_live : live_in c.tally R' ws ≡ put (live_in c.tally R ws) h none
-    now_live = live_dead R i ws c.tally.used.rows w.base.holding.rising l ∙ rw same
+    now_live = live_dead R i ws c.tally.rows w.base.holding.rising l ∙ rw same
 
-    -- what it used is free
-    freed : (size : List ℕ → ℕ) (n : ℕ) → n ≡ used_below size (live_in c.tally R ws) (c.tally.highest + 1)
-        → n - size cl ≡ used_below size (live_in c.tally R' ws) (c.tally.highest + 1)
-    freed size n q =
-        let below = w.base.holding.below i l in
-        let u = used_put size (live_in c.tally R ws) h none (c.tally.highest + 1) (omega (arith, same)) in
-        let v = rw e at u in
-        rw now_live (omega (arith, v, q))
-
-    deleted_base : Base lim tally' R' ws ms
+    deleted_base : Base lim c.tally R' ws ms
     deleted_base =
         record {
-          holding = holding_dead lim.last_variable lim.rows_lent R ws c.tally.used.rows c.tally.used.words c.tally.highest
+          holding = holding_dead lim.last_variable lim.rows_lent R ws c.tally.rows c.tally.words c.tally.highest
               w.base.holding i;
           lent = w.base.lent;
           marked = w.base.marked;
-          live_words = ap (λ k. c.tally.live.words - k) (sym long) ∙ freed a_word_each c.tally.live.words w.base.live_words;
-          live-rows = freed one_row c.tally.live.rows w.base.live-rows;
         }
-
-    abbrev deleted_step : InStep s tally' c.clause
-    deleted_step =
-        record {
-          done = w.step.done;
-          counts = w.step.counts;
-          early = w.step.early;
-          after = w.step.after;
-          fuel = w.step.fuel;
-          enough = w.step.enough;
-        }
-
-    -- what the ids that are left come to
-    go_on : {x : Answer ℕ} (id : ℕ) (rest : List ℕ)
-        → x ≡ ending lim w.step (by_deleted (state_of w.step.done c.tally (live_in c.tally R ws)) (deleted (put (live_in c.tally R ws) h none) (id ∷ rest)))
-        → x ≡ ending lim w.step (by_deleted (state_of w.step.done c.tally (live_in c.tally R' ws)) (deleted (live_in c.tally R' ws) (id ∷ rest)))
-    go_on id rest a =
-        a
-        ∙ rw now_live (ap (ending lim w.step)
-        (not-by-live w.step.done c.tally (live_in c.tally R ws) (put (live_in c.tally R ws) h none)
-        (deleted (put (live_in c.tally R ws) h none) (id ∷ rest))))
 
     pub id-deleted : (tr : List ℕ) (id next : ℕ) → number s at ≡ got id next → c.clause.hints ≤ at
-        → InvariantAt s lim A tally' c.clause R' ws ms tr (onward Delete Next id next 0)
+        → InvariantAt s lim A c.tally c.clause R' ws ms tr (onward Delete Next id next 0)
     unfolding deleted
     id-deleted tr id next n past = go w.left refl (ids-ahead s at id next w.left w.step.after n w.left_at)
       where
@@ -144,7 +107,7 @@ module _ (s : List ℕ) (lim : Limits) (A : Answer ℕ) (c : Check) (R : ℕ →
         k = (number-got s at n).ahead
 
         go : (left : List ℕ) → w.left ≡ left → Ahead s next id w.step.after left
-            → InvariantAt s lim A tally' c.clause R' ws ms tr (onward Delete Next id next 0)
+            → InvariantAt s lim A c.tally c.clause R' ws ms tr (onward Delete Next id next 0)
         go left q (last_id z t) =
             rw (onward-end Delete Next id next 0 z)
             (record {
@@ -160,32 +123,35 @@ module _ (s : List ℕ) (lim : Limits) (A : Answer ℕ) (c : Check) (R : ℕ →
             (record {
               base = deleted_base;
               unmarked = w.unmarked;
-              step = deleted_step;
+              step = w.step;
               left = rest;
               left_at = t;
-              answer = go_on id rest (w.answer ∙ rw (e, q));
+              answer =
+                  w.answer
+                  ∙ rw (e, q, now_live) (ap (ending lim w.step)
+                  (not-by-live w.step.done c.tally (live_in c.tally R ws) (put (live_in c.tally R ws) h none)
+                  (deleted (put (live_in c.tally R ws) h none) (id ∷ rest))));
             })
 
-  -- a clause is kept, where there is room for it and the machine stands behind its step
-  module _ (tr : List ℕ) (m : Machine) (w : Keeping s lim A c.tally c.clause R ws ms tr m.set m.at)
-      (r : Roomy lim c.tally w.adding.literals) where
+  -- a clause is kept, where the machine stands behind its step
+  module _ (tr : List ℕ) (m : Machine) (w : Keeping s lim A c.tally c.clause R ws ms tr m.set m.at) where
     abbrev row : Row
     row = row_of c
 
     abbrev kept_words : List ℕ
-    kept_words = sets ws c.tally.used.words w.adding.literals
+    kept_words = sets ws c.tally.words w.adding.literals
 
     abbrev kept_rows : ℕ → Row
-    kept_rows = put R c.tally.used.rows row
+    kept_rows = put R c.tally.rows row
 
     good : All (Good lim.last_variable) w.adding.literals
     good = literals-good lim.last_variable all_open w.adding.literals w.adding.good
 
-    room : c.tally.used.words + length w.adding.literals ≤ length ws
-    room = omega (arith, r.words, w.adding.base.lent)
+    room : c.tally.words + length w.adding.literals ≤ length ws
+    room = omega (arith, w.words_fit, w.adding.base.lent)
 
-    free : c.tally.used.rows < lim.rows_lent
-    free = omega (arith, r.rows)
+    free : c.tally.rows < lim.rows_lent
+    free = omega (arith, w.rows_fit_lem)
 
     -- the hints' clauses are as they were
     hint_kept : (h : ℕ) → IsLive (live_in c.tally R ws h)
@@ -194,7 +160,7 @@ module _ (s : List ℕ) (lim : Limits) (A : Answer ℕ) (c : Check) (R : ℕ →
       where
         other : IsLive (live_in c.tally R ws c.clause.id) → ⊥
         other a =
-            rw (id_free lim.last_variable lim.rows_lent R ws c.tally.used.rows c.tally.used.words c.tally.highest
+            rw (id_free lim.last_variable lim.rows_lent R ws c.tally.rows c.tally.words c.tally.highest
             w.adding.base.holding c.clause.id w.adding.fresh) at a
 
     -- no mark stands outside the kept clause and its hints
@@ -214,47 +180,32 @@ module _ (s : List ℕ) (lim : Limits) (A : Answer ℕ) (c : Check) (R : ℕ →
     -- the counts do not run over, and the clause's row is exact
     module _ (few_variables : lim.last_variable ≤ 4294967295) (few_rows : lim.rows_lent ≤ largest)
         (few_words : lim.words_lent ≤ 9223372036854775807) where
-      exact : Exact c.clause.id c.tally.used.words (length w.adding.literals) row
+      exact : Exact c.clause.id c.tally.words (length w.adding.literals) row
       exact =
           let few = literals-few lim.last_variable w.adding.literals w.adding.good in
           rw w.adding.size
-          (row-exact c.clause.id c.tally.used.words c.clause.size w.adding.small (omega (arith, r.words))
+          (row-exact c.clause.id c.tally.words c.clause.size w.adding.small (omega (arith, w.words_fit))
           (omega (arith, few, w.adding.size)))
 
-      few_row : (row.id ≤ 4294967295) × (row.len ≤ 4294967295)
-      few_row =
-          let few = literals-few lim.last_variable w.adding.literals w.adding.good in
-          (omega (arith, exact.named, w.adding.small), omega (arith, exact.long, few))
-
-      kept_holding : Holding lim.last_variable lim.rows_lent kept_rows kept_words (suc c.tally.used.rows)
-          (c.tally.used.words + length w.adding.literals) c.clause.id
+      kept_holding : Holding lim.last_variable lim.rows_lent kept_rows kept_words (suc c.tally.rows)
+          (c.tally.words + length w.adding.literals) c.clause.id
       kept_holding =
-          holding_kept lim.last_variable lim.rows_lent R ws c.tally.used.rows c.tally.used.words c.tally.highest
-          w.adding.base.holding
-          row c.clause.id w.adding.literals w.adding.fresh exact few_row room free good
-
-      kept_live : live_rows kept_rows kept_words (suc c.tally.used.rows)
-          ≡ put (live_in c.tally R ws) c.clause.id (some w.adding.literals)
-      kept_live =
-          live_kept lim.last_variable lim.rows_lent R ws c.tally.used.rows c.tally.used.words c.tally.highest
+          holding_kept lim.last_variable lim.rows_lent R ws c.tally.rows c.tally.words c.tally.highest
           w.adding.base.holding
           row c.clause.id w.adding.literals w.adding.fresh exact room free good
 
-      kept_count : min (c.tally.used.rows + 1) largest ≡ suc c.tally.used.rows
-      kept_count = omega (arith, r.rows)
+      kept_live : live_rows kept_rows kept_words (suc c.tally.rows)
+          ≡ put (live_in c.tally R ws) c.clause.id (some w.adding.literals)
+      kept_live =
+          live_kept lim.last_variable lim.rows_lent R ws c.tally.rows c.tally.words c.tally.highest
+          w.adding.base.holding
+          row c.clause.id w.adding.literals w.adding.fresh exact room free good
 
-      kept_used : min (c.tally.used.words + c.clause.size) largest ≡ c.tally.used.words + length w.adding.literals
-      kept_used = omega (arith, r.words, w.adding.size)
+      kept_count : min (c.tally.rows + 1) largest ≡ suc c.tally.rows
+      kept_count = omega (arith, w.rows_fit_lem)
 
-      -- what the live clauses use, with it
-      kept_more : (size : List ℕ → ℕ) (n k : ℕ) → n ≡ used_below size (live_in c.tally R ws) (c.tally.highest + 1) → size w.adding.literals ≡ k
-          → n + k ≤ largest
-          → min (n + k) largest ≡ used_below size (put (live_in c.tally R ws) c.clause.id (some w.adding.literals)) (c.clause.id + 1)
-      kept_more size n k q z h =
-          let u = used_new size (state_of 0 c.tally (live_in c.tally R ws)) c.clause.id w.adding.literals w.adding.fresh
-          (id_free lim.last_variable lim.rows_lent R ws c.tally.used.rows c.tally.used.words c.tally.highest
-          w.adding.base.holding) in
-          omega (arith, u, q, z, h)
+      kept_used : min (c.tally.words + c.clause.size) largest ≡ c.tally.words + length w.adding.literals
+      kept_used = omega (arith, w.words_fit, w.adding.size)
 
       kept_wiping : Wiping s lim A (kept_as c).tally (kept_as c).clause kept_rows kept_words ms c.clause.id c.clause.hints
       kept_wiping =
@@ -262,13 +213,8 @@ module _ (s : List ℕ) (lim : Limits) (A : Answer ℕ) (c : Check) (R : ℕ →
             base =
                 record {
                   holding = rw (kept_count, kept_used) kept_holding;
-                  lent = length-sets ws c.tally.used.words w.adding.literals ∙ w.adding.base.lent;
+                  lent = length-sets ws c.tally.words w.adding.literals ∙ w.adding.base.lent;
                   marked = w.adding.base.marked;
-                  live_words = rw (kept_count, kept_live)
-                      (kept_more a_word_each c.tally.live.words c.clause.size w.adding.base.live_words w.adding.size
-                      (omega (arith, w.words_fit, w.adding.size)));
-                  live-rows = rw (kept_count, kept_live)
-                      (kept_more one_row c.tally.live.rows 1 w.adding.base.live-rows refl (omega (arith, w.rows_fit_lem)));
                 };
             step =
                 record {
@@ -287,14 +233,14 @@ module _ (s : List ℕ) (lim : Limits) (A : Answer ℕ) (c : Check) (R : ℕ →
               live_same (live_in c.tally R ws) _ hint_kept w.adding.hints w.live,
             );
             outside = rw (kept_count, kept_live) kept_outside;
-            answer = w.answer ∙ rw (kept_count, kept_live);
+            answer = w.answer ∙ rw (kept_count, kept_used, kept_live, add-one c.tally.rows);
           }
 
       -- the kept clause among the words, and the marks without it and the literals of the trail
-      kept_part : part ((kept_as c).tally.used.words - c.clause.size) c.clause.size kept_words ≡ w.adding.literals
+      kept_part : part ((kept_as c).tally.words - c.clause.size) c.clause.size kept_words ≡ w.adding.literals
       kept_part =
-          let e : (kept_as c).tally.used.words - c.clause.size ≡ c.tally.used.words = omega (arith, kept_used, w.adding.size) in
-          rw (e, ← w.adding.size) (part_stored ws c.tally.used.words w.adding.literals room)
+          let e : (kept_as c).tally.words - c.clause.size ≡ c.tally.words = omega (arith, kept_used, w.adding.size) in
+          rw (e, ← w.adding.size) (part_stored ws c.tally.words w.adding.literals room)
 
       all-open : m.set ≤ length tr → (v : ℕ) → marks_of (wiped (wiped ms w.adding.literals) (part 0 m.set tr)) v ≡ 0
       all-open h v =
@@ -326,8 +272,6 @@ module _ (s : List ℕ) (lim : Limits) (A : Answer ℕ) (c : Check) (R : ℕ →
                       holding = kept_wiping.base.holding;
                       lent = kept_wiping.base.lent;
                       marked = rw long w.adding.base.marked;
-                      live_words = kept_wiping.base.live_words;
-                      live-rows = kept_wiping.base.live-rows;
                     };
                 unmarked = fun_ext (all-open (leb-true m.set (length tr) t));
                 early = omega (arith, w.adding.step.early);
@@ -352,34 +296,27 @@ module _ (s : List ℕ) (lim : Limits) (A : Answer ℕ) (c : Check) (R : ℕ →
         w.answer ∙ rw (q, ← w.after_at, tokens-stop s at (ltb-false at (length s) t), w.adding.step.counts)
 
     -- another
-    fits_by : (x y : ℕ) → x ≡ words_used (before w.adding) → y ≡ rows_used (before w.adding) → (t : Bool)
-        → (leb (x + length w.adding.literals) lim.words_lent && leb (y + 1) lim.rows_lent) ≡ t
-        → fits lim (before w.adding) w.adding.literals ≡ t
-    fits_by x y p q t e = rw (p, q) at e
-
     other_judged : (l : ℕ) (ls : List ℕ) → w.adding.literals ≡ l ∷ ls
-        → (t : Bool) → (leb (c.tally.live.words + length w.adding.literals) lim.words_lent && leb (c.tally.live.rows + 1)
+        → (t : Bool) → (leb (c.tally.words + length w.adding.literals) lim.words_lent && leb (c.tally.rows + 1)
         lim.rows_lent) ≡ t
         → Judged (cond t Keep (Refused 17))
     other_judged l ls q true t =
-        let p = and-true (leb (c.tally.live.words + length w.adding.literals) lim.words_lent)
-        (leb (c.tally.live.rows + 1) lim.rows_lent) t in
-        let f = fits_by c.tally.live.words c.tally.live.rows w.adding.base.live_words w.adding.base.live-rows true t in
+        let p = and-true (leb (c.tally.words + length w.adding.literals) lim.words_lent)
+        (leb (c.tally.rows + 1) lim.rows_lent) t in
         record {
           adding = w.adding;
           trail = w.trail;
           live = w.live;
           after_at = w.after_at;
-          words_fit = leb-true (c.tally.live.words + length w.adding.literals) lim.words_lent p.0;
-          rows_fit_lem = leb-true (c.tally.live.rows + 1) lim.rows_lent p.1;
+          words_fit = leb-true (c.tally.words + length w.adding.literals) lim.words_lent p.0;
+          rows_fit_lem = leb-true (c.tally.rows + 1) lim.rows_lent p.1;
           answer = w.answer ∙ ap (ending lim w.adding.step)
-              (non-empty lim (before w.adding) c.clause.id w.adding.literals l ls true q f);
+              (non-empty lim (before w.adding) c.clause.id w.adding.literals l ls true q t);
         }
     other_judged l ls q false t =
-        let f = fits_by c.tally.live.words c.tally.live.rows w.adding.base.live_words w.adding.base.live-rows false t in
         w.answer
         ∙ ap (ending lim w.adding.step) (non-empty lim (before w.adding) c.clause.id w.adding.literals l ls false q
-        f)
+        t)
         ∙ rw w.adding.step.counts
 
     pub clause_judged : Judged (verdict c at (length s) (length ws) lim.rows_lent)
@@ -389,7 +326,7 @@ module _ (s : List ℕ) (lim : Limits) (A : Answer ℕ) (c : Check) (R : ℕ →
         go : (cl : List ℕ) → w.adding.literals ≡ cl
             → Judged
             (cond (eqb c.clause.size 0) (cond (ltb at (length s)) (Refused 18) Proved)
-            (cond (leb (c.tally.live.words + c.clause.size) (length ws) && leb (c.tally.live.rows + 1) lim.rows_lent) Keep
+            (cond (leb (c.tally.words + c.clause.size) (length ws) && leb (c.tally.rows + 1) lim.rows_lent) Keep
             (Refused 17)))
         go [] q =
             let z : c.clause.size ≡ 0 = sym w.adding.size ∙ ap length q in
@@ -397,5 +334,5 @@ module _ (s : List ℕ) (lim : Limits) (A : Answer ℕ) (c : Check) (R : ℕ →
         go (l ∷ ls) q =
             let z = sym w.adding.size ∙ ap length q in
             rw (ne_eqb c.clause.size 0 (λ y. omega arith))
-            (other_judged l ls q (leb (c.tally.live.words + c.clause.size) (length ws) && leb (c.tally.live.rows + 1)
+            (other_judged l ls q (leb (c.tally.words + c.clause.size) (length ws) && leb (c.tally.rows + 1)
             lim.rows_lent) (rw (w.adding.size, w.adding.base.lent)))

@@ -13,7 +13,7 @@ use Rattle.parsing.proofs.laws.Each.{each-front, each_last}
 use Rattle.tables.specs.Rows.{row_at, events_of}
 use Rattle.tables.proofs.laws.Laws.{length-events}
 use Rattle.tables.specs.Reading.{EventIn}
-use Rattle.tables.proofs.laws.Room.{room_kept}
+use Rattle.tables.proofs.laws.Room.{room-kept}
 use Rattle.constraint.specs.declared.kinds.Head.{Head}
 use Rattle.instance.specs.Answers.{instance_of}
 use Rattle.instance.specs.Laws.{Accepted}
@@ -42,7 +42,7 @@ stores-kept {s} k a b c e =
           record {
             durations_long = a ∙ k.tables.durations_long;
             resources_long = b ∙ k.tables.resources_long;
-            groups_long = room_kept s c k.tables.groups_long;
+            groups_long = room-kept s c k.tables.groups_long;
           };
       list_long = e ∙ k.list_long;
     }

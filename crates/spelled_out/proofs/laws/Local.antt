@@ -13,7 +13,7 @@ use Rattle.scope.specs.Parsed.{Parsed, got, and_then, unless, cons, repeat}
 use Rattle.scope.specs.Number.{Front, broken, whole, group, front, within, most, number_from, number, limited, reference}
 use Rattle.scope.specs.SpelledOut.{bytes_from}
 use Rattle.parsing.proofs.laws.Parsing.{refused-got, and_then-got, unless-got, cons-got}
-use Rattle.parsing.proofs.laws.Numbers.{limited-got, limited-number, reference-got}
+use Rattle.parsing.proofs.laws.Numbers.{limited-got, reference-got}
 use Rattle.spelled_out.proofs.laws.Reads.{Reads, reads-got, reads-and_then, reads-cons, reads-number, reads-limited, reads-reference}
 
 -- the bytes that a reading took lie in the file, and it reads them anywhere
@@ -137,6 +137,13 @@ local-number = record { span = λ s at {v} {next} l e. one s at v next l (front 
             }
 
 -- a number within its limits, and a reference, are numbers
+limited-number : (lo hi : ℕ) (s : List ℕ) (at : ℕ) {v next : ℕ} → limited lo hi s at ≡ got v next → number s at ≡ got v next
+unfolding limited
+limited-number lo hi s at e =
+    let p = and_then-got (number s at) (λ v next. unless (leb lo v) 2 at (unless (leb v hi) 2 at (got v next))) e in
+    let q = unless-got (leb lo p.value) 2 at (unless (leb p.value hi) 2 at (got p.value p.next)) p.rest in
+    p.first ∙ (unless-got (leb p.value hi) 2 at (got p.value p.next) q.rest).rest
+
 pub local-limited : (lo hi : ℕ) → Local (limited lo hi)
 local-limited lo hi =
     record {

@@ -8,7 +8,7 @@ use lib.ListN.{length, drop, length-append}
 use lib.Seq.{drop-drop, drop-append_seam}
 use borrow.Author.Tests.{le-leb, lt-ltb}
 use Rattle.scope.specs.Parsed.{Parsed, got, and_then, cons, repeat}
-use Rattle.scope.specs.Number.{whole, front, within, most, number, limited_by, limited, reference}
+use Rattle.scope.specs.Number.{whole, front, within, most, number, limited, reference}
 use Rattle.parsing.proofs.laws.Parsing.{and_then-got, cons-got}
 
 -- the bytes w are read as v, whatever stands before and after them
@@ -84,7 +84,7 @@ reads-number w v l h = record { here = λ s at q e. rw (e, h q, le-leb v most l)
 
 -- a number within its limits, and a reference above another
 pub reads-limited : (lo hi : ℕ) {w : List ℕ} {v : ℕ} → lo ≤ v → v ≤ hi → Reads number w v → Reads (limited lo hi) w v
-unfolding limited limited_by
+unfolding limited
 reads-limited lo hi {v = v} l k h = record { here = λ s at q e. rw (h.here s at q e, le-leb lo v l, le-leb v hi k) }
 
 pub reads-reference : (before n : ℕ) {w : List ℕ} {v : ℕ} → before < v → v ≤ n → Reads number w v → Reads (reference before n) w v

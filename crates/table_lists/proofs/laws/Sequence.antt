@@ -8,7 +8,7 @@ use Rattle.scope.specs.declared.Refusal.{Refusal}
 use Rattle.number.specs.declared.Number.{Number}
 use Rattle.number.specs.declared.Number.TheVariants.{Value, Refused}
 use Rattle.number.specs.Answers.{said, refused_by}
-use Rattle.number.proofs.laws.Sequence.{step, sequence as numberSequence}
+use Rattle.number.proofs.laws.Sequence.{step, sequence as number_sequence}
 use Rattle.tables.specs.Rows.{row_of, rows, events_of}
 use Rattle.table_lists.specs.Answers.{said_row, said_rows, said_event, said_events}
 
@@ -59,4 +59,4 @@ pub row-stop : (l m : List ℕ) (x : Number) (p : Parsed (List ℕ)) (g : List �
     → said_event m x ≡ and_then p g
 row-stop l m x p g f e h = rw (← e, h)
 
-pub ruleset sequence = (numberSequence, step_row, duration-stop, row-stop)
+pub ruleset sequence = (number_sequence, step_row, duration-stop, row-stop)

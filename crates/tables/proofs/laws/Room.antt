@@ -32,14 +32,14 @@ pub room_most : (s : List ℕ) → group_room s ≤ 2048
 room_most s = most-by (dated s)
 
 -- a table with the room has 1,024 rows, and has it still where its length was kept
-pub room_rows : (s : List ℕ) {n : ℕ} → group_room s * 126 ≤ n → 129024 ≤ n
-room_rows s l = omega (arith, room-least s)
+pub room-rows : (s : List ℕ) {n : ℕ} → group_room s * 126 ≤ n → 129024 ≤ n
+room-rows s l = omega (arith, room-least s)
 
 pub room-windows : (s : List ℕ) {n : ℕ} → dated s ≡ true → group_room s * 126 ≤ n → 258048 ≤ n
 room-windows s e l = let k : group_room s ≡ 2048 = rw e refl in omega arith
 
-pub room_kept : (s : List ℕ) {n m : ℕ} → m ≡ n → group_room s * 126 ≤ n → group_room s * 126 ≤ m
-room_kept s e l = omega arith
+pub room-kept : (s : List ℕ) {n m : ℕ} → m ≡ n → group_room s * 126 ≤ n → group_room s * 126 ≤ m
+room-kept s e l = omega arith
 
 -- the table that an operation chooses by the first byte, where b is what it was told, has the room
 pub room-dated : (s : List ℕ) {b : Bool} {n : ℕ} → b ≡ dated s → b ≡ true → 2048 * 126 ≡ n → group_room s * 126 ≤ n

@@ -1,8 +1,7 @@
--- Demands 2 and 3 of the definitions, what the two operations beside them owe, what kinds 3, 9, 10 and 11 count, idle times in one walk,
--- and when a clause does not fit.
+-- Demands 2 and 3 of the definitions, what the two operations beside them owe, what kinds 3, 9, 10 and 11 count, and idle times in one walk.
 use lib.ListN.{take}
 use Rattle.scope.specs.Kinds.{group_at}
-use Rattle.scope.specs.Demands.{Demand2, Demand3, DemandHard, DemandBest, DemandLengths, DemandPreferred, DemandPrecedence, DemandIdle, DemandPacking}
+use Rattle.scope.specs.Demands.{Demand2, Demand3, DemandHard, DemandBest, DemandLengths, DemandPreferred, DemandPrecedence, DemandIdle}
 use Rattle.theory.proofs.laws.Match as match
 use Rattle.theory.proofs.laws.Bounded.{bounded-model}
 use Rattle.theory.proofs.laws.Never as bound
@@ -12,7 +11,6 @@ use Rattle.theory.proofs.laws.ReachLists.{length-from-outside, few-nodes, single
 use Rattle.theory.proofs.laws.Held.{times-charged, lengths-charged}
 use Rattle.theory.proofs.laws.GapLists.{length-gap-member, gap-variables, gap-alone, gap-few}
 use Rattle.theory.proofs.laws.Gap.{precedence-charged, accepted-taken}
-use Rattle.theory.proofs.laws.Formerly.{not_fitting, only_new, stays_dead, as_before, check_as_before}
 use Rattle.theory.proofs.laws.IdleWalk.{kept-idle, kept_counted, idle-charged, kept-by-calls}
 
 pub demand2 : Demand2
@@ -53,14 +51,4 @@ demand_idle =
       counted = λ i τ r g k. kept_counted τ r k (group_at i.groups g);
       charge = idle-charged;
       calls = kept-by-calls;
-    }
-
-pub demand_packing : DemandPacking
-demand_packing =
-    record {
-      not_fitting = λ lim st n id l w r ls hs f. not_fitting lim st n id l ls hs f w r;
-      only_new = only_new;
-      stays_dead = stays_dead;
-      as_before = as_before;
-      check_as_before = check_as_before;
     }

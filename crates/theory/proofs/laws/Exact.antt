@@ -36,7 +36,7 @@ counts lim st (add id c hs) = go (hints_show st.live c hs) c
     fit c true = refl
     fit c false = tt
 
-    go : (w : Shown) (c : List ℕ) → Counts (st.steps + 1) (by_shown w (fits lim st c) st (st.steps + 1) id c)
+    go : (w : Shown) (c : List ℕ) → Counts (st.steps + 1) (by_shown w lim st (st.steps + 1) id c)
     go not_live c = tt
     go breaks c = tt
     go follows [] = tt

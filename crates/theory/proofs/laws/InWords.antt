@@ -29,10 +29,10 @@ clause-at [] n h = absurd (omega arith)
 clause-at (c ∷ f) zero h = refl
 clause-at (c ∷ f) (suc n) h = clause-at f n (omega arith)
 
-no_clause : (f : List (List ℕ)) (n : ℕ) → length f ≤ n → get_elem? f n ≡ none
-no_clause [] n h = refl
-no_clause (c ∷ f) zero h = absurd (omega arith)
-no_clause (c ∷ f) (suc n) h = no_clause f n (omega arith)
+no-clause : (f : List (List ℕ)) (n : ℕ) → length f ≤ n → get_elem? f n ≡ none
+no-clause [] n h = refl
+no-clause (c ∷ f) zero h = absurd (omega arith)
+no-clause (c ∷ f) (suc n) h = no-clause f n (omega arith)
 
 -- the plain run starts with the formula alone
 start-in-words : (f : List (List ℕ)) → Starts f (start f)
@@ -43,17 +43,19 @@ start-in-words f =
       no_zero = refl;
       alone = above;
       highest = refl;
+      words = words-counted f;
+      rows = refl;
       steps = refl;
     }
   where
     above : (n : ℕ) → length f < n → by_id f n ≡ none
     above zero h = refl
-    above (suc n) h = no_clause f n (omega arith)
+    above (suc n) h = no-clause f n (omega arith)
 
 -- and those words say all of the state
 words-start : (f : List (List ℕ)) (st : State) → Starts f st → st ≡ start f
 unfolding start
-words-start f st s = same-state (fun_ext live) s.highest s.steps
+words-start f st s = same-state (fun_ext live) s.highest (s.words ∙ sym (words-counted f)) s.rows s.steps
   where
     live : (n : ℕ) → st.live n ≡ by_id f n
     live zero = s.no_zero
@@ -61,7 +63,7 @@ words-start f st s = same-state (fun_ext live) s.highest s.steps
       where
         go : (b : Bool) → ltb n (length f) ≡ b → st.live (suc n) ≡ get_elem? f n
         go true t = let h = ltb-true n (length f) t in rw (← add-one n) (s.live n h) ∙ sym (clause-at f n h)
-        go false t = let h = ltb-false n (length f) t in s.alone (suc n) (omega arith) ∙ sym (no_clause f n h)
+        go false t = let h = ltb-false n (length f) t in s.alone (suc n) (omega arith) ∙ sym (no-clause f n h)
 
 -- a formula that keeps its size and fits the stores is refuted exactly where the plain run answers so
 module _ (last : ℕ) (f : List (List ℕ)) (proof : List ℕ) (l : Lent) (n : ℕ) where

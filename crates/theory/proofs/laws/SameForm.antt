@@ -13,7 +13,7 @@ use Rattle.scope.specs.Steps.{Step, add, delete, literals_ok, well_formed}
 use Rattle.scope.specs.Refutation.{Fresh, Literals, no_literal, literal}
 use Rattle.laws.specs.Booleans.{bool-ext, and-true}
 use Rattle.theory.specs.Marked.{Marks}
-use Rattle.theory.proofs.laws.Marked.{all_open, make_false, literals_ok as markedOk, well_formed as markedFormed}
+use Rattle.theory.proofs.laws.Marked.{all_open, make_false, literals_ok as marked_ok, well_formed as marked_formed}
 use Rattle.theory.proofs.laws.Formed.{literals-formed, formed-literals}
 
 -- the variables of some literals are open
@@ -35,14 +35,14 @@ pub open-before : (m : Marks) (l : ℕ) (ls : List ℕ) → AllOpen m ls → Fre
 open-before m l ls h f k i = rw (ne_eqb (k / 2) (l / 2) (f k i)) (h k i)
 
 -- the literals of a clause whose variables are all open, both ways
-literals-open : (last : ℕ) (m : Marks) (ls : List ℕ) → markedOk last m ls ≡ true → Literals last ls × AllOpen m ls
-unfolding markedOk
+literals-open : (last : ℕ) (m : Marks) (ls : List ℕ) → marked_ok last m ls ≡ true → Literals last ls × AllOpen m ls
+unfolding marked_ok
 literals-open last m [] e = (no_literal, λ k i. absurd (Memᴰ.not-nil i))
 literals-open last m (l ∷ ls) e =
     let a = leb 2 l in
     let b = leb (l / 2) last in
     let c = eqb (m (l / 2)) 0 in
-    let p = and-true (a && b && c) (markedOk last (make_false m l) ls) e in
+    let p = and-true (a && b && c) (marked_ok last (make_false m l) ls) e in
     let q = and-true (a && b) c p.0 in
     let r = and-true a b q.0 in
     let ih = literals-open last (make_false m l) ls p.1 in
@@ -52,8 +52,8 @@ literals-open last m (l ∷ ls) e =
       λ k i. ⊎_elim (λ e. ap (λ j. m (j / 2)) e ∙ z) (o.0 k) (Memᴰ.cases_cons i),
     )
 
-open-literals : (last : ℕ) (m : Marks) (ls : List ℕ) → Literals last ls → AllOpen m ls → markedOk last m ls ≡ true
-unfolding markedOk
+open-literals : (last : ℕ) (m : Marks) (ls : List ℕ) → Literals last ls → AllOpen m ls → marked_ok last m ls ≡ true
+unfolding marked_ok
 open-literals last m [] no_literal h = refl
 open-literals last m (l ∷ ls) (literal a b f k) h =
     rw (
@@ -63,15 +63,15 @@ open-literals last m (l ∷ ls) (literal a b f k) h =
       open-literals last (make_false m l) ls k (open-before m l ls (λ j i. h j (Memᴰ.tail i)) f),
     )
 
-literals_same : (last : ℕ) (ls : List ℕ) → literals_ok last ls ≡ markedOk last all_open ls
+literals_same : (last : ℕ) (ls : List ℕ) → literals_ok last ls ≡ marked_ok last all_open ls
 literals_same last ls =
-    bool-ext (literals_ok last ls) (markedOk last all_open ls) (
+    bool-ext (literals_ok last ls) (marked_ok last all_open ls) (
       λ e. open-literals last all_open ls (literals-formed last ls e) (λ k i. refl),
       λ e. formed-literals (literals-open last all_open ls e).0,
     )
 
 -- a step is well formed by the marks exactly where it is
-pub formed-same : (last highest : ℕ) (s : Step) → well_formed last highest s ≡ markedFormed last highest s
-unfolding well_formed markedFormed
+pub formed-same : (last highest : ℕ) (s : Step) → well_formed last highest s ≡ marked_formed last highest s
+unfolding well_formed marked_formed
 formed-same last highest (add id ls hs) = rw (literals_same last ls)
 formed-same last highest (delete ids) = refl

@@ -15,7 +15,7 @@ use Rattle.scope.specs.Refutation.{Literals, no_literal, literal}
 use Rattle.laws.specs.Booleans.{never_true}
 use Rattle.theory.specs.Marked.{Marks, Standing, falsified, one_open, other, also_literal, standing}
 use Rattle.theory.proofs.laws.Marked.{all_open, make_true, make_false, all_false}
-use Rattle.theory.proofs.laws.Marked.{by_standing, hint_of, by_hint, if_last, hints_show as markedShow}
+use Rattle.theory.proofs.laws.Marked.{by_standing, hint_of, by_hint, if_last, hints_show as marked_show}
 use Rattle.theory.proofs.laws.Hinted.{opp-opp, one_left}
 use Rattle.theory.proofs.laws.SameForm.{AllOpen, open-before}
 
@@ -211,23 +211,23 @@ by-rest φ (l ∷ []) hs f g h = go (member (opp l) φ) refl
     go false e = h l refl e
 by-rest φ (l ∷ k ∷ ls) hs f g h = refl
 
-hints-marked : {m : Marks} {φ : List ℕ} (L : Live) → Marking m φ → (hs : List ℕ) → hints_show L φ hs ≡ markedShow L m hs
-unfolding hints_show markedShow
+hints-marked : {m : Marks} {φ : List ℕ} (L : Live) → Marking m φ → (hs : List ℕ) → hints_show L φ hs ≡ marked_show L m hs
+unfolding hints_show marked_show
 hints-marked L d [] = refl
 hints-marked {m} {φ} L d (h ∷ hs) = go (λ l z. hints-marked L (marking_true d l z) hs) (L h)
   where
     Ih : Type 0
-    Ih = (l : ℕ) → m (l / 2) ≡ 0 → hints_show L (opp l ∷ φ) hs ≡ markedShow L (make_true m l) hs
+    Ih = (l : ℕ) → m (l / 2) ≡ 0 → hints_show L (opp l ∷ φ) hs ≡ marked_show L (make_true m l) hs
 
     go : Ih → (o : Option (List ℕ)) → either o not_live (λ c. by_rest φ (outside φ c) hs (λ φ'. hints_show L φ' hs))
-        ≡ by_hint (hint_of o m) (λ l. markedShow L (make_true m l) hs) (if_last hs)
+        ≡ by_hint (hint_of o m) (λ l. marked_show L (make_true m l) hs) (if_last hs)
     go ih none = refl
     go ih (some c) =
-        by-rest φ (outside φ c) hs (λ φ'. hints_show L φ' hs) (λ l. markedShow L (make_true m l) hs)
+        by-rest φ (outside φ c) hs (λ φ'. hints_show L φ' hs) (λ l. marked_show L (make_true m l) hs)
         (λ l q f. ih l (open-mark d l (one_left φ c l q).left f))
         ∙ rw (standing_all d c)
 
 -- a well-formed clause follows by the marks exactly where it does
 pub hints_same : {last : ℕ} (L : Live) (c hs : List ℕ) → Literals last c
-    → hints_show L c hs ≡ markedShow L (all_false all_open c) hs
+    → hints_show L c hs ≡ marked_show L (all_false all_open c) hs
 hints_same L c hs k = hints-marked L (marking-new k) hs

@@ -12,7 +12,7 @@ use Rattle.scope.specs.Number.{number}
 use Rattle.scope.specs.Steps.{Step, add, delete, numbers, up_to0, add_at, delete_at, step_at}
 use Rattle.theory.proofs.laws.StepTokens.{Tokens, stop, bad, num, tokens, Numbers, cut, before, StepRead, read, misread}
 use Rattle.theory.proofs.laws.StepTokens.{read_hints, read_literals, read_add, read_delete, read_step}
-use Rattle.theory.proofs.laws.StepTokens.{up_to0 as listed, numbers as tokenNumbers}
+use Rattle.theory.proofs.laws.StepTokens.{up_to0 as listed, numbers as token_numbers}
 use Rattle.theory.proofs.laws.Tokens.{tokens-got, tokens-bad, tokens-stop}
 
 module _ (s : List ℕ) where
@@ -42,13 +42,13 @@ module _ (s : List ℕ) where
     both : {ns : List ℕ} {next : ℕ} → at < next → next ≤ length s → SameNumbers at (got ns next) (listed ns (tokens_from next))
     neither : {k v : ℕ} → SameNumbers at (refused k v) cut
 
-  numbers_same : (k at : ℕ) → length s - at ≤ k → SameNumbers at (numbers k s at) (tokenNumbers (tokens_from at))
-  unfolding numbers tokenNumbers
+  numbers_same : (k at : ℕ) → length s - at ≤ k → SameNumbers at (numbers k s at) (token_numbers (tokens_from at))
+  unfolding numbers token_numbers
   numbers_same zero at h = rw (tokens-stop s at (omega arith)) neither
   numbers_same (suc k) at h = go (numbers_same k) (first_token at)
     where
       Ih : Type 0
-      Ih = (at : ℕ) → length s - at ≤ k → SameNumbers at (numbers k s at) (tokenNumbers (tokens_from at))
+      Ih = (at : ℕ) → length s - at ≤ k → SameNumbers at (numbers k s at) (token_numbers (tokens_from at))
 
       also : (v next : ℕ) → at < next → {p : Parsed (List ℕ)} {q : Numbers} → SameNumbers next p q
           → SameNumbers at (cons v p) (before v q)
@@ -56,14 +56,14 @@ module _ (s : List ℕ) where
       also v next l neither = neither
 
       go : Ih → {p : Parsed ℕ} {ts : Tokens} → First at p ts
-          → SameNumbers at (and_then p (λ v next. cond (eqb v 0) (got [] next) (cons v (numbers k s next)))) (tokenNumbers ts)
+          → SameNumbers at (and_then p (λ v next. cond (eqb v 0) (got [] next) (cons v (numbers k s next)))) (token_numbers ts)
       go ih (one {v = zero} f i) = both f i
       go ih (one {v = suc v} {next = next} f i) =
           rw (ne_eqb (suc v) 0 (λ e. omega arith)) (also (suc v) next f (ih next (omega arith)))
       go ih (broken l) = neither
       go ih (over l) = neither
 
-  up_to_0 : (at : ℕ) → SameNumbers at (up_to0 s at) (tokenNumbers (tokens_from at))
+  up_to_0 : (at : ℕ) → SameNumbers at (up_to0 s at) (token_numbers (tokens_from at))
   up_to_0 at = numbers_same (length s) at (omega arith)
 
   -- the same step
@@ -77,7 +77,7 @@ module _ (s : List ℕ) where
   later l neither_reads = neither_reads
 
   hints_same : (id : ℕ) (ls : List ℕ) (at : ℕ)
-      → SameStep at (and_then (up_to0 s at) (λ hs end. got (add id ls hs) end)) (read_hints id ls (tokenNumbers (tokens_from at)))
+      → SameStep at (and_then (up_to0 s at) (λ hs end. got (add id ls hs) end)) (read_hints id ls (token_numbers (tokens_from at)))
   hints_same id ls at = go (up_to_0 at)
     where
       go : {p : Parsed (List ℕ)} {q : Numbers} → SameNumbers at p q
@@ -87,7 +87,7 @@ module _ (s : List ℕ) where
 
   literals_same : (id at : ℕ)
       → SameStep at (and_then (up_to0 s at) (λ ls j. and_then (up_to0 s j) (λ hs end. got (add id ls hs) end)))
-      (read_literals id (tokenNumbers (tokens_from at)))
+      (read_literals id (token_numbers (tokens_from at)))
   literals_same id at = go (up_to_0 at)
     where
       go : {p : Parsed (List ℕ)} {q : Numbers} → SameNumbers at p q
@@ -106,7 +106,7 @@ module _ (s : List ℕ) where
       go (broken l) = neither_reads
       go (over l) = neither_reads
 
-  delete_same : (at : ℕ) → SameStep at (delete_at s at) (read_delete (tokenNumbers (tokens_from at)))
+  delete_same : (at : ℕ) → SameStep at (delete_at s at) (read_delete (token_numbers (tokens_from at)))
   delete_same at = go (up_to_0 at)
     where
       go : {p : Parsed (List ℕ)} {q : Numbers} → SameNumbers at p q
@@ -121,7 +121,7 @@ module _ (s : List ℕ) where
     where
       choose : (i : ℕ) → at < i → (a d : Bool)
           → SameStep at (cond a (add_at s i) (cond d (delete_at s i) (refused 1 at)))
-          (cond a (read_add (tokens_from i)) (cond d (read_delete (tokenNumbers (tokens_from i))) misread))
+          (cond a (read_add (tokens_from i)) (cond d (read_delete (token_numbers (tokens_from i))) misread))
       choose i l true d = later l (add_same i)
       choose i l false true = later l (delete_same i)
       choose i l false false = neither_reads

@@ -114,7 +114,7 @@ module _ (ν : Assignment) where
       fit c t true = holds_put st.live k id (some c) (λ d e. let p : c ≡ d = cc in rw (← p) t)
       fit c t false = tt
 
-      go : (w : Shown) (c : List ℕ) → (w ≡ follows → clause ν c ≡ true) → Kept (by_shown w (fits lim st c) st n id c)
+      go : (w : Shown) (c : List ℕ) → (w ≡ follows → clause ν c ≡ true) → Kept (by_shown w lim st n id c)
       go not_live c f = tt
       go breaks c f = tt
       go follows [] f = never_true (f refl)

@@ -10,12 +10,11 @@ use lib.ListN.{length}
 use borrow.Author.Tests.{eq-eqb, ne_eqb, eqb-true, eqb-false, le-leb, leb-true}
 use Rattle.scope.specs.Parsed.{answered, refusal, provided}
 use Rattle.scope.specs.Steps.{Step, add, delete, put, Live, Shown, follows, not_live, breaks, either, hints_show, deleted}
-use Rattle.scope.specs.PlainRun.{State, Limits, words_used, rows_used, with_clause, with_live, fits, by_shown, perform}
+use Rattle.scope.specs.PlainRun.{State, Limits, with_clause, with_live, fits, by_shown, perform}
 use Rattle.theory.proofs.laws.Performed.{Taken, ends, goes_on_lem}
 use Rattle.laws.specs.Booleans.{impossible, and-true}
 use Rattle.theory.proofs.laws.Formed.{formed-exact}
 use Rattle.theory.proofs.laws.Hinted.{hints-exact}
-use Rattle.theory.proofs.laws.Room.{uses-below, below-uses}
 use Rattle.scope.specs.Refutation.{Literals, WellFormed, add_form, Follows, Differs, Deletes, no_id, one_id}
 use Rattle.scope.specs.Refutation.{Adds, Leaves, added, dropped, Refutes, final, onward}
 
@@ -52,8 +51,9 @@ words-deleted (one_id {L} {L'} {L''} {d} {c} {ds} t e h k) =
     rw (t, ← p) (words-deleted k)
 
 -- states with equal fields are equal
-pub same-state : {s t : State} → s.live ≡ t.live → s.highest ≡ t.highest → s.steps ≡ t.steps → s ≡ t
-same-state a b c = λ i. record { live = a i; highest = b i; steps = c i }
+pub same-state : {s t : State} → s.live ≡ t.live → s.highest ≡ t.highest → s.words_used ≡ t.words_used
+    → s.rows_used ≡ t.rows_used → s.steps ≡ t.steps → s ≡ t
+same-state a b c d e = λ i. record { live = a i; highest = b i; words_used = c i; rows_used = d i; steps = e i }
 
 module _ (lim : Limits) (st : State) where
   abbrev n : ℕ
@@ -63,15 +63,14 @@ module _ (lim : Limits) (st : State) where
   added_in_words : (id : ℕ) (c hs : List ℕ) → Follows st.live c hs → fits lim st c ≡ true
       → Adds lim st id c hs (with_clause st id c)
   added_in_words id c hs f e =
-      let r = and-true (leb (words_used st + length c) lim.words_lent) (leb (rows_used st + 1) lim.rows_lent) e in
+      let r = and-true (leb (st.words_used + length c) lim.words_lent) (leb (st.rows_used + 1) lim.rows_lent) e in
       record {
         follows = f;
         live = put-at st.live id (some c);
         others = put-differs st.live id (some c);
         highest = refl;
-        words = words_used st;
-        rows = rows_used st;
-        used = uses-below st.live (st.highest + 1);
+        words = refl;
+        rows = refl;
         word_room = leb-true _ _ r.0;
         row_room = leb-true _ _ r.1;
         steps = refl;
@@ -80,14 +79,13 @@ module _ (lim : Limits) (st : State) where
   words_added : (id : ℕ) (c hs : List ℕ) (st' : State) → Adds lim st id c hs st' → with_clause st id c ≡ st'
   words_added id c hs st' a =
       let e = is-put st.live st'.live id (some c) a.live a.others in
-      same-state (sym e) (sym a.highest) (sym a.steps)
+      same-state (sym e) (sym a.highest) (sym a.words) (sym a.rows) (sym a.steps)
 
   words_fit : (id : ℕ) (c hs : List ℕ) (st' : State) → Adds lim st id c hs st' → fits lim st c ≡ true
   words_fit id c hs st' a =
-      let u = below-uses a.used in
-      let w : words_used st + length c ≤ lim.words_lent = rw (← u.0) a.word_room in
-      let r : rows_used st + 1 ≤ lim.rows_lent = rw (← u.1) a.row_room in
-      rw (le-leb (words_used st + length c) lim.words_lent w, le-leb (rows_used st + 1) lim.rows_lent r)
+      let w : st.words_used + length c ≤ lim.words_lent = rw a.words at a.word_room in
+      let r : st.rows_used + 1 ≤ lim.rows_lent = rw a.rows at a.row_room in
+      rw (le-leb (st.words_used + length c) lim.words_lent w, le-leb (st.rows_used + 1) lim.rows_lent r)
 
   -- a step that leaves a state
   next_in_words : (s : Step) (st' : State) → WellFormed lim.last_variable st.highest s
@@ -103,7 +101,7 @@ module _ (lim : Limits) (st : State) where
           rw (← p) (added (added_in_words id (l ∷ ls) hs f t))
       fit l ls f false t e = impossible (cc)
 
-      go : (w : Shown) (c : List ℕ) → (w ≡ follows → Follows st.live c hs) → by_shown w (fits lim st c) st n id c ≡ answered (some st')
+      go : (w : Shown) (c : List ℕ) → (w ≡ follows → Follows st.live c hs) → by_shown w lim st n id c ≡ answered (some st')
           → Leaves lim st (add id c hs) st'
       go not_live c f e = impossible (cc)
       go breaks c f e = impossible (cc)
@@ -117,7 +115,7 @@ module _ (lim : Limits) (st : State) where
       go (some L) t e =
           let p : with_live st L ≡ st' = cc in
           let d = deleted-in-words st.live ids L t in
-          rw (← p) (dropped (record { live = d; highest = refl; steps = refl }))
+          rw (← p) (dropped (record { live = d; highest = refl; words = refl; rows = refl; steps = refl }))
 
   words_next : {s : Step} {st' : State} → Leaves lim st s st' → perform lim st n s ≡ answered (some st')
   unfolding perform
@@ -126,7 +124,7 @@ module _ (lim : Limits) (st : State) where
       (ap (λ x. answered (some x)) (words_added id (l ∷ ls) hs st' a))
   words_next (dropped {ids} {st'} d) =
       rw (words-deleted d.live)
-      (ap (λ x. answered (some x)) (same-state refl (sym d.highest) (sym d.steps)))
+      (ap (λ x. answered (some x)) (same-state refl (sym d.highest) (sym d.words) (sym d.rows) (sym d.steps)))
 
   -- a step that adds the empty clause
   empty_in_words : (s : Step) → WellFormed lim.last_variable st.highest s → perform lim st n s ≡ answered none
@@ -139,7 +137,7 @@ module _ (lim : Limits) (st : State) where
       no st' false e = impossible (cc)
 
       go : (w : Shown) (c : List ℕ) → Literals lim.last_variable c → (w ≡ follows → Follows st.live c hs)
-          → by_shown w (fits lim st c) st n id c ≡ answered none → Refutes lim st (add id c hs ∷ [])
+          → by_shown w lim st n id c ≡ answered none → Refutes lim st (add id c hs ∷ [])
       go not_live c k f e = impossible (cc)
       go breaks c k f e = impossible (cc)
       go follows [] k f e = final (add_form h k) (f refl)

@@ -1,7 +1,7 @@
 -- The times of a file, and the days of its calendar, by its first byte: laws.
 use Prim.Native.Nat.{ℕ, suc, ◌+◌, ◌*◌, ◌%◌, ◌≤◌, ◌<◌}
 use mathlib.Core.Path.{◌≡◌, refl, sym, ap, ◌∙◌}
-use mathlib.Core.Bool.{Bool, true, false, cond, true≢false}
+use mathlib.Core.Bool.{Bool, true, false, cond}
 use mathlib.Core.List.{List, [], ◌∷◌, ◌++◌}
 use mathlib.Core.Option.{Option, none, some}
 use lib.Dec.{eqb, leb, ltb}
@@ -9,15 +9,13 @@ use lib.ListN.{length, drop, length-append}
 use native.Mathlib.Omega.{arith}
 use borrow.Author.Tests.{eqb-true, eqb-false}
 use Rattle.scope.specs.Parsed.{Parsed, got, refused, and_then, unless}
-use Rattle.scope.specs.Number.{Front, broken, whole, group, front, within, number_from, number, limited_by, limited}
+use Rattle.scope.specs.Number.{Front, broken, whole, group, front, within, number_from, number, limited}
 use Rattle.scope.specs.Calendar.{Period, period_count, calendar_at, windows_after}
 use Rattle.scope.specs.Instance.{Times, times_at, groups_at, all_groups_at}
 use Rattle.parsing.specs.Parsing.{list_of}
 use Rattle.parsing.proofs.laws.Parsing.{and_then-got, unless-got, got-value, refused-got, cond-case}
-use Rattle.parsing.proofs.laws.Numbers.{limited-number}
 use Rattle.parsing.proofs.laws.Calendar.{calendar-got, times-got, windows-after}
-use Rattle.parsing.specs.Each.{Each}
-use Rattle.parsing.proofs.laws.Each.{each_append}
+use Rattle.parsing.specs.Each.{Each, each_none, each_more}
 use Rattle.parsing.specs.Numbers.{Ascending}
 use Rattle.tables.specs.Room.{dated, group_room}
 use Rattle.tables.proofs.laws.Reading.{groups-got}
@@ -25,7 +23,7 @@ use Rattle.windows.specs.Times.{times_of, times_in, days_in, Calendared, TimesRe
 
 -- a file that begins with a 0 has a calendar from byte 1 on
 first-zero : (bs : List ℕ) → limited 0 125 (0 ∷ bs) 0 ≡ got 0 1
-unfolding limited limited_by number within front
+unfolding limited number within front
 first-zero bs = refl
 
 -- a byte that is not 0 begins no 0
@@ -61,7 +59,13 @@ unfolding number
 number-zero s e = let r = within-zero (front (drop 0 s)) 0 e in front-zero s r.1
 
 limited-zero : (s : List ℕ) {n : ℕ} → limited 0 125 s 0 ≡ got 0 n → dated s ≡ true
-limited-zero s e = number-zero s (limited-number 0 125 s 0 e)
+unfolding limited
+limited-zero s {n} e =
+    let p = and_then-got (number s 0) (λ v next. unless (leb 0 v) 2 0 (unless (leb v 125) 2 0 (got v next))) e in
+    let q = unless-got (leb 0 p.value) 2 0 (unless (leb p.value 125) 2 0 (got p.value p.next)) p.rest in
+    let r = unless-got (leb p.value 125) 2 0 (got p.value p.next) q.rest in
+    let same : p.value ≡ 0 = cc r.rest in
+    number-zero s (p.first ∙ ap (λ v. got v p.next) same)
 
 -- what a dated file's times are, and another's
 dated-got : (p : Parsed (List (List Period))) {t : Times} {next : ℕ}
@@ -73,8 +77,11 @@ dated-got (got days end) {t} {next} e =
     (sym (ap (λ (t : Times). t.days) k), rw h)
 dated-got (refused k v) {t} {next} e = refused-got ((t.days ≡ some []) × (refused k v ≡ got [] next)) e
 
+true-not-false : (Q : Type 0) → true ≡ false → Q
+true-not-false Q e = let z : ◌≡◌ {A = ℕ} 0 1 = ap (λ b. cond b 0 1) e in let f : ⊥ = omega arith in elim f [ ]
+
 by_first : (s : List ℕ) → dated s ≡ true → (bs : List ℕ) × (s ≡ 0 ∷ bs)
-by_first [] e = absurd (true≢false (sym e))
+by_first [] e = true-not-false ((bs : List ℕ) × ([] ≡ 0 ∷ bs)) (sym e)
 by_first (b ∷ bs) e = (bs, rw (eqb-true b 0 e))
 
 module _ (s : List ℕ) {count : ℕ} (r : TimesRead s count) where
@@ -99,7 +106,7 @@ module _ (s : List ℕ) {count : ℕ} (r : TimesRead s count) where
 undated-by : (s : List ℕ) (T m : ℕ) {t : Times} {next : ℕ} → limited 0 125 s 0 ≡ got T m → (z : Bool) → eqb T 0 ≡ z
     → cond z (and_then (calendar_at s m) (λ days end. got (record { count = period_count days; days = some days }) end)) (got (record { count = T; days = none }) m) ≡ got t next
     → dated s ≡ false → t.days ≡ none
-undated-by s T m f true z e d = absurd (true≢false (sym (limited-zero s (f ∙ ap (λ v. got v m) (eqb-true T 0 z))) ∙ d))
+undated-by s T m {t} f true z e d = true-not-false (t.days ≡ none) (sym (limited-zero s (f ∙ ap (λ v. got v m) (eqb-true T 0 z))) ∙ d)
 undated-by s T m {t} f false z e d =
     let same : ◌≡◌ {A = Times} (record { count = T; days = none }) t = cc in sym (ap (λ (t : Times). t.days) same)
 
@@ -122,6 +129,10 @@ pub record AllGroupsAt (s : List ℕ) (t : Times) (at : ℕ) (gs : List (List �
   pub count : length gs ≤ group_room s
   pub ahead : at < end
   pub inside : end ≤ length s
+
+each_append : {A : Type 0} {P : A → Type 0} (xs ys : List A) → Each P xs → Each P ys → Each P (xs ++ ys)
+each_append [] ys each_none e = e
+each_append (x ∷ xs) ys (each_more p ps) e = each_more p (each_append xs ys ps e)
 
 room-when : (b : Bool) (n : ℕ) → (b ≡ false → n ≡ 0) → n ≤ 1024 → 1024 + n ≤ cond b 2048 1024
 room-when true n z h = omega arith

@@ -12,7 +12,7 @@ use Rattle.scope.specs.declared.Refusal.{Refusal}
 use Rattle.number.specs.Answers.{refused_by}
 use Rattle.parsing.specs.Each.{Each}
 use Rattle.parsing.proofs.laws.Each.{each_at}
-use Rattle.parsing.proofs.laws.Parsing.{and_then-got, after_same, after-twice, before}
+use Rattle.parsing.proofs.laws.Parsing.{and_then-got, before, before-nil}
 use Rattle.parsing.proofs.laws.Calendar.{CalendarRead, calendar-got, limited_in-got}
 use Rattle.tables.specs.Rows.{row_of, rows}
 use Rattle.table_lists.proofs.laws.Writing.{put_row, rows_more}
@@ -28,17 +28,27 @@ use Rattle.windows.specs.Window.{window_fields, in_window}
 use Rattle.windows.specs.Times.{days_in, Calendared}
 use Rattle.windows.proofs.laws.Row.{row-shown}
 
+-- one reading after two
+and_then-twice : {A B C : Type 0} (p : Parsed A) (f : A → ℕ → Parsed B) (g : B → ℕ → Parsed C)
+    → and_then (and_then p f) g ≡ and_then p (λ a n. and_then (f a n) g)
+and_then-twice (got a n) f g = refl
+and_then-twice (refused k v) f g = refl
+
+and_then-same : {A B : Type 0} (p : Parsed A) (f g : A → ℕ → Parsed B) → ((a : A) (n : ℕ) → f a n ≡ g a n) → and_then p f ≡ and_then p g
+and_then-same (got a n) f g h = h a n
+and_then-same (refused k v) f g h = refl
+
 -- a window, by its numbers
 module _ (days : List (List Span)) (s : List ℕ) (at : ℕ) where
   window_by_fields : window_at days s at ≡ and_then (window_fields s at) (λ w end. got (window_of days w.0 w.1 w.2) end)
   unfolding window_at window_fields
   window_by_fields =
       sym
-      (after-twice (limited_in at 1 7 s at) _ _
-      ∙ after_same (limited_in at 1 7 s at) _ _
+      (and_then-twice (limited_in at 1 7 s at) _ _
+      ∙ and_then-same (limited_in at 1 7 s at) _ _
       (λ d next.
-      after-twice (limited_in at 0 1440 s next) _ _
-      ∙ after_same (limited_in at 0 1440 s next) _ _ (λ from more. after-twice (limited_in at 0 1440 s more) _ _)))
+      and_then-twice (limited_in at 0 1440 s next) _ _
+      ∙ and_then-same (limited_in at 0 1440 s next) _ _ (λ from more. and_then-twice (limited_in at 0 1440 s more) _ _)))
 
   module _ (x : WindowRead) (e : said_window x ≡ window_fields s at) where
     pub window_value : {d a b n : ℕ} → x ≡ Value d a b n → window_at days s at ≡ got (window_of days d a b) n

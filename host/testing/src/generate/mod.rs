@@ -27,7 +27,7 @@ pub use largest::{
 };
 pub use models::{model, model_with_tail};
 pub use planned::{planned_school, Plan};
-pub use proofs::{churned, lent, naming_dead, proof};
+pub use proofs::{lent, proof};
 pub use random::Random;
 pub use school::{in_clock_time, school, school_of_every_kind};
 pub use solver_texts::{printed, scattered, wrapped, Line, Printed, Word};

@@ -52,15 +52,13 @@ fn plain_run(
         words: Vec::with_capacity(sizes.words as usize),
         rows: Vec::with_capacity(sizes.clauses as usize),
         highest: 0,
-        words_used: 0,
-        rows_used: 0,
     };
     match bound {
         Some(bound) => walk_with_tail(&instance, bound, &mut store),
         None => walk(&instance, &mut store),
     }
-    debug_assert!(store.words_used == sizes.words);
-    debug_assert!(store.rows_used == sizes.clauses);
+    debug_assert!(store.words.len() as u64 == sizes.words);
+    debug_assert!(store.rows.len() as u64 == sizes.clauses);
     let run = Run {
         store,
         words_lent,
@@ -113,16 +111,12 @@ struct Row {
     live: bool,
 }
 
-/// The clauses with their ids, dead ones too; rows stand by ascending id. It grows
-/// as it has to: what is lent is compared with what the live clauses use.
+/// The clauses with their ids; rows stand by ascending id.
 struct Store {
     words: Vec<Literal>,
     rows: Vec<Row>,
     /// The highest id so far. Only the empty clause, which ends the run, has no row.
     highest: u32,
-    /// The literals of the live clauses, and how many live clauses there are.
-    words_used: u64,
-    rows_used: u64,
 }
 
 impl Sink for Store {
@@ -143,16 +137,6 @@ impl Store {
         });
         self.words.extend_from_slice(clause);
         self.highest = id;
-        self.words_used += clause.len() as u64;
-        self.rows_used += 1;
-    }
-
-    /// Makes the live clause of a row dead: what it used is used no longer.
-    fn delete(&mut self, row: usize) {
-        let row = &mut self.rows[row];
-        row.live = false;
-        self.words_used -= u64::from(row.length);
-        self.rows_used -= 1;
     }
 
     /// The row of the live clause `id`, at least 1. Without gaps in the ids it
@@ -238,7 +222,7 @@ enum Step {
     Delete,
 }
 
-/// The state of the plain run.
+/// The state of the plain run. Words and rows used are the store's lengths.
 struct Run {
     store: Store,
     words_lent: u64,
@@ -309,8 +293,7 @@ impl Run {
         }
     }
 
-    /// The clause follows by its hints and, unless it is empty, fits the store beside
-    /// the live clauses.
+    /// The clause follows by its hints and fits the store unless it is empty.
     fn add(&mut self, id: u32, step: u64) -> Result<(), Refusal> {
         let mut refuted = false;
         for (index, &hint) in self.ids.iter().enumerate() {
@@ -329,9 +312,9 @@ impl Run {
         }
         self.assignment.clear();
         if !self.literals.is_empty() {
-            let words = self.store.words_used + self.literals.len() as u64;
-            let rows = self.store.rows_used + 1;
-            if words > self.words_lent || rows > self.rows_lent {
+            let words = self.store.words.len() + self.literals.len();
+            let rows = self.store.rows.len() + 1;
+            if words as u64 > self.words_lent || rows as u64 > self.rows_lent {
                 return refuse(17, step);
             }
             self.store.append(id, &self.literals);
@@ -342,7 +325,7 @@ impl Run {
     fn delete(&mut self, step: u64) -> Result<(), Refusal> {
         for &id in &self.ids {
             match self.store.find(id) {
-                Some(row) => self.store.delete(row),
+                Some(row) => self.store.rows[row].live = false,
                 None => return refuse(15, step),
             }
         }

@@ -5,7 +5,6 @@ pub mod both;
 pub mod cases;
 pub mod hasty;
 pub mod hasty_calendar;
-pub mod hasty_packing;
 pub mod models;
 
 use testing::prover::clause_list;

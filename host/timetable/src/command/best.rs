@@ -12,16 +12,15 @@ pub const SUBCOMMAND: Subcommand = Subcommand {
     options: &[JSON],
     prints: "'best', then objective and steps, each with its number on a line",
     details: "The proof is one at the bound one below the model's cost. A model that costs 0 \
-              needs none: its file may be empty. How much the check was lent is said on standard \
-              error.",
+              needs none: its file may be empty.",
     refusals: &[1..=8, 10..=11, 13..=16, 18..=19, 22..=22],
     run: |given, _| {
-        let (cost, checked) = engine::best(
+        let (cost, steps) = engine::best(
             given.bytes("INSTANCE"),
             given.bytes("MODEL"),
             given.bytes("PROOF"),
         )?;
-        let numbers = [("objective", cost.0), ("steps", checked.steps)];
-        Ok(Answer::report(Some("best"), &numbers).lending(checked.lent))
+        let numbers = [("objective", cost.0), ("steps", steps)];
+        Ok(Answer::report(Some("best"), &numbers))
     },
 };

@@ -21,20 +21,19 @@ pub const SUBCOMMAND: Subcommand = Subcommand {
     prints: "'no timetable', then bound and steps, each with its number on a line; at 'none' \
              'no timetable at all' and steps",
     details: "At 'none' the proof is one against the hard clauses alone, as 'timetable steps' \
-              makes it for 'none'. The check is lent room for the formula and for the clauses of \
-              the proof that are live at once, up to twice that; how much is said on standard \
-              error.",
+              makes it for 'none'.",
     refusals: &[1..=8, 14..=16, 18..=19, 22..=22],
     run: |given, _| {
         let (file, proof) = (given.bytes("INSTANCE"), given.bytes("PROOF"));
         let Some(bound) = given.number_if("BOUND") else {
-            let checked = engine::check_hard(file, proof)?;
-            let numbers = [("steps", checked.steps)];
-            let answer = Answer::report(Some("no timetable at all"), &numbers);
-            return Ok(answer.lending(checked.lent));
+            let steps = engine::check_hard(file, proof)?;
+            return Ok(Answer::report(
+                Some("no timetable at all"),
+                &[("steps", steps)],
+            ));
         };
-        let checked = engine::check(file, bound, proof)?;
-        let numbers = [("bound", bound), ("steps", checked.steps)];
-        Ok(Answer::report(Some("no timetable"), &numbers).lending(checked.lent))
+        let steps = engine::check(file, bound, proof)?;
+        let numbers = [("bound", bound), ("steps", steps)];
+        Ok(Answer::report(Some("no timetable"), &numbers))
     },
 };

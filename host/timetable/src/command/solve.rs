@@ -66,7 +66,6 @@ pub const SUBCOMMAND: Subcommand = Subcommand {
               decoded, every bound one that it checked a proof for; where they do not meet, the \
               costs that are left open are told, and the exit status is 3. That there is no \
               timetable at all is told where it checked a proof against the hard clauses alone. \
-              How much the check of the last proof was lent is said on standard error. \
               Interrupted, it stops the solver and tells what it has; the files stay.",
     refusals: &[1..=6, 8..=8, 19..=19, 22..=22],
     run,
@@ -181,19 +180,17 @@ fn answer(outcome: &Outcome) -> Answer {
     if let Some(refuted) = &outcome.refuted {
         let bound = refuted.claim.bound();
         fields.extend(bound.map(|bound| ("refuted", Json::from(bound))));
-        fields.push(("steps", Json::from(refuted.checked.steps)));
+        fields.push(("steps", Json::from(refuted.steps)));
     }
     let paths = files
         .iter()
         .map(|(name, path)| (*name, Json::from(path.as_str())));
     fields.extend(paths);
-    let checked = outcome.refuted.iter();
-    let checked = checked.map(|refuted| format!("lent for the proof: {}\n", refuted.checked.lent));
     let notes = outcome.notes.iter().map(|note| format!("{note}\n"));
     Answer {
         report: report.into_bytes(),
         json: Some(Json::object(fields)),
-        remarks: checked.chain(notes).collect(),
+        remarks: notes.collect(),
         status: match outcome.is_settled() {
             true => ACCEPTED,
             false => OPEN,

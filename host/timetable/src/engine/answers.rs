@@ -1,7 +1,5 @@
 //! What the operations answer.
 
-use std::fmt;
-
 /// A refusal: its number, and the value it gives.
 #[derive(Clone, Copy, Debug, PartialEq, Eq)]
 pub struct Refusal {
@@ -36,28 +34,6 @@ pub struct FormulaSize {
     pub variables: u64,
     pub clauses: u64,
     pub words: u64,
-}
-
-/// What a proof check was lent.
-#[derive(Clone, Copy, Debug, Default, PartialEq, Eq)]
-pub struct Lent {
-    pub words: usize,
-    pub rows: usize,
-    pub bytes: usize,
-}
-
-impl fmt::Display for Lent {
-    fn fmt(&self, out: &mut fmt::Formatter) -> fmt::Result {
-        let Lent { words, rows, bytes } = self;
-        write!(out, "words {words}, rows {rows}, bytes {bytes}")
-    }
-}
-
-/// The answer "no timetable": the number of steps, and what the check was lent.
-#[derive(Clone, Copy, Debug, PartialEq, Eq)]
-pub struct Checked {
-    pub steps: u64,
-    pub lent: Lent,
 }
 
 /// The sum of deviations of the hard constraints.

@@ -17,9 +17,7 @@ mod refusals;
 #[cfg(feature = "engine")]
 mod store;
 
-pub use answers::{
-    Checked, FormulaSize, Infeasibility, Kept, Lent, Objective, Refusal, Score, Summary,
-};
+pub use answers::{FormulaSize, Infeasibility, Kept, Objective, Refusal, Score, Summary};
 pub use limits::{LARGEST_BOUND, MOST_VARIABLES};
 #[cfg(feature = "engine")]
 pub use operations::{

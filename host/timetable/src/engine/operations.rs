@@ -1,7 +1,7 @@
 //! The operations, each with the buffers that it asks for.
 
 use super::answers::{
-    accepted, Checked, FormulaSize, Infeasibility, Kept, Objective, Refusal, Score, Summary,
+    accepted, FormulaSize, Infeasibility, Kept, Objective, Refusal, Score, Summary,
 };
 use super::call::{self, Amounts, Counts};
 use super::limits::MOST_VARIABLES;
@@ -117,23 +117,19 @@ pub fn solver_text(file: &[u8], text: &[u8]) -> Result<(Vec<u8>, usize, Objectiv
 }
 
 /// Checks that no timetable that keeps the hard constraints costs `bound` or
-/// less. Gives the number of steps with what was lent, or 1 to 8, 14 to 16, 18,
-/// 19, 22.
-pub fn check(file: &[u8], bound: u64, proof: &[u8]) -> Result<Checked, Refusal> {
+/// less. Gives the number of steps, or 1 to 8, 14 to 16, 18, 19, 22.
+pub fn check(file: &[u8], bound: u64, proof: &[u8]) -> Result<u64, Refusal> {
     let mut store = Store::for_proof(sizes(file, bound)?, proof);
-    let steps = store.check(file, bound, proof)?;
-    let lent = store.lent();
-    Ok(Checked { steps, lent })
+    store.check(file, bound, proof)
 }
 
 /// Checks that no timetable keeps the hard constraints, whatever it costs. Gives
-/// the number of steps with what was lent, or 1 to 6, 8, 14 to 16, 18, 19, 22.
-pub fn check_hard(file: &[u8], proof: &[u8]) -> Result<Checked, Refusal> {
+/// the number of steps, or 1 to 6, 8, 14 to 16, 18, 19, 22.
+pub fn check_hard(file: &[u8], proof: &[u8]) -> Result<u64, Refusal> {
     let mut size = hard_size(file)?;
     loop {
-        let mut store = Store::for_proof(size, proof);
-        let lent = store.lent();
-        match store.check_hard(file, proof) {
+        let answer = Store::for_proof(size, proof).check_hard(file, proof);
+        match answer {
             Err(refused) if refused.number == refusal::TOO_SHORT => {
                 size = FormulaSize {
                     variables: size.variables,
@@ -141,7 +137,7 @@ pub fn check_hard(file: &[u8], proof: &[u8]) -> Result<Checked, Refusal> {
                     words: 2 * size.words,
                 };
             }
-            answer => return answer.map(|steps| Checked { steps, lent }),
+            answer => return answer,
         }
     }
 }
@@ -160,24 +156,19 @@ fn hard_size(file: &[u8]) -> Result<FormulaSize, Refusal> {
 }
 
 /// A model's cost, with the number of steps of the proof that nothing costs
-/// less and what was lent; or 1 to 8, 10, 11, 13 to 16, 18, 19, 22.
-pub fn best(file: &[u8], model: &[u8], proof: &[u8]) -> Result<(Objective, Checked), Refusal> {
+/// less; or 1 to 8, 10, 11, 13 to 16, 18, 19, 22.
+pub fn best(file: &[u8], model: &[u8], proof: &[u8]) -> Result<(Objective, u64), Refusal> {
     // Where the proof is not looked at, no store is needed.
     let size = match decode(file, model) {
-        Ok((_, Objective(cost))) if cost > 0 => sizes(file, cost - 1).ok(),
-        _ => None,
+        Ok((_, Objective(cost))) if cost > 0 => sizes(file, cost - 1).unwrap_or_default(),
+        _ => FormulaSize::default(),
     };
-    let store = size.map(|size| Store::for_proof(size, proof));
-    let mut store = store.unwrap_or_default();
-    let (cost, steps) = store.best(file, model, proof)?;
-    let lent = store.lent();
-    Ok((cost, Checked { steps, lent }))
+    Store::for_proof(size, proof).best(file, model, proof)
 }
 
 #[cfg(test)]
 mod tests {
     use super::*;
-    use crate::engine::Lent;
 
     /// Document 01's file A.
     const A: [u8; 12] = [1, 1, 0, 1, 0, 1, 0, 1, 3, 4, 1, 1];
@@ -190,44 +181,6 @@ mod tests {
     fn a_model_has_a_byte_for_each_variable() {
         assert_eq!(model_length(&A), Ok(4));
         assert_eq!(model_length(&A[..11]), refused(refusal::BAD_NUMBER, 11));
-    }
-
-    /// The proof of A at bound 3 adds the empty clause alone.
-    #[test]
-    fn a_check_says_what_it_was_lent() {
-        let proof = [97, 17, 0, 5, 4, 2, 6, 14, 16, 0];
-        let lent = Lent {
-            words: 30,
-            rows: 16,
-            bytes: 8,
-        };
-        let checked = Checked { steps: 1, lent };
-        assert_eq!(check(&A, 3, &proof), Ok(checked));
-        let model = [1, 1, 1, 1];
-        assert_eq!(best(&A, &model, &proof), Ok((Objective(4), checked)));
-        assert_eq!(lent.to_string(), "words 30, rows 16, bytes 8");
-    }
-
-    /// Sixty times a clause of two words is added and deleted, where A has 30 words
-    /// and 16 rows: not twice as much is lent.
-    #[test]
-    fn no_more_is_lent_than_twice_what_is_live() {
-        let mut proof = Vec::new();
-        for id in 17..77 {
-            proof.extend([97, id, 6, 2, 0, 5, 0, 100, id, 0]);
-        }
-        proof.extend([97, 77, 0, 5, 4, 2, 6, 14, 16, 0]);
-        let checked = check(&A, 3, &proof).expect("a refutation");
-        let twice = Lent {
-            words: 64,
-            rows: 34,
-            bytes: 8,
-        };
-        assert_eq!((checked.steps, checked.lent), (121, twice));
-        // Of thirty words and more, all are lent while that is less than twice.
-        let few = [&proof[..100], &proof[proof.len() - 10..]].concat();
-        let lent = check(&A, 3, &few).expect("a refutation").lent;
-        assert_eq!((lent.words, lent.rows), (50, 26));
     }
 
     #[test]

@@ -58,7 +58,7 @@ refusals! {
     14 BAD_STEP "a step is misformed" "step {}";
     15 NOT_LIVE "a hint or deletion names a clause that is not live" "step {}";
     16 BAD_HINT "a hint, or the ending of the hints, breaks the rule" "step {}";
-    17 CLAUSE_TOO_LONG "a clause does not fit the store beside the live ones" "step {}";
+    17 CLAUSE_TOO_LONG "a clause does not fit the store" "step {}";
     18 BAD_END "the proof has no empty clause, or bytes after it" "{} steps were read";
     19 SAME_EVENT "both events of a precedence are one" "the constraint's kind is at offset {}";
     20 BAD_SOLVER_TEXT "a solver's text has a line of another kind, a literal out of range or \

@@ -1,15 +1,10 @@
 //! The stores that a proof check is lent.
 
-use super::answers::{accepted, FormulaSize, Lent, Objective, Refusal};
+use super::answers::{accepted, FormulaSize, Objective, Refusal};
 use super::call::{self, Row};
-use crate::proof::added;
-
-/// No more is lent than so many times what has to be live at once. In a store that just
-/// fits, each new clause may move all others.
-const MOST_TIMES_LIVE: usize = 2;
+use crate::proof::room;
 
 /// A word for each literal, a row for each clause, a byte for each variable.
-#[derive(Default)]
 pub struct Store {
     pub words: Vec<u32>,
     pub rows: Vec<Row>,
@@ -17,30 +12,14 @@ pub struct Store {
 }
 
 impl Store {
-    /// Room for a formula of `size` and for what `proof` adds, so that a check in it
-    /// gives neither 9 nor 17: for every clause, but at most twice what has to be
-    /// live at once.
+    /// Room for a formula of `size` and for every clause that `proof` adds, so
+    /// that a check in it gives neither 9 nor 17.
     pub fn for_proof(size: FormulaSize, proof: &[u8]) -> Store {
-        let added = added(proof);
-        let room = |formula: u64, all: usize, live: usize| {
-            let formula = formula as usize;
-            (formula + all).min(MOST_TIMES_LIVE * (formula + live))
-        };
-        let words = room(size.words, added.all.words, added.live.words);
-        let rows = room(size.clauses, added.all.rows, added.live.rows);
+        let added = room(proof);
         Store {
-            words: vec![0; words],
-            rows: vec![Row::default(); rows],
+            words: vec![0; size.words as usize + added.words],
+            rows: vec![Row::default(); size.clauses as usize + added.rows],
             marks: vec![0; size.variables as usize],
-        }
-    }
-
-    /// How much a check in this store is lent.
-    pub fn lent(&self) -> Lent {
-        Lent {
-            words: self.words.len(),
-            rows: self.rows.len(),
-            bytes: self.marks.len(),
         }
     }
 

@@ -2,7 +2,7 @@
 use borrow.Author.Rules.{rules}
 use mathlib.Core.Path.{refl, sym, ◌∙◌}
 use native.Mathlib.Omega.{arith}
-use Rattle.tables.proofs.laws.Room.{room_kept}
+use Rattle.tables.proofs.laws.Room.{room-kept}
 use Rattle.claims.proofs.laws.Bounded.{bounding}
 use Rattle.claims.proofs.laws.Prepared.{bounded_refused, bounded_short, bounded_in, left-same}
 use Rattle.claims.proofs.prepare.fill_bounded_in.Statement.{statement}
@@ -46,7 +46,7 @@ slice-aggregate-write-bounded-3 c = search rules
 
 write-bounded-requires : tie.Need-write-bounded-requires
 write-bounded-requires c κs =
-    let g = room_kept c.before.before.before.before.before.before.before.before.before.before.before.before.before.before.before.before.before.before.before.before.before.before.before.before.before.before.args.file.now c.before.before.before.before.before.before.before.before.before.before.before.before.before.before.before.measure-bound.auto.1.1.1.1.0 c.before.before.before.before.before.before.before.before.before.before.before.before.before.before.before.before.before.before.before.before.before.before.before.before.before.before.requires in
+    let g = room-kept c.before.before.before.before.before.before.before.before.before.before.before.before.before.before.before.before.before.before.before.before.before.before.before.before.before.before.args.file.now c.before.before.before.before.before.before.before.before.before.before.before.before.before.before.before.measure-bound.auto.1.1.1.1.0 c.before.before.before.before.before.before.before.before.before.before.before.before.before.before.before.before.before.before.before.before.before.before.before.before.before.before.requires in
     bounding (rw c.before.before.before.before.before.before.before.before.m.given.1 at c.before.before.before.before.before.before.before.before.before.before.before.before.before.before.before.measure-bound.ensures) (search rules)
 
 formula-of-requires : tie.Need-formula-of-requires

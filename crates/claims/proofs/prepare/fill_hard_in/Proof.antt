@@ -2,7 +2,7 @@
 use borrow.Author.Rules.{rules}
 use mathlib.Core.Path.{refl, sym, ◌∙◌}
 use native.Mathlib.Omega.{arith}
-use Rattle.tables.proofs.laws.Room.{room_kept}
+use Rattle.tables.proofs.laws.Room.{room-kept}
 use Rattle.claims.proofs.laws.Bounded.{hard-writable}
 use Rattle.claims.proofs.laws.Prepared.{hard_refused, hard_short, hard_in, left-same}
 use Rattle.claims.proofs.prepare.fill_hard_in.Statement.{statement}
@@ -49,7 +49,7 @@ slice-aggregate-write-hard-3 c = search rules
 
 write-hard-requires : tie.Need-write-hard-requires
 write-hard-requires c κs =
-    let g = room_kept c.before.before.before.before.before.before.before.before.before.before.before.before.before.before.before.before.before.before.before.before.before.before.before.before.before.before.before.args.file.now c.before.before.before.before.before.before.before.before.before.before.before.before.before.before.before.before.measure.auto.1.1.1.0 c.before.before.before.before.before.before.before.before.before.before.before.before.before.before.before.before.before.before.before.before.before.before.before.before.before.before.before.requires in
+    let g = room-kept c.before.before.before.before.before.before.before.before.before.before.before.before.before.before.before.before.before.before.before.before.before.before.before.before.before.before.before.args.file.now c.before.before.before.before.before.before.before.before.before.before.before.before.before.before.before.before.measure.auto.1.1.1.0 c.before.before.before.before.before.before.before.before.before.before.before.before.before.before.before.before.before.before.before.before.before.before.before.before.before.before.before.requires in
     hard-writable (rw c.before.before.before.before.before.before.before.before.before.m.given.1 at c.before.before.before.before.before.before.before.before.before.before.before.before.before.before.before.before.measure.ensures) (search rules)
 
 formula-of-requires : tie.Need-formula-of-requires

@@ -1,7 +1,7 @@
 -- `instance::reader::read` meets its contract: the tables, and then the rest.
 use borrow.Author.Rules.{rules}
 use mathlib.Core.Path.{◌∙◌}
-use Rattle.tables.proofs.laws.Room.{room_kept}
+use Rattle.tables.proofs.laws.Room.{room-kept}
 use Rattle.instance.proofs.laws.Checked.{start-lent, tables-stopped}
 use Rattle.instance.proofs.laws.Start.{tables_start}
 use Rattle.instance.proofs.reader.read.Statement.{statement}
@@ -20,7 +20,7 @@ rest-at-requires c κs = λ count start.
     let s = b.args.file.now in
     let p = b.requires in
     let i = tables_start s f.new.1.0 f.new.1.1.0 f.new.1.1.1.0 _ _ _ f.ensures c.before.before.before.before.w.given.1 in
-    start-lent s _ _ _ _ _ i (f.auto.1.1.0 ∙ p.tables.resources_long) (room_kept s f.auto.1.1.1.0 p.tables.groups_long) p.list_long
+    start-lent s _ _ _ _ _ i (f.auto.1.1.0 ∙ p.tables.resources_long) (room-kept s f.auto.1.1.1.0 p.tables.groups_long) p.list_long
 
 enum-known-x : tie.Need-enum-known-x
 enum-known-x c = search rules

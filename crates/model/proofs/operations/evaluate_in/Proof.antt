@@ -1,6 +1,6 @@
 -- `operations::evaluate_in` meets its contract: the stores are long enough, and a file that is sized is evaluated.
 use borrow.Author.Rules.{rules}
-use Rattle.tables.proofs.laws.Room.{room_kept}
+use Rattle.tables.proofs.laws.Room.{room-kept}
 use Rattle.model.proofs.laws.Answers.{evaluation-refused}
 use Rattle.model.proofs.operations.evaluate_in.Statement.{statement}
 use Rattle.model.proofs.operations.evaluate_in.Tie as tie
@@ -42,7 +42,7 @@ evaluate-read-requires : tie.Need-evaluate-read-requires
 evaluate-read-requires c κs =
     let r = c.before.before.before.before.before.before.before.before.before.before.before.before.measure in
     let b = c.before.before.before.before.before.before.before.before.before.before.before.before.before.before.before.before.before.before.before.before.before.before.before in
-    let g = room_kept b.args.file.now r.auto.1.1.1.0 b.requires in
+    let g = room-kept b.args.file.now r.auto.1.1.1.0 b.requires in
     (rw c.before.before.before.before.before.m.given.1 at r.ensures, search rules)
 
 enum-known-m-2 : tie.Need-enum-known-m-2

@@ -1,11 +1,12 @@
--- `drive_with` meets its contract: a walk of its MIR by hand. Each turn lends the rows to `find`, `delete_ids`, `make_room` or `append`, and
--- what else a turn needs to the functions that never see the rows.
+-- `drive_with` meets its contract: a walk of its MIR by hand. Each turn lends the rows to `find`, `mark_dead` or `append`, and what else a
+-- turn needs to the functions that never see the rows.
 use mathlib.Core.Path.{◌≡◌, refl, sym, ap, subst, ◌∙◌}
 use mathlib.Core.List.{List, [], ◌∷◌}
 use mathlib.Core.Option.{Option, none, some}
 use Prim.Native.Nat.{ℕ, ◌<◌, ◌≤◌, ◌^◌}
 use native.Mathlib.Omega.{arith}
 use lib.ListN.{length, set}
+use lib.Dec.{leb→le}
 use seplogic.Ra.Ura.{Ura}
 use seplogic.Ra.TreeShare.{full_share}
 use mir.Syntax.{Ty, Body, named, w64}
@@ -19,7 +20,7 @@ use types.Logic.{Logic, sem}
 use contract.Monad.{Fun}
 use contract.Running.{tables, tables_of}
 use types.Kit.{Item, Sq, runs, any_q, raw, cut, use1, use2, feq_l, ‵, ◌⊛◌, ⋆, ◌$◌, ◌∵◌, !, qed, by, move, keep, drop, split, join, rewrite, fsplit, fjoin, suffices, frame, done}
-use types.Run.{addr, land, land_last, look, init, store, forget, stop, hop, fld, from, load, lit, of_opd, bin, and_then, no_more, assigns, assigns_last, first, blocks, branches, Below, again, loops, returns_within, enter, params1, pass1, pass0}
+use types.Run.{addr, land, land_last, look, init, store, forget, stop, hop, fld, from, load, lit, of_opd, bin, and_then, no_more, first, skips, blocks, branches, Below, again, loops, returns_within, enter, params1, pass1, pass0}
 use types.Part.{whole, sub, look_in, agg}
 use sound.WpLaws.{FmC, fm_of, WpFn-mono}
 use denote.RattleType.{owns}
@@ -38,7 +39,8 @@ use denote.Triple.Statement.{Contract, Triple}
 use denote.Triple.Table.{entered as entered_by, cited}
 use denote.Triple.Walked.{says, Stays, stay_slice, stay_dropped, walk_of, Goes-slice, Goes-dropped, ends_at, walked, walk_Meets}
 use denote.Exit.{yes}
-use lib.Dec.{T, eqb→eq, lit<}
+use lib.Dec.{T, eqb, T_not, eqb_refl, eqb→eq, lit<}
+use mathlib.Core.Bool.{not}
 use borrow.Author.Tests.{le-ltb}
 use mir.Syntax.{w8}
 use mir.Val.{WT, has_ty}
@@ -62,25 +64,22 @@ use Rattle.lookup.specs.Lookup.{look_up}
 use Rattle.walks.proofs.Walk.{rest, held, failed, ty_at, Addrs, addr_at, env_of, laid, rotate, dropped, allocs_all, frees_all, var, part, fills}
 use Rattle.walks.proofs.Slices.{at-list, Whole, lent, back, shared, unshared}
 use Rattle.directory.proofs.Elements.{IsRow, row_same, row_typed}
-use Rattle.lookup.proofs.Elements.{probe-same, probe_typed}
+use Rattle.lookup.proofs.Elements.{IsProbe, probe-same, probe_typed}
 use Rattle.walks.proofs.Calls.{uint-same, unit-same, both-said, and-said, calls_to, calls_to_last}
 use Rattle.directory.specs.contracts.Row as R
 use Rattle.directory.proofs.Row.TheLaws as R'
+use Rattle.lookup.specs.contracts.Probe as P
 use Rattle.lookup.proofs.Probe.TheLaws as P'
 use Rattle.hints.specs.declared.machine.Machine.{Machine}
 use Rattle.hints.specs.declared.machine.Phase.TheVariants.{Next}
-use Rattle.turns.specs.declared.places.Places.{Places}
-use Rattle.turns.specs.Places.{first_look}
 use Rattle.turns.specs.declared.check.Check.{Check}
 use Rattle.hints.specs.Machine.{turn_of, stopped, advanced, advanced_marks, advanced_trail}
 use Rattle.turns.specs.Check.{begun, judged, row_of, kept_as, entered, proceeded, unwound, unwound_marks, step_taken, answer_of}
 use Rattle.copying.specs.Copies.{copied_at}
 use Rattle.reader.proofs.Loops.{Left, left_over}
-use Rattle.room.specs.Room.{made, room_made}
-use Rattle.run.specs.Turned.{State, state, found, deletion, ids_deleted, turned, going, left, to_go, ended, at_first, outcome, outcome_of, driven_with}
+use Rattle.run.specs.Turned.{State, state, deletion, ids_deleted, with_deletion, turned, going, left, to_go, ended, at_first, outcome, outcome_of, driven_with}
 use Rattle.run.proofs.laws.Termination.{Past}
 use Rattle.run.proofs.Turning.{Nearer as Comes, turn_nearer, ids_nearer}
-use Rattle.run.proofs.Values.{IsCheck, IsMachine, IsPlaces, check-same, machine-same, deleted-same, check_typed, machine_typed, deleted_typed, rows_fit_lem, places_is, place-fits, want-fits, check_is, machine_is, hit-is, not-eq}
 use Rattle.reader.proofs.Reader.TheLaws as D'
 use Rattle.reader.proofs.Readers.{at_place, reader_typed, IsNumber, number_typed}
 use Rattle.reader.proofs.ReaderCalls.{over_to, read_number_to, moved_to, makes, reads as reads-number, moves}
@@ -97,8 +96,8 @@ use Rattle.hints.specs.contracts.machine.Machine as N
 use Rattle.hints.proofs.machine.Machine.TheLaws as N'
 use Rattle.turns.specs.contracts.check.Check as K
 use Rattle.turns.proofs.check.Check.TheLaws as K'
-use Rattle.turns.specs.contracts.places.Places as L
-use Rattle.turns.proofs.places.Places.TheLaws as L'
+use Rattle.turns.specs.contracts.check.Tally as Y
+use Rattle.turns.proofs.check.Tally.TheLaws as Y'
 use Rattle.turns.specs.contracts.check.begin as begin
 use Rattle.turns.proofs.check.begin.Symbol as begin-def
 use Rattle.turns.proofs.check.begin.Symbol.{name as #begin}
@@ -111,10 +110,6 @@ use Rattle.hints.specs.contracts.machine.turn_of as turn-of
 use Rattle.hints.proofs.machine.turn_of.Symbol as turn-of-def
 use Rattle.hints.proofs.machine.turn_of.Symbol.{name as #turn-of}
 use Rattle.hints.proofs.machine.turn_of.Met as turn-of-thm
-use Rattle.turns.specs.contracts.places.first_look as first-look
-use Rattle.turns.proofs.places.first_look.Symbol as first-look-def
-use Rattle.turns.proofs.places.first_look.Symbol.{name as #first-look}
-use Rattle.turns.proofs.places.first_look.Met as first-look-thm
 use Rattle.lookup.specs.contracts.find as find
 use Rattle.lookup.proofs.find.Symbol as find-def
 use Rattle.lookup.proofs.find.Symbol.{name as #find}
@@ -123,15 +118,10 @@ use Rattle.hints.specs.contracts.machine.advance as advance
 use Rattle.hints.proofs.machine.advance.Symbol as advance-def
 use Rattle.hints.proofs.machine.advance.Symbol.{name as #advance}
 use Rattle.hints.proofs.machine.advance.Met as advance-thm
-use Rattle.run.proofs.deleting.Deleted.TheLaws as G'
 use Rattle.run.specs.contracts.deleting.delete_ids as delete-ids
 use Rattle.run.proofs.deleting.delete_ids.Symbol as delete-ids-def
 use Rattle.run.proofs.deleting.delete_ids.Symbol.{name as #delete-ids}
 use Rattle.run.proofs.deleting.delete_ids.Met as delete-ids-thm
-use Rattle.room.specs.contracts.make_room as make-room
-use Rattle.room.proofs.make_room.Symbol as make-room-def
-use Rattle.room.proofs.make_room.Symbol.{name as #make-room}
-use Rattle.room.proofs.make_room.Met as make-room-thm
 use Rattle.turns.specs.contracts.check.row_of as row-of
 use Rattle.turns.proofs.check.row_of.Symbol as row-of-def
 use Rattle.turns.proofs.check.row_of.Symbol.{name as #row-of}
@@ -191,18 +181,52 @@ by_turn_lem = rest (rest (rest (rest body.turn-1)))
 abbrev past : Body → Body
 past b = rest (failed b)
 
--- the machine value is the answer's
+-- the machine value is the check's, the machine's, the answer's
+abbrev IsCheck : Check → Val → Type 0
+IsCheck c v = Is K.the_row c (v ∷ [])
+
+abbrev IsMachine : Machine → Val → Type 0
+IsMachine m v = Is N.the_row m (v ∷ [])
+
 abbrev IsAnswer : CheckAnswer → Val → Type 0
 IsAnswer r v = Is S.the_row r (v ∷ [])
+
+check-same : (c : Check) (v : Val) → IsCheck c v → v ≡ K'.lowered c
+check-same c v is = ap only ((K'.lowers).val_is c (v ∷ []) is)
+
+machine-same : (m : Machine) (v : Val) → IsMachine m v → v ≡ N'.lowered m
+machine-same m v is = ap only ((N'.lowers).val_is m (v ∷ []) is)
 
 answer-same : (r : CheckAnswer) (v : Val) → IsAnswer r v → v ≡ S'.lowered r
 answer-same r v is = ap only ((S'.lowers).val_is r (v ∷ []) is)
 
 module _ {M : Type 1} {𝓤 : Ura M} (𝓛 : Logic 𝓤) where
+  check-typed : (c : Check) (v : Val) → IsCheck c v → T (has_ty K'.mir v) × WT v
+  check-typed c v is = ((LL.lawful K.the_type K'.the_laws 𝓛).typed c (v ∷ []) is).0
+
+  machine-typed : (m : Machine) (v : Val) → IsMachine m v → T (has_ty N'.mir v) × WT v
+  machine-typed m v is = ((LL.lawful N.the_type N'.the_laws 𝓛).typed m (v ∷ []) is).0
+
   answer_typed : (r : CheckAnswer) (v : Val) → IsAnswer r v → T (has_ty S'.mir v) × WT v
   answer_typed r v is = ((EL.lawful S.the_type S'.the_laws 𝓛 tt).typed r (v ∷ []) is).0
 
--- every test of the turn fails
+-- fields that are machine words
+rows_fit_lem : (c : Check) → IsCheck c (K'.lowered c) → c.tally.rows < 2 ^ 64
+rows_fit_lem c is = (LL.owed Y.the_type Y'.the_laws c.tally _ (LL.owed K.the_type K'.the_laws c (K'.lowered c ∷ []) is).1.0).1.1.0.1
+
+place-fits : (m : Machine) → IsMachine m (N'.lowered m) → m.at < 2 ^ 64
+place-fits m is = (LL.owed N.the_type N'.the_laws m (N'.lowered m ∷ []) is).1.0.1
+
+want-fits : (m : Machine) → IsMachine m (N'.lowered m) → m.want < 2 ^ 64
+want-fits m is = (LL.owed N.the_type N'.the_laws m (N'.lowered m ∷ []) is).1.1.0.1
+
+hit-is : (p : Probe) → IsProbe p (P'.lowered p) → IsRow p.hit (R'.lowered p.hit)
+hit-is p is = (LL.owed P.the_type P'.the_laws p (P'.lowered p ∷ []) is).1.1.1.0
+
+-- tests of the turn that fail
+not-eq : (a b : ℕ) → T (not (eqb a b)) → a ≡ b → ⊥
+not-eq a b h e = T_not (eqb a b) h (subst (λ (k : ℕ). T (eqb a k)) e (eqb_refl a))
+
 none_left : (n : ℕ) → (n ≡ 0 → ⊥) → (n ≡ 1 → ⊥) → (n ≡ 2 → ⊥) → (n ≡ 3 → ⊥) → (n ≡ 4 → ⊥) → 5 ≤ n
 none_left n z a b c d = omega arith
 
@@ -303,30 +327,23 @@ module _ {ps : List ℕ} {last : ℕ} {us₀ : List ℕ} {ys₀ : List Row} {ms�
     Advanced x row m ms tr = (m ≡ advanced x (length t.tr) t.m row t.us t.ms) × ((ms ≡ advanced_marks x t.m row t.us t.ms) × (tr ≡ advanced_trail x t.m row t.us t.ms t.tr))
 
     -- the turns
-    looked : (p : Probe) (x : Parsed ℕ) {m : Machine} {ms tr : List ℕ} → turn_of t.m.phase ≡ 0 → p ≡ found t.c t.zs t.m.want → x ≡ number_of_lem ps t.m.at → Advanced x p.hit m ms tr
+    looked : (p : Probe) (x : Parsed ℕ) {m : Machine} {ms tr : List ℕ} → turn_of t.m.phase ≡ 0 → p ≡ look_up t.zs t.c.tally.rows t.m.want → x ≡ number_of_lem ps t.m.at → Advanced x p.hit m ms tr
         → From t t.c m t.zs t.us ms tr
     unfolding turned
-    looked p x h meets q moved = one-turn (omega arith) (rw (h, moved.0, moved.1.0, moved.1.1, q, meets))
+    looked p x h found q moved = one-turn (omega arith) (rw (h, moved.0, moved.1.0, moved.1.1, q, found))
 
-    ids-deleted : turn_of t.m.phase ≡ 1 → (c : Check) (m : Machine) (zs : List Row) → deletion c m zs ≡ ids_deleted ps t.c t.m t.zs
-        → From t c m zs t.us t.ms t.tr
-    ids-deleted h c m zs e = ids_nearer ps last (End ps last us₀ ys₀ ms₀ tr₀ n used) (here t) h t.past t.onto c m zs e
+    ids-deleted : turn_of t.m.phase ≡ 1 → (m : Machine) (zs : List Row) → deletion m zs ≡ ids_deleted ps t.c.tally.rows t.m t.zs
+        → From t t.c m zs t.us t.ms t.tr
+    ids-deleted h m zs e = ids_nearer ps last (End ps last us₀ ys₀ ms₀ tr₀ n used) (here t) h t.past t.onto m zs e
 
     abbrev Unwound : Check → List ℕ → Machine → List ℕ → Type 0
     Unwound c us m ms = (m ≡ unwound c t.m (length t.tr)) × (ms ≡ unwound_marks c t.m us t.ms t.tr)
 
-    -- where c₁, zs₁ and us₁ are what making room left
-    module _ (c₁ : Check) (zs₁ : List Row) (us₁ : List ℕ) where
-      abbrev RoomMade : Type 0
-      RoomMade = made c₁ zs₁ us₁ ≡ room_made t.c t.zs t.us
-
-      abbrev Kept : Check → List ℕ → Type 0
-      Kept c us = (c ≡ kept_as c₁) × (us ≡ copied_at ps c₁.clause.literals us₁ c₁.tally.used.words)
-
-      kept : {c : Check} {m : Machine} {us ms : List ℕ} → turn_of t.m.phase ≡ 2 → RoomMade → (row : Row) → row ≡ row_of c₁ → (zs : List Row) → zs ≡ set zs₁ c₁.tally.used.rows row
-          → Kept c us → Unwound c us m ms → From t c m zs us ms t.tr
-      unfolding turned
-      kept h r row e zs put k u = one-turn (omega arith) (rw (h, ← r, u.0, u.1, k.0, k.1, put, e))
+    kept : {c : Check} {m : Machine} {us ms : List ℕ} → turn_of t.m.phase ≡ 2 → (row : Row) → row ≡ row_of t.c → (zs : List Row) → zs ≡ set t.zs t.c.tally.rows row
+        → (c ≡ kept_as t.c) × (us ≡ copied_at ps t.c.clause.literals t.us t.c.tally.words) → Unwound c us m ms
+        → From t c m zs us ms t.tr
+    unfolding turned
+    kept h row e zs put k u = one-turn (omega arith) (rw (h, u.0, u.1, k.0, k.1, put, e))
 
     judged-on : {c : Check} {m : Machine} → turn_of t.m.phase ≡ 3 → c ≡ judged t.c t.m.at (length ps) (length t.us) (length t.zs) → m ≡ proceeded c t.m
         → From t c m t.zs t.us t.ms t.tr
@@ -357,9 +374,6 @@ module _ {M : Type 1} {𝓤 : Ura M} (𝓛 : Logic 𝓤) (mem : Memory → SProp
   abbrev turn-of-to : Contract 𝓤
   turn-of-to = triple_of 𝓛 turn-of.signature (turn-of.spec 𝓛 mem run)
 
-  abbrev first-look-to : Contract 𝓤
-  first-look-to = triple_of 𝓛 first-look.signature (first-look.spec 𝓛 mem run)
-
   abbrev find-to : Contract 𝓤
   find-to = triple_of 𝓛 find.signature (find.spec 𝓛 mem run)
 
@@ -368,9 +382,6 @@ module _ {M : Type 1} {𝓤 : Ura M} (𝓛 : Logic 𝓤) (mem : Memory → SProp
 
   abbrev delete-ids-to : Contract 𝓤
   delete-ids-to = triple_of 𝓛 delete-ids.signature (delete-ids.spec 𝓛 mem run)
-
-  abbrev make-room-to : Contract 𝓤
-  make-room-to = triple_of 𝓛 make-room.signature (make-room.spec 𝓛 mem run)
 
   abbrev row-of-to : Contract 𝓤
   row-of-to = triple_of 𝓛 row-of.signature (row-of.spec 𝓛 mem run)
@@ -406,11 +417,9 @@ module _ {M : Type 1} {𝓤 : Ura M} (𝓛 : Logic 𝓤) (mem : Memory → SProp
     pub begin : Triple 𝓤 (C #begin) begin-to
     pub ready : Triple 𝓤 (C #ready) ready-to
     pub turn-of : Triple 𝓤 (C #turn-of) turn-of-to
-    pub first-look : Triple 𝓤 (C #first-look) first-look-to
     pub find : Triple 𝓤 (C #find) find-to
     pub advance : Triple 𝓤 (C #advance) advance-to
     pub delete-ids : Triple 𝓤 (C #delete-ids) delete-ids-to
-    pub make-room : Triple 𝓤 (C #make-room) make-room-to
     pub row-of : Triple 𝓤 (C #row-of) row-of-to
     pub append : Triple 𝓤 (C #append) append-to
     pub keep : Triple 𝓤 (C #keep) keep-to
@@ -527,51 +536,28 @@ module _ {M : Type 1} {𝓤 : Ura M} (𝓛 : Logic 𝓤) (mem : Memory → SProp
       owned ! usize (Is usize) (uint_Makes 𝓛 w64) i _ (refl, fi) $ fjoin ! $
       owned ! K.the_row (Is K.the_row) ((LL.makes K.the_type K'.the_plain) 𝓛) c _ is $ fjoin ! $ nothing ! $ join ! $ frame ! $ done !
 
-  abbrev to-first-look : Places → ℕ → (first-look-to 𝓛 mem run).Ghost
-  to-first-look p id = ((tt, tt, tt, (p, (id, tt)), (L'.lowered p ∷ [], (vint w64 id ∷ [], tt))), tt)
+  abbrev to-find : List Row → ℕ → ℕ → ℕ → GName → (find-to 𝓛 mem run).Ghost
+  to-find zs i id ν δ = (((ν ∷ [], tt), (full_share, tt), tt, (at-list b₂ o₂ δ zs, (i, (id, tt))), (s₂ zs ∷ [], (vint w64 i ∷ [], (vint w64 id ∷ [], tt)))), tt)
 
-  goes-first-look : (p : Places) (id : ℕ) → IsPlaces p (L'.lowered p) → id < 2 ^ 64 → ent 𝓤 (sem 𝓛 ftrue) ((first-look-to 𝓛 mem run).pre (to-first-look p id))
-  goes-first-look p id is fid = qed 𝓛 (‵ ftrue ∷ []) ∵ owned ! usize (Is usize) (uint_Makes 𝓛 w64) id _ (refl, fid) $ fjoin ! $
-      owned ! L.the_row (Is L.the_row) ((LL.makes L.the_type L'.the_plain) 𝓛) p _ is $ fjoin ! $ nothing ! $ join ! $ frame ! $ done !
-
-  abbrev to-find : List Row → ℕ → ℕ → ℕ → ℕ → GName → (find-to 𝓛 mem run).Ghost
-  to-find zs k id i ν δ = (((ν ∷ [], tt), (full_share, tt), tt, (at-list b₂ o₂ δ zs, (k, (id, (i, tt)))), (s₂ zs ∷ [], (vint w64 k ∷ [], (vint w64 id ∷ [], (vint w64 i ∷ [], tt))))), tt)
-
-  goes-find : (zs : List Row) (k id i ν : ℕ) (δ : GName) → k < 2 ^ 64 → id < 2 ^ 64 → i < 2 ^ 64
-      → ent 𝓤 (sep 𝓤 (sem 𝓛 ((ShrSlice (named 2) (ν ∷ []) R.the_row).own_val (at-list b₂ o₂ δ zs) (s₂ zs ∷ []))) (A.lft (ν ∷ []) full_share)) ((find-to 𝓛 mem run).pre (to-find zs k id i ν δ))
-  goes-find zs k id i ν δ fk fid fi =
+  goes-find : (zs : List Row) (i id ν : ℕ) (δ : GName) → i < 2 ^ 64 → id < 2 ^ 64
+      → ent 𝓤 (sep 𝓤 (sem 𝓛 ((ShrSlice (named 2) (ν ∷ []) R.the_row).own_val (at-list b₂ o₂ δ zs) (s₂ zs ∷ []))) (A.lft (ν ∷ []) full_share)) ((find-to 𝓛 mem run).pre (to-find zs i id ν δ))
+  goes-find zs i id ν δ fi fid =
       qed 𝓛 (‵ ((ShrSlice (named 2) (ν ∷ []) R.the_row).own_val (at-list b₂ o₂ δ zs) (s₂ zs ∷ [])) ∷ ‵ (flft (ν ∷ []) full_share) ∷ []) ∵ nothing ! $
       move ! (2 ∷ 0 ∷ []) $ join ! $
-      nothing ! $ owned ! usize (Is usize) (uint_Makes 𝓛 w64) i _ (refl, fi) $ fjoin ! $
-      owned ! usize (Is usize) (uint_Makes 𝓛 w64) id _ (refl, fid) $ fjoin ! $
-      owned ! usize (Is usize) (uint_Makes 𝓛 w64) k _ (refl, fk) $ fjoin ! $ move ! (2 ∷ 0 ∷ []) $ fjoin ! $ move ! (1 ∷ 0 ∷ []) $ join ! $
+      nothing ! $ owned ! usize (Is usize) (uint_Makes 𝓛 w64) id _ (refl, fid) $ fjoin ! $
+      owned ! usize (Is usize) (uint_Makes 𝓛 w64) i _ (refl, fi) $ fjoin ! $ move ! (2 ∷ 0 ∷ []) $ fjoin ! $ move ! (1 ∷ 0 ∷ []) $ join ! $
       frame ! $ done !
 
-  abbrev to-delete-ids : Check → Machine → List Row → ℕ → GName → (delete-ids-to 𝓛 mem run).Ghost
-  to-delete-ids c m zs ν δ = (((κ₀, (ν ∷ [], tt)), (q₀, (full_share, tt)), tt, (c, (m, (at-list b₀ o₀ γ₀ ps, (at-list b₂ o₂ δ zs, tt)))), (K'.lowered c ∷ [], (N'.lowered m ∷ [], (s₀ ∷ [], (s₂ zs ∷ [], tt))))), tt)
+  abbrev to-delete-ids : Machine → List Row → ℕ → ℕ → GName → (delete-ids-to 𝓛 mem run).Ghost
+  to-delete-ids m zs i ν δ = (((κ₀, (ν ∷ [], tt)), (q₀, (full_share, tt)), tt, (m, (at-list b₀ o₀ γ₀ ps, (at-list b₂ o₂ δ zs, (i, tt)))), (N'.lowered m ∷ [], (s₀ ∷ [], (s₂ zs ∷ [], (vint w64 i ∷ [], tt))))), tt)
 
-  goes-delete-ids : (c : Check) (m : Machine) (zs : List Row) (ν : ℕ) (δ : GName) → IsCheck c (K'.lowered c) → IsMachine m (N'.lowered m)
-      → ent 𝓤 (⋆ 𝓛 (‵ (flft κ₀ q₀) ∷ ‵ (flft (ν ∷ []) full_share) ∷ ‵ Proof ∷ ‵ ((MutSlice (named 2) (ν ∷ []) R.the_row).own_val (at-list b₂ o₂ δ zs) (s₂ zs ∷ [])) ∷ [])) ((delete-ids-to 𝓛 mem run).pre (to-delete-ids c m zs ν δ))
-  goes-delete-ids c m zs ν δ is is' =
+  goes-delete-ids : (m : Machine) (zs : List Row) (i ν : ℕ) (δ : GName) → IsMachine m (N'.lowered m) → i < 2 ^ 64
+      → ent 𝓤 (⋆ 𝓛 (‵ (flft κ₀ q₀) ∷ ‵ (flft (ν ∷ []) full_share) ∷ ‵ Proof ∷ ‵ ((MutSlice (named 2) (ν ∷ []) R.the_row).own_val (at-list b₂ o₂ δ zs) (s₂ zs ∷ [])) ∷ [])) ((delete-ids-to 𝓛 mem run).pre (to-delete-ids m zs i ν δ))
+  goes-delete-ids m zs i ν δ is fi =
       qed 𝓛 (‵ (flft κ₀ q₀) ∷ ‵ (flft (ν ∷ []) full_share) ∷ ‵ Proof ∷ ‵ ((MutSlice (named 2) (ν ∷ []) R.the_row).own_val (at-list b₂ o₂ δ zs) (s₂ zs ∷ [])) ∷ []) ∵ nothing ! $
       move ! (2 ∷ 0 ∷ []) $ join ! $ move ! (1 ∷ 0 ∷ []) $ join ! $
-      nothing ! $ move ! (3 ∷ 0 ∷ []) $ fjoin ! $ move ! (2 ∷ 0 ∷ []) $ fjoin ! $
-      owned ! N.the_row (Is N.the_row) ((LL.makes N.the_type N'.the_plain) 𝓛) m _ is' $ fjoin ! $
-      owned ! K.the_row (Is K.the_row) ((LL.makes K.the_type K'.the_plain) 𝓛) c _ is $ fjoin ! $ move ! (1 ∷ 0 ∷ []) $ join ! $ frame ! $ done !
-
-  abbrev to-make-room : Check → List ℕ → List Row → ℕ → GName → ℕ → GName → (make-room-to 𝓛 mem run).Ghost
-  to-make-room c xs zs ν δ ν' δ' = (((ν ∷ [], (ν' ∷ [], tt)), (full_share, (full_share, tt)), tt, (c, (at-list b₁ o₁ δ xs, (at-list b₂ o₂ δ' zs, tt))), (K'.lowered c ∷ [], (s₁ xs ∷ [], (s₂ zs ∷ [], tt)))), tt)
-
-  abbrev Making : List ℕ → List Row → ℕ → GName → ℕ → GName → List (ItemMut 𝓤)
-  Making xs zs ν δ ν' δ' =
-      ‵ (flft (ν ∷ []) full_share) ∷ ‵ (flft (ν' ∷ []) full_share) ∷ ‵ ((MutSlice (named 1) (ν ∷ []) u32).own_val (at-list b₁ o₁ δ xs) (s₁ xs ∷ [])) ∷ ‵ ((MutSlice (named 2) (ν' ∷ []) R.the_row).own_val (at-list b₂ o₂ δ' zs) (s₂ zs ∷ [])) ∷ []
-
-  goes-make-room : (c : Check) (xs : List ℕ) (zs : List Row) (ν : ℕ) (δ : GName) (ν' : ℕ) (δ' : GName) → IsCheck c (K'.lowered c)
-      → ent 𝓤 (⋆ 𝓛 (Making xs zs ν δ ν' δ')) ((make-room-to 𝓛 mem run).pre (to-make-room c xs zs ν δ ν' δ'))
-  goes-make-room c xs zs ν δ ν' δ' is =
-      qed 𝓛 (Making xs zs ν δ ν' δ') ∵ nothing ! $ move ! (2 ∷ 0 ∷ []) $ join ! $ move ! (1 ∷ 0 ∷ []) $ join ! $
-      nothing ! $ move ! (3 ∷ 0 ∷ []) $ fjoin ! $ move ! (2 ∷ 0 ∷ []) $ fjoin ! $
-      owned ! K.the_row (Is K.the_row) ((LL.makes K.the_type K'.the_plain) 𝓛) c _ is $ fjoin ! $ move ! (1 ∷ 0 ∷ []) $ join ! $ frame ! $ done !
+      nothing ! $ owned ! usize (Is usize) (uint_Makes 𝓛 w64) i _ (refl, fi) $ fjoin ! $ move ! (3 ∷ 0 ∷ []) $ fjoin ! $ move ! (2 ∷ 0 ∷ []) $ fjoin ! $
+      owned ! N.the_row (Is N.the_row) ((LL.makes N.the_type N'.the_plain) 𝓛) m _ is $ fjoin ! $ move ! (1 ∷ 0 ∷ []) $ join ! $ frame ! $ done !
 
   abbrev to-append : List Row → ℕ → Row → ℕ → GName → (append-to 𝓛 mem run).Ghost
   to-append zs i row ν δ = (((ν ∷ [], tt), (full_share, tt), tt, (at-list b₂ o₂ δ zs, (i, (row, tt))), (s₂ zs ∷ [], (vint w64 i ∷ [], (R'.lowered row ∷ [], tt)))), tt)
@@ -666,23 +652,16 @@ module _ {M : Type 1} {𝓤 : Ura M} (𝓛 : Logic 𝓤) (mem : Memory → SProp
     En = env_of 𝓤 H body.locals ls
 
     -- what holds between the turns: the locals, and the slices; and once the turn is known
-    abbrev Having : Check → List ℕ → List Row → Upon → ℕ → List (Option Val) → List (Item 𝓤)
-    Having c us zs t place vs =
-        laid 𝓤 body.locals ls (none ∷ some s₀ ∷ some (s₁ us) ∷ some (s₂ zs) ∷ some (s₃ t.ms) ∷ some (s₄ t.tr) ∷ some (vint w64 last) ∷ some (vint w64 n) ∷ some (vint w64 used) ∷ some (K'.lowered c) ∷ some (N'.lowered t.m) ∷ some (D'.lowered (at_place x₀ place)) ∷ vs)
-        (Had us zs t.ms t.tr)
-
     abbrev Locals : Upon → ℕ → List (Option Val) → List (Item 𝓤)
-    Locals t place vs = Having t.c t.us t.zs t place vs
+    Locals t place vs =
+        laid 𝓤 body.locals ls (none ∷ some s₀ ∷ some (s₁ t.us) ∷ some (s₂ t.zs) ∷ some (s₃ t.ms) ∷ some (s₄ t.tr) ∷ some (vint w64 last) ∷ some (vint w64 n) ∷ some (vint w64 used) ∷ some (K'.lowered t.c) ∷ some (N'.lowered t.m) ∷ some (D'.lowered (at_place x₀ place)) ∷ vs)
+        (Had t.us t.zs t.ms t.tr)
 
     abbrev At : Upon → List (Item 𝓤)
     At t = Locals t t.place []
 
     abbrev Mid : Upon → List (Item 𝓤)
     Mid t = Locals t t.m.at (some (vint w8 (turn_of t.m.phase)) ∷ [])
-
-    -- where room was made
-    abbrev Roomy : Check → List ℕ → List Row → Upon → List (Item 𝓤)
-    Roomy c us zs t = Having c us zs t t.m.at (some (vint w8 (turn_of t.m.phase)) ∷ [])
 
     abbrev After : Upon → Out → SProp 𝓤
     After t = after_turn 𝓤 H (Below 𝓛 Nearer At t) (after_block 𝓤 H (after_seq 𝓤 H (Wp 𝓤 H C Λ En body.t-5 (at_return 𝓤 H En Post)) (at_return 𝓤 H En Post)))
@@ -691,32 +670,29 @@ module _ {M : Type 1} {𝓤 : Ura M} (𝓛 : Logic 𝓤) (mem : Memory → SProp
     looking : (t : Upon) → turn_of t.m.phase ≡ 0 → Sq 𝓛 (Mid t) (runs C Λ En (held by_turn_lem) (any_q (After t)))
     unfolding after_turn onward
     looking t h =
-        nothing ! $ use1 𝓛 (raw ((first-look-to 𝓛 mem run).pre (to-first-look t.c.tally.places t.m.want))) (goes-first-look t.c.tally.places t.m.want (places_is t.c t.is_c) (want-fits t.m t.is_m)) $
-        calls_to first-look.ended (first-look.clauses 𝓛 mem run) (to-first-look t.c.tally.places t.m.want) (λ r ws. r ≡ first_look t.c.tally.places t.m.want) (λ r ws. id⊢ 𝓤 _) (vint w64) (uint-same w64) ! fm known.first-look (and_then ! (load ! (from ! (fld ! refl (fld ! refl (stop !)))) (look_in ! 91 (sub ! 4 {d = 48} refl (sub ! 1 {d = 8} refl (whole !))))) (and_then ! (part ! 89 {d = 16} refl (sub ! 2 {d = 16} refl (whole !))) (no_more !))) (λ i ws₀ first is-i.
-        drop ! $ drop ! $ land ! (from ! (stop !)) (init ! 82 refl (tt, record { fits = is-i.1 })) $
-        fills ! 70 (addr ! (from ! (fld ! refl (hop ! (look_in ! 102 (sub ! 0 refl (whole !))) (stop !))))) refl (tt, tt) $
-        fills ! 68 (agg ! (and_then ! (var ! 70 refl) (and_then ! (part ! 102 {d = 8} refl (sub ! 1 {d = 8} refl (whole !))) (no_more !)))) refl (tt, (tt, (record { fits = omega (arith, room₂.0, t.long-zs) }, tt))) $
-        move ! (114 ∷ 115 ∷ []) $ shared R.the_row κ₂ q₂ γ₂ b₂ o₂ ! tt (named 2) t.zs (λ ν δ.
-        use2 𝓛 (raw ((find-to 𝓛 mem run).pre (to-find t.zs t.c.tally.used.rows t.m.want i ν δ))) (goes-find t.zs t.c.tally.used.rows t.m.want i ν δ (rows_fit_lem t.c t.is_c) (want-fits t.m t.is_m) is-i.1) $
-        calls_to find.ended (find.clauses 𝓛 mem run) (to-find t.zs t.c.tally.used.rows t.m.want i ν δ) (λ r ws. r ≡ look_up t.zs t.c.tally.used.rows t.m.want i) (λ r ws. id⊢ 𝓤 _) P'.lowered probe-same ! fm known.find (and_then ! (var ! 70 refl) (and_then ! (load ! (from ! (fld ! refl (fld ! refl (fld ! refl (stop !))))) (look_in ! 92 (sub ! 0 {d = 0} refl (sub ! 2 {d = 16} refl (sub ! 1 {d = 8} refl (whole !)))))) (and_then ! (part ! 90 {d = 16} refl (sub ! 2 {d = 16} refl (whole !))) (and_then ! (var ! 84 refl) (no_more !))))) (λ p ws looks is-p. let meets : p ≡ found t.c t.zs t.m.want = looks ∙ ap (look_up t.zs t.c.tally.used.rows t.m.want) first in
+        fills ! 62 (addr ! (from ! (fld ! refl (hop ! (look_in ! 90 (sub ! 0 refl (whole !))) (stop !))))) refl (tt, tt) $
+        fills ! 60 (agg ! (and_then ! (var ! 62 refl) (and_then ! (part ! 90 refl (sub ! 1 refl (whole !))) (no_more !)))) refl (tt, (tt, (record { fits = omega (arith, room₂.0, t.long-zs) }, tt))) $
+        move ! (102 ∷ 103 ∷ []) $ shared R.the_row κ₂ q₂ γ₂ b₂ o₂ ! tt (named 2) t.zs (λ ν δ.
+        use2 𝓛 (raw ((find-to 𝓛 mem run).pre (to-find t.zs t.c.tally.rows t.m.want ν δ))) (goes-find t.zs t.c.tally.rows t.m.want ν δ (rows_fit_lem t.c t.is_c) (want-fits t.m t.is_m)) $
+        calls_to find.ended (find.clauses 𝓛 mem run) (to-find t.zs t.c.tally.rows t.m.want ν δ) (λ r ws. r ≡ look_up t.zs t.c.tally.rows t.m.want) (λ r ws. id⊢ 𝓤 _) P'.lowered probe-same ! fm known.find (and_then ! (var ! 62 refl) (and_then ! (load ! (from ! (fld ! refl (fld ! refl (stop !)))) (look_in ! 80 (sub ! 2 refl (sub ! 1 refl (whole !))))) (and_then ! (part ! 78 refl (sub ! 2 refl (whole !))) (no_more !)))) (λ p ws found is-p.
         use1 𝓛 (‵ (flft (ν ∷ []) full_share) ⊛ ‵ ftrue) (id⊢ 𝓤 _) $ split ! $ move ! (1 ∷ []) $ drop ! $ move ! (1 ∷ []) $ drop ! $
         move ! (0 ∷ 1 ∷ []) $
-        unshared R.the_row κ₂ q₂ γ₂ b₂ o₂ ! tt (named 2) t.zs $ land ! (from ! (stop !)) (init ! 82 refl (probe_typed {𝓛 = 𝓛} p _ is-p)) $
-        fills ! 68 (of_opd ! (var ! 88 refl)) refl (reader_typed 𝓛 κ₀ x₀ room₀ t.m.at (place-fits t.m t.is_m)) $ move ! (112 ∷ 113 ∷ []) $
-        reads-number mem run κ₀ q₀ x₀ ! fm known.read_number t.m.at (place-fits t.m t.is_m) (and_then ! (var ! 70 refl) (no_more !)) (λ num e is-num.
-        land ! (from ! (stop !)) (init ! 82 refl (number_typed 𝓛 num _ is-num)) $
-        fills ! 68 (addr ! (from ! (fld ! refl (hop ! (look_in ! 108 (sub ! 0 refl (whole !))) (stop !))))) refl (tt, tt) $
-        fills ! 66 (agg ! (and_then ! (var ! 68 refl) (and_then ! (part ! 108 {d = 8} refl (sub ! 1 {d = 8} refl (whole !))) (no_more !)))) refl (tt, (tt, (record { fits = omega (arith, room₁.0, t.long-us) }, tt))) $
-        fills ! 64 (addr ! (from ! (fld ! refl (hop ! (look_in ! 104 (sub ! 0 refl (whole !))) (stop !))))) refl (tt, tt) $
-        fills ! 62 (agg ! (and_then ! (var ! 64 refl) (and_then ! (part ! 104 {d = 8} refl (sub ! 1 {d = 8} refl (whole !))) (no_more !)))) refl (tt, (tt, (record { fits = omega (arith, room₃.0, t.long-ms) }, tt))) $
-        fills ! 60 (addr ! (from ! (fld ! refl (hop ! (look_in ! 102 (sub ! 0 refl (whole !))) (stop !))))) refl (tt, tt) $
-        fills ! 58 (agg ! (and_then ! (var ! 60 refl) (and_then ! (part ! 102 {d = 8} refl (sub ! 1 {d = 8} refl (whole !))) (no_more !)))) refl (tt, (tt, (record { fits = omega (arith, room₄.0, t.long-tr) }, tt))) $
-        move ! (114 ∷ 115 ∷ []) $ shared u32 κ₁ q₁ γ₁ b₁ o₁ ! tt (named 1) t.us (λ ν₁ δ₁.
-        move ! (117 ∷ 118 ∷ []) $ lent u8 κ₃ q₃ γ₃ b₃ o₃ ! tt (named 3) t.ms (λ ν₃ δ₃.
-        move ! (120 ∷ 121 ∷ []) $ lent u32 κ₄ q₄ γ₄ b₄ o₄ ! tt (named 4) t.tr (λ ν₄ δ₄.
+        unshared R.the_row κ₂ q₂ γ₂ b₂ o₂ ! tt (named 2) t.zs $ land ! (from ! (stop !)) (init ! 72 refl (probe_typed {𝓛 = 𝓛} p _ is-p)) $
+        fills ! 60 (of_opd ! (var ! 76 refl)) refl (reader_typed 𝓛 κ₀ x₀ room₀ t.m.at (place-fits t.m t.is_m)) $ move ! (100 ∷ 101 ∷ []) $
+        reads-number mem run κ₀ q₀ x₀ ! fm known.read_number t.m.at (place-fits t.m t.is_m) (and_then ! (var ! 62 refl) (no_more !)) (λ num e is-num.
+        land ! (from ! (stop !)) (init ! 72 refl (number_typed 𝓛 num _ is-num)) $
+        fills ! 60 (addr ! (from ! (fld ! refl (hop ! (look_in ! 96 (sub ! 0 refl (whole !))) (stop !))))) refl (tt, tt) $
+        fills ! 58 (agg ! (and_then ! (var ! 60 refl) (and_then ! (part ! 96 refl (sub ! 1 refl (whole !))) (no_more !)))) refl (tt, (tt, (record { fits = omega (arith, room₁.0, t.long-us) }, tt))) $
+        fills ! 56 (addr ! (from ! (fld ! refl (hop ! (look_in ! 92 (sub ! 0 refl (whole !))) (stop !))))) refl (tt, tt) $
+        fills ! 54 (agg ! (and_then ! (var ! 56 refl) (and_then ! (part ! 92 refl (sub ! 1 refl (whole !))) (no_more !)))) refl (tt, (tt, (record { fits = omega (arith, room₃.0, t.long-ms) }, tt))) $
+        fills ! 52 (addr ! (from ! (fld ! refl (hop ! (look_in ! 90 (sub ! 0 refl (whole !))) (stop !))))) refl (tt, tt) $
+        fills ! 50 (agg ! (and_then ! (var ! 52 refl) (and_then ! (part ! 90 refl (sub ! 1 refl (whole !))) (no_more !)))) refl (tt, (tt, (record { fits = omega (arith, room₄.0, t.long-tr) }, tt))) $
+        move ! (102 ∷ 103 ∷ []) $ shared u32 κ₁ q₁ γ₁ b₁ o₁ ! tt (named 1) t.us (λ ν₁ δ₁.
+        move ! (105 ∷ 106 ∷ []) $ lent u8 κ₃ q₃ γ₃ b₃ o₃ ! tt (named 3) t.ms (λ ν₃ δ₃.
+        move ! (108 ∷ 109 ∷ []) $ lent u32 κ₄ q₄ γ₄ b₄ o₄ ! tt (named 4) t.tr (λ ν₄ δ₄.
         move ! (7 ∷ 4 ∷ 1 ∷ 6 ∷ 3 ∷ 0 ∷ []) $
         cut (Lending t.us t.ms t.tr ν₁ δ₁ ν₃ δ₃ ν₄ δ₄) (raw ((advance-to 𝓛 mem run).pre (to-advance t.m p.hit num t.us t.ms t.tr ν₁ δ₁ ν₃ δ₃ ν₄ δ₄)) ∷ []) _ (goes-advance t.m p.hit num t.us t.ms t.tr ν₁ δ₁ ν₃ δ₃ ν₄ δ₄ t.is_m (hit-is p is-p) is-num) $
-        calls_to_last advance.ended (advance.clauses 𝓛 mem run) (to-advance t.m p.hit num t.us t.ms t.tr ν₁ δ₁ ν₃ δ₃ ν₄ δ₄) (λ r ws. Advanced t (said num) p.hit r ws.1.1.1.1.0 ws.1.1.1.1.1.0) (λ r ws. and-said 𝓤 _ _ (both-said 𝓤 _ _)) N'.lowered machine-same ! fm known.advance (and_then ! (var ! 96 refl) (and_then ! (part ! 88 {d = 24} refl (sub ! 3 {d = 24} refl (whole !))) (and_then ! (var ! 86 refl) (and_then ! (var ! 70 refl) (and_then ! (var ! 66 refl) (and_then ! (var ! 62 refl) (no_more !))))))) (λ m ws' moved is_m.
+        calls_to_last advance.ended (advance.clauses 𝓛 mem run) (to-advance t.m p.hit num t.us t.ms t.tr ν₁ δ₁ ν₃ δ₃ ν₄ δ₄) (λ r ws. Advanced t (said num) p.hit r ws.1.1.1.1.0 ws.1.1.1.1.1.0) (λ r ws. and-said 𝓤 _ _ (both-said 𝓤 _ _)) N'.lowered machine-same ! fm known.advance (and_then ! (var ! 84 refl) (and_then ! (part ! 78 refl (sub ! 3 refl (whole !))) (and_then ! (var ! 76 refl) (and_then ! (var ! 62 refl) (and_then ! (var ! 58 refl) (and_then ! (var ! 54 refl) (no_more !))))))) (λ m ws' moved is_m.
         use1 𝓛 (‵ (flft (ν₁ ∷ []) full_share) ⊛ (‵ (flft (ν₃ ∷ []) full_share) ⊛ (‵ (flft (ν₄ ∷ []) full_share) ⊛ ‵ ftrue))) (id⊢ 𝓤 _) $ split ! $ move ! (1 ∷ []) $
         split ! $ move ! (1 ∷ []) $ split ! $ move ! (1 ∷ []) $ drop ! $ move ! (3 ∷ []) $ fsplit ! $ drop ! $ fsplit ! $ drop ! $ fsplit ! $ drop ! $
         fsplit ! $
@@ -725,157 +701,129 @@ module _ {M : Type 1} {𝓤 : Ura M} (𝓛 : Logic 𝓤) (mem : Memory → SProp
         move ! (1 ∷ []) $ drop ! $ move ! (2 ∷ 5 ∷ 0 ∷ []) $ back u32 κ₄ q₄ γ₄ b₄ o₄ ! tt (named 4) t.tr δ₄ ws'.1.1.1.1.1.0 kept-tr $
         move ! (3 ∷ 5 ∷ 2 ∷ []) $ back u8 κ₃ q₃ γ₃ b₃ o₃ ! tt (named 3) t.ms δ₃ ws'.1.1.1.1.0 kept-ms $
         move ! (4 ∷ 5 ∷ []) $ unshared u32 κ₁ q₁ γ₁ b₁ o₁ ! tt (named 1) t.us $
-        land_last ! (from ! (stop !)) (store ! 98 refl (machine_typed 𝓛 m _ is_m)) $
-        forget ! 94 refl $ forget ! 92 refl $ forget ! 90 refl $ forget ! 88 refl $ forget ! 80 refl $ forget ! 78 refl $ forget ! 76 refl $ forget ! 74 refl $ forget ! 72 refl $ forget ! 70 refl $ forget ! 68 refl $ forget ! 66 refl $ forget ! 64 refl $
-        rewrite ! 108 (λ (k : ℕ). ‵ (fat full_share (ty 5) (l ls 5) 0 (slice_val (b₄, o₄) k))) (sym kept-tr) refl $
-        rewrite ! 110 (λ (k : ℕ). ‵ (fat full_share (ty 4) (l ls 4) 0 (slice_val (b₃, o₃) k))) (sym kept-ms) refl $
+        land_last ! (from ! (stop !)) (store ! 86 refl (machine-typed 𝓛 m _ is_m)) $
+        forget ! 82 refl $ forget ! 80 refl $ forget ! 78 refl $ forget ! 72 refl $ forget ! 70 refl $ forget ! 68 refl $ forget ! 66 refl $ forget ! 64 refl $ forget ! 62 refl $ forget ! 60 refl $ forget ! 58 refl $ forget ! 56 refl $
+        rewrite ! 96 (λ (k : ℕ). ‵ (fat full_share (ty 5) (l ls 5) 0 (slice_val (b₄, o₄) k))) (sym kept-tr) refl $
+        rewrite ! 98 (λ (k : ℕ). ‵ (fat full_share (ty 4) (l ls 4) 0 (slice_val (b₃, o₃) k))) (sym kept-ms) refl $
         move ! (7 ∷ 6 ∷ 0 ∷ 1 ∷ 8 ∷ 9 ∷ 2 ∷ 3 ∷ 4 ∷ 5 ∷ []) $
         rotate ! 10 $
-        again ! Nearer At t (onward t t.c m t.zs t.us ws'.1.1.1.1.0 ws'.1.1.1.1.1.0 t.is_c is_m refl refl kept-ms kept-tr (looked t p (said num) h meets e moved)) (falls t t.c m t.zs t.us ws'.1.1.1.1.0 ws'.1.1.1.1.1.0 t.is_c is_m refl refl kept-ms kept-tr (looked t p (said num) h meets e moved))))))))))))
+        again ! Nearer At t (onward t t.c m t.zs t.us ws'.1.1.1.1.0 ws'.1.1.1.1.1.0 t.is_c is_m refl refl kept-ms kept-tr (looked t p (said num) h found e moved)) (falls t t.c m t.zs t.us ws'.1.1.1.1.0 ws'.1.1.1.1.1.0 t.is_c is_m refl refl kept-ms kept-tr (looked t p (said num) h found e moved)))))))))))
 
     -- ids are deleted
     deleting : (t : Upon) → turn_of t.m.phase ≡ 1 → Sq 𝓛 (Mid t) (runs C Λ En (held (past by_turn_lem)) (any_q (After t)))
     unfolding after_turn onward
     deleting t h =
-        fills ! 50 (addr ! (from ! (fld ! refl (hop ! (look_in ! 102 (sub ! 0 refl (whole !))) (stop !))))) refl (tt, tt) $
-        fills ! 48 (agg ! (and_then ! (var ! 50 refl) (and_then ! (part ! 102 {d = 8} refl (sub ! 1 {d = 8} refl (whole !))) (no_more !)))) refl (tt, (tt, (record { fits = omega (arith, room₂.0, t.long-zs) }, tt))) $
-        move ! (114 ∷ 115 ∷ []) $ lent R.the_row κ₂ q₂ γ₂ b₂ o₂ ! tt (named 2) t.zs (λ ν₂ δ₂.
-        move ! (113 ∷ []) $ use1 𝓛 (‵ Proof ⊛ ‵ Proof) ((shr_slice_copy 𝓛 (named 0) κ₀ u8).twice (at-list b₀ o₀ γ₀ ps) (s₀ ∷ [])) $ split ! $
-        move ! (115 ∷ 3 ∷ 0 ∷ 2 ∷ []) $
-        cut (‵ (flft κ₀ q₀) ∷ ‵ (flft (ν₂ ∷ []) full_share) ∷ ‵ Proof ∷ ‵ ((MutSlice (named 2) (ν₂ ∷ []) R.the_row).own_val (at-list b₂ o₂ δ₂ t.zs) (s₂ t.zs ∷ [])) ∷ []) (raw ((delete-ids-to 𝓛 mem run).pre (to-delete-ids t.c t.m t.zs ν₂ δ₂)) ∷ []) _ (goes-delete-ids t.c t.m t.zs ν₂ δ₂ t.is_c t.is_m) $
-        calls_to delete-ids.ended (delete-ids.clauses 𝓛 mem run) (to-delete-ids t.c t.m t.zs ν₂ δ₂) (λ r ws. deletion r.check r.machine ws.1.1.1.0 ≡ ids_deleted ps t.c t.m t.zs) (λ r ws. id⊢ 𝓤 _) G'.lowered deleted-same ! fm known.delete-ids (and_then ! (var ! 93 refl) (and_then ! (var ! 91 refl) (and_then ! (var ! 109 refl) (and_then ! (var ! 51 refl) (no_more !))))) (λ r ws del is-r.
+        fills ! 42 (addr ! (from ! (fld ! refl (hop ! (look_in ! 90 (sub ! 0 refl (whole !))) (stop !))))) refl (tt, tt) $
+        fills ! 40 (agg ! (and_then ! (var ! 42 refl) (and_then ! (part ! 90 refl (sub ! 1 refl (whole !))) (no_more !)))) refl (tt, (tt, (record { fits = omega (arith, room₂.0, t.long-zs) }, tt))) $
+        move ! (102 ∷ 103 ∷ []) $ lent R.the_row κ₂ q₂ γ₂ b₂ o₂ ! tt (named 2) t.zs (λ ν₂ δ₂.
+        move ! (101 ∷ []) $ use1 𝓛 (‵ Proof ⊛ ‵ Proof) ((shr_slice_copy 𝓛 (named 0) κ₀ u8).twice (at-list b₀ o₀ γ₀ ps) (s₀ ∷ [])) $ split ! $
+        move ! (103 ∷ 3 ∷ 0 ∷ 2 ∷ []) $
+        cut (‵ (flft κ₀ q₀) ∷ ‵ (flft (ν₂ ∷ []) full_share) ∷ ‵ Proof ∷ ‵ ((MutSlice (named 2) (ν₂ ∷ []) R.the_row).own_val (at-list b₂ o₂ δ₂ t.zs) (s₂ t.zs ∷ [])) ∷ []) (raw ((delete-ids-to 𝓛 mem run).pre (to-delete-ids t.m t.zs t.c.tally.rows ν₂ δ₂)) ∷ []) _ (goes-delete-ids t.m t.zs t.c.tally.rows ν₂ δ₂ t.is_m (rows_fit_lem t.c t.is_c)) $
+        calls_to_last delete-ids.ended (delete-ids.clauses 𝓛 mem run) (to-delete-ids t.m t.zs t.c.tally.rows ν₂ δ₂) (λ r ws. deletion r ws.1.1.0 ≡ ids_deleted ps t.c.tally.rows t.m t.zs) (λ r ws. id⊢ 𝓤 _) N'.lowered machine-same ! fm known.delete-ids (and_then ! (var ! 79 refl) (and_then ! (var ! 97 refl) (and_then ! (var ! 43 refl) (and_then ! (load ! (from ! (fld ! refl (fld ! refl (stop !)))) (look_in ! 81 (sub ! 2 refl (sub ! 1 refl (whole !))))) (no_more !))))) (λ m ws del is_m.
         use1 𝓛 (‵ (flft κ₀ q₀) ⊛ (‵ (flft (ν₂ ∷ []) full_share) ⊛ ‵ ftrue)) (id⊢ 𝓤 _) $ split ! $ move ! (1 ∷ []) $ split ! $ move ! (1 ∷ []) $
         drop ! $
-        move ! (2 ∷ []) $ fsplit ! $ drop ! $ fsplit ! $ drop ! $ fsplit ! $ drop ! $ fsplit ! $ fsplit ! $ move ! (1 ∷ []) $ feq_l ! (λ kept-zs.
-        move ! (1 ∷ []) $ drop ! $ move ! (1 ∷ 4 ∷ 0 ∷ []) $ back R.the_row κ₂ q₂ γ₂ b₂ o₂ ! tt (named 2) t.zs δ₂ ws.1.1.1.0 kept-zs $
-        land ! (from ! (stop !)) (init ! 80 refl (deleted_typed 𝓛 r _ is-r)) $
-        assigns ! (of_opd ! (part ! 80 {d = 0} refl (sub ! 0 {d = 0} refl (whole !)))) (from ! (stop !)) (store ! 94 refl (check_typed 𝓛 r.check _ (check_is r is-r))) $
-        assigns_last ! (of_opd ! (part ! 80 {d = 128} refl (sub ! 1 {d = 128} refl (whole !)))) (from ! (stop !)) (store ! 92 refl (machine_typed 𝓛 r.machine _ (machine_is r is-r))) $
-        forget ! 88 refl $ forget ! 80 refl $ forget ! 54 refl $ forget ! 52 refl $
-        rewrite ! 106 (λ (k : ℕ). ‵ (fat full_share (ty 3) (l ls 3) 0 (slice_val (b₂, o₂) k))) (sym kept-zs) refl $
-        move ! (3 ∷ 2 ∷ 114 ∷ 115 ∷ 0 ∷ 1 ∷ 116 ∷ 117 ∷ 118 ∷ 119 ∷ []) $ rotate ! 10 $
-        again ! Nearer At t (onward t r.check r.machine ws.1.1.1.0 t.us t.ms t.tr (check_is r is-r) (machine_is r is-r) kept-zs refl refl refl (ids-deleted t h r.check r.machine ws.1.1.1.0 del)) (falls t r.check r.machine ws.1.1.1.0 t.us t.ms t.tr (check_is r is-r) (machine_is r is-r) kept-zs refl refl refl (ids-deleted t h r.check r.machine ws.1.1.1.0 del)))))
+        move ! (2 ∷ []) $ fsplit ! $ drop ! $ fsplit ! $ drop ! $ fsplit ! $ fsplit ! $ move ! (1 ∷ []) $ feq_l ! (λ kept-zs.
+        move ! (1 ∷ []) $ drop ! $ move ! (1 ∷ 4 ∷ 0 ∷ []) $ back R.the_row κ₂ q₂ γ₂ b₂ o₂ ! tt (named 2) t.zs δ₂ ws.1.1.0 kept-zs $
+        land_last ! (from ! (stop !)) (store ! 80 refl (machine-typed 𝓛 m _ is_m)) $ forget ! 76 refl $ forget ! 46 refl $ forget ! 44 refl $
+        rewrite ! 94 (λ (k : ℕ). ‵ (fat full_share (ty 3) (l ls 3) 0 (slice_val (b₂, o₂) k))) (sym kept-zs) refl $
+        move ! (3 ∷ 2 ∷ 102 ∷ 103 ∷ 0 ∷ 1 ∷ 104 ∷ 105 ∷ 106 ∷ 107 ∷ []) $ rotate ! 10 $
+        again ! Nearer At t (onward t t.c m ws.1.1.0 t.us t.ms t.tr t.is_c is_m kept-zs refl refl refl (ids-deleted t h m ws.1.1.0 del)) (falls t t.c m ws.1.1.0 t.us t.ms t.tr t.is_c is_m kept-zs refl refl refl (ids-deleted t h m ws.1.1.0 del)))))
 
-    -- one is kept, where there is room
-    kept_in_lem : (t : Upon) → turn_of t.m.phase ≡ 2 → (c₁ : Check) (zs₁ : List Row) (us₁ : List ℕ) → IsCheck c₁ (K'.lowered c₁) → RoomMade t c₁ zs₁ us₁ → length zs₁ ≡ length t.zs → length us₁ ≡ length t.us
-        → Sq 𝓛 (Roomy c₁ us₁ zs₁ t) (runs C Λ En (rest (rest (rest (rest (rest (held (past (past by_turn_lem)))))))) (any_q (After t)))
+    -- one is kept
+    keeping : (t : Upon) → turn_of t.m.phase ≡ 2 → Sq 𝓛 (Mid t) (runs C Λ En (held (past (past by_turn_lem))) (any_q (After t)))
     unfolding after_turn onward
-    kept_in_lem t h c₁ zs₁ us₁ is-c₁ room long-zs₁ long-us₁ =
-        fills ! 34 (addr ! (from ! (fld ! refl (hop ! (look_in ! 102 (sub ! 0 refl (whole !))) (stop !))))) refl (tt, tt) $
-        fills ! 32 (agg ! (and_then ! (var ! 34 refl) (and_then ! (part ! 102 {d = 8} refl (sub ! 1 {d = 8} refl (whole !))) (no_more !)))) refl (tt, (tt, (record { fits = omega (arith, room₂.0, t.long-zs, long-zs₁) }, tt))) $
-        nothing ! $ use1 𝓛 (raw ((row-of-to 𝓛 mem run).pre (to-row-of c₁))) (goes-row-of c₁ is-c₁) $
-        calls_to row-of.ended (row-of.clauses 𝓛 mem run) (to-row-of c₁) (λ r ws. r ≡ row_of c₁) (λ r ws. id⊢ 𝓤 _) R'.lowered row_same ! fm known.row-of (and_then ! (var ! 91 refl) (no_more !)) (λ row ws e is_row.
-        drop ! $ drop ! $ land ! (from ! (stop !)) (init ! 30 refl (row_typed {𝓛 = 𝓛} row _ is_row)) $ move ! (114 ∷ 115 ∷ []) $
-        lent R.the_row κ₂ q₂ γ₂ b₂ o₂ ! tt (named 2) zs₁ (λ ν₂ δ₂.
-        use2 𝓛 (raw ((append-to 𝓛 mem run).pre (to-append zs₁ c₁.tally.used.rows row ν₂ δ₂))) (goes-append zs₁ c₁.tally.used.rows row ν₂ δ₂ (rows_fit_lem c₁ is-c₁) is_row) $
-        calls_to append.ended (append.clauses 𝓛 mem run) (to-append zs₁ c₁.tally.used.rows row ν₂ δ₂) (λ r ws. ws.0 ≡ set zs₁ c₁.tally.used.rows row) (λ r ws. id⊢ 𝓤 _) (λ _. vunit) unit-same ! fm known.append (and_then ! (var ! 34 refl) (and_then ! (load ! (from ! (fld ! refl (fld ! refl (fld ! refl (stop !))))) (look_in ! 92 (sub ! 0 {d = 0} refl (sub ! 2 {d = 16} refl (sub ! 1 {d = 8} refl (whole !)))))) (and_then ! (var ! 32 refl) (no_more !)))) (λ r ws' put is-r.
+    keeping t h =
+        fills ! 34 (addr ! (from ! (fld ! refl (hop ! (look_in ! 90 (sub ! 0 refl (whole !))) (stop !))))) refl (tt, tt) $
+        fills ! 32 (agg ! (and_then ! (var ! 34 refl) (and_then ! (part ! 90 refl (sub ! 1 refl (whole !))) (no_more !)))) refl (tt, (tt, (record { fits = omega (arith, room₂.0, t.long-zs) }, tt))) $
+        nothing ! $ use1 𝓛 (raw ((row-of-to 𝓛 mem run).pre (to-row-of t.c))) (goes-row-of t.c t.is_c) $
+        calls_to row-of.ended (row-of.clauses 𝓛 mem run) (to-row-of t.c) (λ r ws. r ≡ row_of t.c) (λ r ws. id⊢ 𝓤 _) R'.lowered row_same ! fm known.row-of (and_then ! (var ! 79 refl) (no_more !)) (λ row ws e is_row.
+        drop ! $ drop ! $ land ! (from ! (stop !)) (init ! 30 refl (row_typed {𝓛 = 𝓛} row _ is_row)) $ move ! (102 ∷ 103 ∷ []) $
+        lent R.the_row κ₂ q₂ γ₂ b₂ o₂ ! tt (named 2) t.zs (λ ν₂ δ₂.
+        use2 𝓛 (raw ((append-to 𝓛 mem run).pre (to-append t.zs t.c.tally.rows row ν₂ δ₂))) (goes-append t.zs t.c.tally.rows row ν₂ δ₂ (rows_fit_lem t.c t.is_c) is_row) $
+        calls_to append.ended (append.clauses 𝓛 mem run) (to-append t.zs t.c.tally.rows row ν₂ δ₂) (λ r ws. ws.0 ≡ set t.zs t.c.tally.rows row) (λ r ws. id⊢ 𝓤 _) (λ _. vunit) unit-same ! fm known.append (and_then ! (var ! 34 refl) (and_then ! (load ! (from ! (fld ! refl (fld ! refl (stop !)))) (look_in ! 80 (sub ! 2 refl (sub ! 1 refl (whole !))))) (and_then ! (var ! 32 refl) (no_more !)))) (λ r ws' put is-r.
         use1 𝓛 (‵ (flft (ν₂ ∷ []) full_share) ⊛ ‵ ftrue) (id⊢ 𝓤 _) $ split ! $ move ! (1 ∷ []) $ drop ! $ move ! (1 ∷ []) $ fsplit ! $ fsplit ! $
         move ! (1 ∷ []) $ feq_l ! (λ kept-zs.
-        move ! (1 ∷ []) $ drop ! $ move ! (1 ∷ 2 ∷ 0 ∷ []) $ back R.the_row κ₂ q₂ γ₂ b₂ o₂ ! tt (named 2) zs₁ δ₂ ws'.0 kept-zs $
+        move ! (1 ∷ []) $ drop ! $ move ! (1 ∷ 2 ∷ 0 ∷ []) $ back R.the_row κ₂ q₂ γ₂ b₂ o₂ ! tt (named 2) t.zs δ₂ ws'.0 kept-zs $
         land ! (from ! (stop !)) (init ! 38 refl (tt, tt)) $
-        fills ! 30 (addr ! (from ! (fld ! refl (hop ! (look_in ! 106 (sub ! 0 refl (whole !))) (stop !))))) refl (tt, tt) $
-        fills ! 28 (agg ! (and_then ! (var ! 30 refl) (and_then ! (part ! 106 {d = 8} refl (sub ! 1 {d = 8} refl (whole !))) (no_more !)))) refl (tt, (tt, (record { fits = omega (arith, room₁.0, t.long-us, long-us₁) }, tt))) $
-        move ! (114 ∷ 115 ∷ []) $ lent u32 κ₁ q₁ γ₁ b₁ o₁ ! tt (named 1) us₁ (λ ν₁ δ₁.
-        move ! (115 ∷ []) $ use1 𝓛 (‵ Proof ⊛ ‵ Proof) ((shr_slice_copy 𝓛 (named 0) κ₀ u8).twice (at-list b₀ o₀ γ₀ ps) (s₀ ∷ [])) $ split ! $
-        move ! (117 ∷ 3 ∷ 0 ∷ 2 ∷ []) $
-        cut (‵ (flft κ₀ q₀) ∷ ‵ (flft (ν₁ ∷ []) full_share) ∷ ‵ Proof ∷ ‵ ((MutSlice (named 1) (ν₁ ∷ []) u32).own_val (at-list b₁ o₁ δ₁ us₁) (s₁ us₁ ∷ [])) ∷ []) (raw ((keep-to 𝓛 mem run).pre (to-keep c₁ us₁ ν₁ δ₁)) ∷ []) _ (goes-keep c₁ us₁ ν₁ δ₁ is-c₁) $
-        calls_to keep.ended (keep.clauses 𝓛 mem run) (to-keep c₁ us₁ ν₁ δ₁) (λ r ws. Kept t c₁ zs₁ us₁ r ws.1.1.0) (λ r ws. both-said 𝓤 _ _) K'.lowered check-same ! fm known.keep (and_then ! (var ! 95 refl) (and_then ! (var ! 111 refl) (and_then ! (var ! 31 refl) (no_more !)))) (λ c ws'' k is_c.
+        fills ! 30 (addr ! (from ! (fld ! refl (hop ! (look_in ! 94 (sub ! 0 refl (whole !))) (stop !))))) refl (tt, tt) $
+        fills ! 28 (agg ! (and_then ! (var ! 30 refl) (and_then ! (part ! 94 refl (sub ! 1 refl (whole !))) (no_more !)))) refl (tt, (tt, (record { fits = omega (arith, room₁.0, t.long-us) }, tt))) $
+        move ! (102 ∷ 103 ∷ []) $ lent u32 κ₁ q₁ γ₁ b₁ o₁ ! tt (named 1) t.us (λ ν₁ δ₁.
+        move ! (103 ∷ []) $ use1 𝓛 (‵ Proof ⊛ ‵ Proof) ((shr_slice_copy 𝓛 (named 0) κ₀ u8).twice (at-list b₀ o₀ γ₀ ps) (s₀ ∷ [])) $ split ! $
+        move ! (105 ∷ 3 ∷ 0 ∷ 2 ∷ []) $
+        cut (‵ (flft κ₀ q₀) ∷ ‵ (flft (ν₁ ∷ []) full_share) ∷ ‵ Proof ∷ ‵ ((MutSlice (named 1) (ν₁ ∷ []) u32).own_val (at-list b₁ o₁ δ₁ t.us) (s₁ t.us ∷ [])) ∷ []) (raw ((keep-to 𝓛 mem run).pre (to-keep t.c t.us ν₁ δ₁)) ∷ []) _ (goes-keep t.c t.us ν₁ δ₁ t.is_c) $
+        calls_to keep.ended (keep.clauses 𝓛 mem run) (to-keep t.c t.us ν₁ δ₁) (λ r ws. (r ≡ kept_as t.c) × (ws.1.1.0 ≡ copied_at ps t.c.clause.literals t.us t.c.tally.words)) (λ r ws. both-said 𝓤 _ _) K'.lowered check-same ! fm known.keep (and_then ! (var ! 83 refl) (and_then ! (var ! 99 refl) (and_then ! (var ! 31 refl) (no_more !)))) (λ c ws'' k is_c.
         use1 𝓛 (‵ (flft κ₀ q₀) ⊛ (‵ (flft (ν₁ ∷ []) full_share) ⊛ ‵ ftrue)) (id⊢ 𝓤 _) $ split ! $ move ! (1 ∷ []) $ split ! $ move ! (1 ∷ []) $
         drop ! $
         move ! (2 ∷ []) $ fsplit ! $ drop ! $ fsplit ! $ drop ! $ fsplit ! $ fsplit ! $ move ! (1 ∷ []) $ feq_l ! (λ kept-us.
-        move ! (1 ∷ []) $ drop ! $ move ! (1 ∷ 4 ∷ 0 ∷ []) $ back u32 κ₁ q₁ γ₁ b₁ o₁ ! tt (named 1) us₁ δ₁ ws''.1.1.0 kept-us $
-        land ! (from ! (stop !)) (store ! 96 refl (check_typed 𝓛 c _ is_c)) $
-        rewrite ! 110 (λ (k : ℕ). ‵ (fat full_share (ty 2) (l ls 2) 0 (slice_val (b₁, o₁) k))) (sym kept-us) refl $
-        fills ! 30 (addr ! (from ! (fld ! refl (hop ! (look_in ! 110 (sub ! 0 refl (whole !))) (stop !))))) refl (tt, tt) $
-        fills ! 28 (agg ! (and_then ! (var ! 30 refl) (and_then ! (part ! 110 {d = 8} refl (sub ! 1 {d = 8} refl (whole !))) (no_more !)))) refl (tt, (tt, (record { fits = omega (arith, room₁.0, t.long-us, long-us₁, kept-us) }, tt))) $
-        fills ! 26 (addr ! (from ! (fld ! refl (hop ! (look_in ! 106 (sub ! 0 refl (whole !))) (stop !))))) refl (tt, tt) $
-        fills ! 24 (agg ! (and_then ! (var ! 26 refl) (and_then ! (part ! 106 {d = 8} refl (sub ! 1 {d = 8} refl (whole !))) (no_more !)))) refl (tt, (tt, (record { fits = omega (arith, room₃.0, t.long-ms) }, tt))) $
-        fills ! 22 (addr ! (from ! (fld ! refl (hop ! (look_in ! 104 (sub ! 0 refl (whole !))) (stop !))))) refl (tt, tt) $
-        fills ! 20 (agg ! (and_then ! (var ! 22 refl) (and_then ! (part ! 104 {d = 8} refl (sub ! 1 {d = 8} refl (whole !))) (no_more !)))) refl (tt, (tt, (record { fits = omega (arith, room₄.0, t.long-tr) }, tt))) $
+        move ! (1 ∷ []) $ drop ! $ move ! (1 ∷ 4 ∷ 0 ∷ []) $ back u32 κ₁ q₁ γ₁ b₁ o₁ ! tt (named 1) t.us δ₁ ws''.1.1.0 kept-us $
+        land ! (from ! (stop !)) (store ! 84 refl (check-typed 𝓛 c _ is_c)) $
+        rewrite ! 98 (λ (k : ℕ). ‵ (fat full_share (ty 2) (l ls 2) 0 (slice_val (b₁, o₁) k))) (sym kept-us) refl $
+        fills ! 30 (addr ! (from ! (fld ! refl (hop ! (look_in ! 98 (sub ! 0 refl (whole !))) (stop !))))) refl (tt, tt) $
+        fills ! 28 (agg ! (and_then ! (var ! 30 refl) (and_then ! (part ! 98 refl (sub ! 1 refl (whole !))) (no_more !)))) refl (tt, (tt, (record { fits = omega (arith, room₁.0, t.long-us, kept-us) }, tt))) $
+        fills ! 26 (addr ! (from ! (fld ! refl (hop ! (look_in ! 94 (sub ! 0 refl (whole !))) (stop !))))) refl (tt, tt) $
+        fills ! 24 (agg ! (and_then ! (var ! 26 refl) (and_then ! (part ! 94 refl (sub ! 1 refl (whole !))) (no_more !)))) refl (tt, (tt, (record { fits = omega (arith, room₃.0, t.long-ms) }, tt))) $
+        fills ! 22 (addr ! (from ! (fld ! refl (hop ! (look_in ! 92 (sub ! 0 refl (whole !))) (stop !))))) refl (tt, tt) $
+        fills ! 20 (agg ! (and_then ! (var ! 22 refl) (and_then ! (part ! 92 refl (sub ! 1 refl (whole !))) (no_more !)))) refl (tt, (tt, (record { fits = omega (arith, room₄.0, t.long-tr) }, tt))) $
         shared u32 κ₁ q₁ γ₁ b₁ o₁ ! tt (named 1) ws''.1.1.0 (λ ν₅ δ₅.
-        move ! (117 ∷ 118 ∷ []) $ lent u8 κ₃ q₃ γ₃ b₃ o₃ ! tt (named 3) t.ms (λ ν₃ δ₃.
-        move ! (120 ∷ 121 ∷ []) $ shared u32 κ₄ q₄ γ₄ b₄ o₄ ! tt (named 4) t.tr (λ ν₄ δ₄.
+        move ! (105 ∷ 106 ∷ []) $ lent u8 κ₃ q₃ γ₃ b₃ o₃ ! tt (named 3) t.ms (λ ν₃ δ₃.
+        move ! (108 ∷ 109 ∷ []) $ shared u32 κ₄ q₄ γ₄ b₄ o₄ ! tt (named 4) t.tr (λ ν₄ δ₄.
         move ! (7 ∷ 4 ∷ 1 ∷ 6 ∷ 3 ∷ 0 ∷ []) $
         cut (Unwinding ws''.1.1.0 t.ms t.tr ν₅ δ₅ ν₃ δ₃ ν₄ δ₄) (raw ((unwind-to 𝓛 mem run).pre (to-unwind c t.m ws''.1.1.0 t.ms t.tr ν₅ δ₅ ν₃ δ₃ ν₄ δ₄)) ∷ []) _ (goes-unwind c t.m ws''.1.1.0 t.ms t.tr ν₅ δ₅ ν₃ δ₃ ν₄ δ₄ is_c t.is_m) $
-        calls_to_last unwind.ended (unwind.clauses 𝓛 mem run) (to-unwind c t.m ws''.1.1.0 t.ms t.tr ν₅ δ₅ ν₃ δ₃ ν₄ δ₄) (λ r ws. Unwound t c ws''.1.1.0 r ws.1.1.1.0) (λ r ws. both-said 𝓤 _ _) N'.lowered machine-same ! fm known.unwind (and_then ! (var ! 98 refl) (and_then ! (var ! 96 refl) (and_then ! (var ! 30 refl) (and_then ! (var ! 26 refl) (and_then ! (var ! 22 refl) (no_more !)))))) (λ m ws''' unw is_m.
+        calls_to_last unwind.ended (unwind.clauses 𝓛 mem run) (to-unwind c t.m ws''.1.1.0 t.ms t.tr ν₅ δ₅ ν₃ δ₃ ν₄ δ₄) (λ r ws. Unwound t c ws''.1.1.0 r ws.1.1.1.0) (λ r ws. both-said 𝓤 _ _) N'.lowered machine-same ! fm known.unwind (and_then ! (var ! 86 refl) (and_then ! (var ! 84 refl) (and_then ! (var ! 30 refl) (and_then ! (var ! 26 refl) (and_then ! (var ! 22 refl) (no_more !)))))) (λ m ws''' unw is_m.
         use1 𝓛 (‵ (flft (ν₅ ∷ []) full_share) ⊛ (‵ (flft (ν₃ ∷ []) full_share) ⊛ (‵ (flft (ν₄ ∷ []) full_share) ⊛ ‵ ftrue))) (id⊢ 𝓤 _) $ split ! $ move ! (1 ∷ []) $ split ! $ move ! (1 ∷ []) $
         split ! $ move ! (1 ∷ []) $ drop ! $
         move ! (3 ∷ []) $ fsplit ! $ drop ! $ fsplit ! $ drop ! $ fsplit ! $ drop ! $ fsplit ! $ fsplit ! $ move ! (1 ∷ []) $ feq_l ! (λ kept-ms.
         move ! (1 ∷ []) $ drop ! $ move ! (2 ∷ 5 ∷ 0 ∷ []) $ back u8 κ₃ q₃ γ₃ b₃ o₃ ! tt (named 3) t.ms δ₃ ws'''.1.1.1.0 kept-ms $
         move ! (2 ∷ 4 ∷ []) $ unshared u32 κ₄ q₄ γ₄ b₄ o₄ ! tt (named 4) t.tr $
         move ! (4 ∷ 5 ∷ []) $ unshared u32 κ₁ q₁ γ₁ b₁ o₁ ! tt (named 1) ws''.1.1.0 $
-        land_last ! (from ! (stop !)) (store ! 98 refl (machine_typed 𝓛 m _ is_m)) $
-        forget ! 94 refl $ forget ! 46 refl $ forget ! 44 refl $ forget ! 42 refl $ forget ! 40 refl $ forget ! 38 refl $ forget ! 36 refl $
+        land_last ! (from ! (stop !)) (store ! 86 refl (machine-typed 𝓛 m _ is_m)) $
+        forget ! 82 refl $ forget ! 46 refl $ forget ! 44 refl $ forget ! 42 refl $ forget ! 40 refl $ forget ! 38 refl $ forget ! 36 refl $
         forget ! 34 refl $ forget ! 32 refl $ forget ! 30 refl $ forget ! 28 refl $ forget ! 26 refl $ forget ! 24 refl $
-        rewrite ! 110 (λ (k : ℕ). ‵ (fat full_share (ty 4) (l ls 4) 0 (slice_val (b₃, o₃) k))) (sym kept-ms) refl $
-        rewrite ! 112 (λ (k : ℕ). ‵ (fat full_share (ty 3) (l ls 3) 0 (slice_val (b₂, o₂) k))) (sym kept-zs) refl $
+        rewrite ! 98 (λ (k : ℕ). ‵ (fat full_share (ty 4) (l ls 4) 0 (slice_val (b₃, o₃) k))) (sym kept-ms) refl $
+        rewrite ! 100 (λ (k : ℕ). ‵ (fat full_share (ty 3) (l ls 3) 0 (slice_val (b₂, o₂) k))) (sym kept-zs) refl $
         move ! (7 ∷ 6 ∷ 0 ∷ 1 ∷ 8 ∷ 9 ∷ 4 ∷ 5 ∷ 2 ∷ 3 ∷ []) $ rotate ! 10 $
-        again ! Nearer At t (onward t c m ws'.0 ws''.1.1.0 ws'''.1.1.1.0 t.tr is_c is_m (kept-zs ∙ long-zs₁) (kept-us ∙ long-us₁) kept-ms refl (kept t c₁ zs₁ us₁ h room row e ws'.0 put k unw)) (falls t c m ws'.0 ws''.1.1.0 ws'''.1.1.1.0 t.tr is_c is_m (kept-zs ∙ long-zs₁) (kept-us ∙ long-us₁) kept-ms refl (kept t c₁ zs₁ us₁ h room row e ws'.0 put k unw))))))))))))))
-
-    -- one is kept
-    keeping : (t : Upon) → turn_of t.m.phase ≡ 2 → Sq 𝓛 (Mid t) (runs C Λ En (held (past (past by_turn_lem))) (any_q (After t)))
-    keeping t h =
-        fills ! 44 (addr ! (from ! (fld ! refl (hop ! (look_in ! 104 (sub ! 0 refl (whole !))) (stop !))))) refl (tt, tt) $
-        fills ! 42 (agg ! (and_then ! (var ! 44 refl) (and_then ! (part ! 104 {d = 8} refl (sub ! 1 {d = 8} refl (whole !))) (no_more !)))) refl (tt, (tt, (record { fits = omega (arith, room₁.0, t.long-us) }, tt))) $
-        fills ! 40 (addr ! (from ! (fld ! refl (hop ! (look_in ! 102 (sub ! 0 refl (whole !))) (stop !))))) refl (tt, tt) $
-        fills ! 38 (agg ! (and_then ! (var ! 40 refl) (and_then ! (part ! 102 {d = 8} refl (sub ! 1 {d = 8} refl (whole !))) (no_more !)))) refl (tt, (tt, (record { fits = omega (arith, room₂.0, t.long-zs) }, tt))) $
-        move ! (112 ∷ 113 ∷ []) $ lent u32 κ₁ q₁ γ₁ b₁ o₁ ! tt (named 1) t.us (λ ν₁ δ₁.
-        move ! (115 ∷ 116 ∷ []) $ lent R.the_row κ₂ q₂ γ₂ b₂ o₂ ! tt (named 2) t.zs (λ ν₂ δ₂.
-        move ! (4 ∷ 1 ∷ 3 ∷ 0 ∷ []) $
-        cut (Making t.us t.zs ν₁ δ₁ ν₂ δ₂) (raw ((make-room-to 𝓛 mem run).pre (to-make-room t.c t.us t.zs ν₁ δ₁ ν₂ δ₂)) ∷ []) _ (goes-make-room t.c t.us t.zs ν₁ δ₁ ν₂ δ₂ t.is_c) $
-        calls_to make-room.ended (make-room.clauses 𝓛 mem run) (to-make-room t.c t.us t.zs ν₁ δ₁ ν₂ δ₂) (λ r ws. RoomMade t r ws.1.1.0 ws.1.0) (λ r ws. id⊢ 𝓤 _) K'.lowered check-same ! fm known.make-room (and_then ! (var ! 93 refl) (and_then ! (var ! 45 refl) (and_then ! (var ! 41 refl) (no_more !)))) (λ c₁ ws room is-c₁.
-        use1 𝓛 (‵ (flft (ν₁ ∷ []) full_share) ⊛ (‵ (flft (ν₂ ∷ []) full_share) ⊛ ‵ ftrue)) (id⊢ 𝓤 _) $ split ! $ move ! (1 ∷ []) $ split ! $ move ! (1 ∷ []) $
-        drop ! $ move ! (2 ∷ []) $ fsplit ! $ drop ! $ fsplit ! $ fsplit ! $ move ! (1 ∷ []) $ feq_l ! (λ kept-us.
-        move ! (1 ∷ []) $ fsplit ! $ fsplit ! $ move ! (1 ∷ []) $ feq_l ! (λ kept-zs.
-        move ! (1 ∷ []) $ drop ! $ move ! (2 ∷ 4 ∷ 0 ∷ []) $ back R.the_row κ₂ q₂ γ₂ b₂ o₂ ! tt (named 2) t.zs δ₂ ws.1.1.0 kept-zs $
-        move ! (3 ∷ 4 ∷ 2 ∷ []) $ back u32 κ₁ q₁ γ₁ b₁ o₁ ! tt (named 1) t.us δ₁ ws.1.0 kept-us $
-        land ! (from ! (stop !)) (store ! 94 refl (check_typed 𝓛 c₁ _ is-c₁)) $
-        forget ! 48 refl $ forget ! 46 refl $ forget ! 44 refl $ forget ! 42 refl $
-        rewrite ! 108 (λ (k : ℕ). ‵ (fat full_share (ty 2) (l ls 2) 0 (slice_val (b₁, o₁) k))) (sym kept-us) refl $
-        rewrite ! 106 (λ (k : ℕ). ‵ (fat full_share (ty 3) (l ls 3) 0 (slice_val (b₂, o₂) k))) (sym kept-zs) refl $
-        move ! (114 ∷ 115 ∷ 0 ∷ 1 ∷ 2 ∷ 3 ∷ 116 ∷ 117 ∷ 118 ∷ 119 ∷ []) $ rotate ! 10 $
-        kept_in_lem t h c₁ ws.1.1.0 ws.1.0 is-c₁ room kept-zs kept-us)))))
+        again ! Nearer At t (onward t c m ws'.0 ws''.1.1.0 ws'''.1.1.1.0 t.tr is_c is_m kept-zs kept-us kept-ms refl (kept t h row e ws'.0 put k unw)) (falls t c m ws'.0 ws''.1.1.0 ws'''.1.1.1.0 t.tr is_c is_m kept-zs kept-us kept-ms refl (kept t h row e ws'.0 put k unw))))))))))))))
 
     -- one is judged
     judging : (t : Upon) → turn_of t.m.phase ≡ 3 → Sq 𝓛 (Mid t) (runs C Λ En (held (past (past (past by_turn_lem)))) (any_q (After t)))
     unfolding after_turn onward
     judging t h =
-        fills ! 10 (of_opd ! (part ! 106 {d = 8} refl (sub ! 1 {d = 8} refl (whole !)))) refl (tt, record { fits = room₀.0 }) $
-        fills ! 8 (of_opd ! (part ! 104 {d = 8} refl (sub ! 1 {d = 8} refl (whole !)))) refl (tt, record { fits = omega (arith, room₁.0, t.long-us) }) $
-        fills ! 6 (of_opd ! (part ! 102 {d = 8} refl (sub ! 1 {d = 8} refl (whole !)))) refl (tt, record { fits = omega (arith, room₂.0, t.long-zs) }) $
+        fills ! 10 (of_opd ! (part ! 94 refl (sub ! 1 refl (whole !)))) refl (tt, record { fits = room₀.0 }) $
+        fills ! 8 (of_opd ! (part ! 92 refl (sub ! 1 refl (whole !)))) refl (tt, record { fits = omega (arith, room₁.0, t.long-us) }) $
+        fills ! 6 (of_opd ! (part ! 90 refl (sub ! 1 refl (whole !)))) refl (tt, record { fits = omega (arith, room₂.0, t.long-zs) }) $
         nothing ! $ use1 𝓛 (raw ((judge-to 𝓛 mem run).pre (to-judge t.c t.m.at (length t.us) (length t.zs)))) (goes-judge t.c t.m.at (length t.us) (length t.zs) t.is_c (place-fits t.m t.is_m) room₀.0 (omega (arith, room₁.0, t.long-us)) (omega (arith, room₂.0, t.long-zs))) $
-        calls_to judge.ended (judge.clauses 𝓛 mem run) (to-judge t.c t.m.at (length t.us) (length t.zs)) (λ r ws. r ≡ judged t.c t.m.at (length ps) (length t.us) (length t.zs)) (λ r ws. id⊢ 𝓤 _) K'.lowered check-same ! fm known.judge (and_then ! (var ! 91 refl) (and_then ! (part ! 89 {d = 8} refl (sub ! 1 {d = 8} refl (whole !))) (and_then ! (var ! 11 refl) (and_then ! (var ! 9 refl) (and_then ! (var ! 7 refl) (no_more !)))))) (λ c ws e is_c.
-        drop ! $ drop ! $ land ! (from ! (stop !)) (store ! 90 refl (check_typed 𝓛 c _ is_c)) $
+        calls_to judge.ended (judge.clauses 𝓛 mem run) (to-judge t.c t.m.at (length t.us) (length t.zs)) (λ r ws. r ≡ judged t.c t.m.at (length ps) (length t.us) (length t.zs)) (λ r ws. id⊢ 𝓤 _) K'.lowered check-same ! fm known.judge (and_then ! (var ! 79 refl) (and_then ! (part ! 77 refl (sub ! 1 refl (whole !))) (and_then ! (var ! 11 refl) (and_then ! (var ! 9 refl) (and_then ! (var ! 7 refl) (no_more !)))))) (λ c ws e is_c.
+        drop ! $ drop ! $ land ! (from ! (stop !)) (store ! 78 refl (check-typed 𝓛 c _ is_c)) $
         nothing ! $ use1 𝓛 (raw ((proceed-to 𝓛 mem run).pre (to-proceed c t.m))) (goes-proceed c t.m is_c t.is_m) $
-        calls_to_last proceed.ended (proceed.clauses 𝓛 mem run) (to-proceed c t.m) (λ r ws. r ≡ proceeded c t.m) (λ r ws. id⊢ 𝓤 _) N'.lowered machine-same ! fm known.proceed (and_then ! (var ! 91 refl) (and_then ! (var ! 89 refl) (no_more !))) (λ m ws''' begins is_m.
-        drop ! $ drop ! $ land_last ! (from ! (stop !)) (store ! 88 refl (machine_typed 𝓛 m _ is_m)) $
-        forget ! 84 refl $ forget ! 10 refl $ forget ! 8 refl $ forget ! 6 refl $
+        calls_to_last proceed.ended (proceed.clauses 𝓛 mem run) (to-proceed c t.m) (λ r ws. r ≡ proceeded c t.m) (λ r ws. id⊢ 𝓤 _) N'.lowered machine-same ! fm known.proceed (and_then ! (var ! 79 refl) (and_then ! (var ! 77 refl) (no_more !))) (λ m ws''' begins is_m.
+        drop ! $ drop ! $ land_last ! (from ! (stop !)) (store ! 76 refl (machine-typed 𝓛 m _ is_m)) $
+        forget ! 72 refl $ forget ! 10 refl $ forget ! 8 refl $ forget ! 6 refl $
         again ! Nearer At t (onward t c m t.zs t.us t.ms t.tr is_c is_m refl refl refl refl (judged-on t h e begins)) (falls t c m t.zs t.us t.ms t.tr is_c is_m refl refl refl refl (judged-on t h e begins))))
 
     -- a step is read
     reading : (t : Upon) → turn_of t.m.phase ≡ 4 → Sq 𝓛 (Mid t) (runs C Λ En (held (past (past (past (past by_turn_lem))))) (any_q (After t)))
     unfolding after_turn onward
     reading t h =
-        fills ! 2 (addr ! (from ! (fld ! refl (hop ! (look_in ! 100 (sub ! 0 refl (whole !))) (stop !))))) refl (tt, tt) $
-        fills ! 0 (agg ! (and_then ! (var ! 2 refl) (and_then ! (part ! 100 {d = 8} refl (sub ! 1 {d = 8} refl (whole !))) (no_more !)))) refl (tt, (tt, (record { fits = omega (arith, room₃.0, t.long-ms) }, tt))) $
-        move ! (116 ∷ 117 ∷ []) $ lent u8 κ₃ q₃ γ₃ b₃ o₃ ! tt (named 3) t.ms (λ ν₃ δ₃.
-        move ! (113 ∷ []) $ use1 𝓛 (‵ Proof ⊛ ‵ Proof) ((shr_slice_copy 𝓛 (named 0) κ₀ u8).twice (at-list b₀ o₀ γ₀ ps) (s₀ ∷ [])) $ split ! $
-        move ! (115 ∷ 3 ∷ 0 ∷ 2 ∷ []) $
+        fills ! 2 (addr ! (from ! (fld ! refl (hop ! (look_in ! 88 (sub ! 0 refl (whole !))) (stop !))))) refl (tt, tt) $
+        fills ! 0 (agg ! (and_then ! (var ! 2 refl) (and_then ! (part ! 88 refl (sub ! 1 refl (whole !))) (no_more !)))) refl (tt, (tt, (record { fits = omega (arith, room₃.0, t.long-ms) }, tt))) $
+        move ! (104 ∷ 105 ∷ []) $ lent u8 κ₃ q₃ γ₃ b₃ o₃ ! tt (named 3) t.ms (λ ν₃ δ₃.
+        move ! (101 ∷ []) $ use1 𝓛 (‵ Proof ⊛ ‵ Proof) ((shr_slice_copy 𝓛 (named 0) κ₀ u8).twice (at-list b₀ o₀ γ₀ ps) (s₀ ∷ [])) $ split ! $
+        move ! (103 ∷ 3 ∷ 0 ∷ 2 ∷ []) $
         cut (‵ (flft κ₀ q₀) ∷ ‵ (flft (ν₃ ∷ []) full_share) ∷ ‵ Proof ∷ ‵ ((MutSlice (named 3) (ν₃ ∷ []) u8).own_val (at-list b₃ o₃ δ₃ t.ms) (s₃ t.ms ∷ [])) ∷ []) (raw ((next-step-to 𝓛 mem run).pre (to-next-step t.c t.m.at t.ms ν₃ δ₃)) ∷ []) _ (goes-next-step t.c t.m.at t.ms ν₃ δ₃ t.is_c (place-fits t.m t.is_m)) $
-        calls_to next-step.ended (next-step.clauses 𝓛 mem run) (to-next-step t.c t.m.at t.ms ν₃ δ₃) (λ r ws. (r ≡ (step_taken ps t.c t.m.at last t.ms).check) × (ws.1.1.1.1.0 ≡ (step_taken ps t.c t.m.at last t.ms).marks)) (λ r ws. both-said 𝓤 _ _) K'.lowered check-same ! fm known.next-step (and_then ! (var ! 93 refl) (and_then ! (part ! 91 {d = 8} refl (sub ! 1 {d = 8} refl (whole !))) (and_then ! (var ! 109 refl) (and_then ! (var ! 99 refl) (and_then ! (var ! 3 refl) (no_more !)))))) (λ c ws step is_c.
+        calls_to next-step.ended (next-step.clauses 𝓛 mem run) (to-next-step t.c t.m.at t.ms ν₃ δ₃) (λ r ws. (r ≡ (step_taken ps t.c t.m.at last t.ms).check) × (ws.1.1.1.1.0 ≡ (step_taken ps t.c t.m.at last t.ms).marks)) (λ r ws. both-said 𝓤 _ _) K'.lowered check-same ! fm known.next-step (and_then ! (var ! 81 refl) (and_then ! (part ! 79 refl (sub ! 1 refl (whole !))) (and_then ! (var ! 97 refl) (and_then ! (var ! 87 refl) (and_then ! (var ! 3 refl) (no_more !)))))) (λ c ws step is_c.
         use1 𝓛 (‵ (flft κ₀ q₀) ⊛ (‵ (flft (ν₃ ∷ []) full_share) ⊛ ‵ ftrue)) (id⊢ 𝓤 _) $ split ! $ move ! (1 ∷ []) $ split ! $ move ! (1 ∷ []) $
         drop ! $
         move ! (2 ∷ []) $ fsplit ! $ drop ! $ fsplit ! $ drop ! $ fsplit ! $ drop ! $ fsplit ! $ drop ! $ fsplit ! $ fsplit ! $ move ! (1 ∷ []) $
         feq_l ! (λ kept-ms.
         move ! (1 ∷ []) $ drop ! $ move ! (1 ∷ 4 ∷ 0 ∷ []) $ back u8 κ₃ q₃ γ₃ b₃ o₃ ! tt (named 3) t.ms δ₃ ws.1.1.1.1.0 kept-ms $
-        land ! (from ! (stop !)) (store ! 94 refl (check_typed 𝓛 c _ is_c)) $ move ! (3 ∷ []) $
+        land ! (from ! (stop !)) (store ! 82 refl (check-typed 𝓛 c _ is_c)) $ move ! (3 ∷ []) $
         use1 𝓛 (‵ Proof ⊛ ‵ Proof) ((shr_slice_copy 𝓛 (named 0) κ₀ u8).twice (at-list b₀ o₀ γ₀ ps) (s₀ ∷ [])) $ split ! $ move ! (4 ∷ 0 ∷ []) $
         use2 𝓛 (raw ((enter-to 𝓛 mem run).pre (to-enter c))) (goes-enter c is_c) $
-        calls_to_last enter.ended (enter.clauses 𝓛 mem run) (to-enter c) (λ r ws. r ≡ entered ps c) (λ r ws. id⊢ 𝓤 _) N'.lowered machine-same ! fm known.enter (and_then ! (var ! 94 refl) (and_then ! (var ! 110 refl) (no_more !))) (λ m ws''' begins is_m.
+        calls_to_last enter.ended (enter.clauses 𝓛 mem run) (to-enter c) (λ r ws. r ≡ entered ps c) (λ r ws. id⊢ 𝓤 _) N'.lowered machine-same ! fm known.enter (and_then ! (var ! 82 refl) (and_then ! (var ! 98 refl) (no_more !))) (λ m ws''' begins is_m.
         use1 𝓛 (‵ (flft κ₀ q₀) ⊛ ‵ ftrue) (id⊢ 𝓤 _) $ split ! $ move ! (1 ∷ []) $ drop ! $ move ! (1 ∷ []) $ drop ! $
-        land_last ! (from ! (stop !)) (store ! 92 refl (machine_typed 𝓛 m _ is_m)) $ forget ! 88 refl $ forget ! 6 refl $ forget ! 4 refl $
-        rewrite ! 104 (λ (k : ℕ). ‵ (fat full_share (ty 4) (l ls 4) 0 (slice_val (b₃, o₃) k))) (sym kept-ms) refl $
-        move ! (1 ∷ 0 ∷ 114 ∷ 115 ∷ 116 ∷ 117 ∷ 2 ∷ 3 ∷ 118 ∷ 119 ∷ []) $ rotate ! 10 $
+        land_last ! (from ! (stop !)) (store ! 80 refl (machine-typed 𝓛 m _ is_m)) $ forget ! 76 refl $ forget ! 6 refl $ forget ! 4 refl $
+        rewrite ! 92 (λ (k : ℕ). ‵ (fat full_share (ty 4) (l ls 4) 0 (slice_val (b₃, o₃) k))) (sym kept-ms) refl $
+        move ! (1 ∷ 0 ∷ 102 ∷ 103 ∷ 104 ∷ 105 ∷ 2 ∷ 3 ∷ 106 ∷ 107 ∷ []) $ rotate ! 10 $
         again ! Nearer At t (onward t c m t.zs t.us ws.1.1.1.1.0 t.tr is_c is_m refl refl kept-ms refl (stepped-on t h step begins)) (falls t c m t.zs t.us ws.1.1.1.1.0 t.tr is_c is_m refl refl kept-ms refl (stepped-on t h step begins))))))
 
     -- no other turn is left
@@ -883,39 +831,39 @@ module _ {M : Type 1} {𝓤 : Ura M} (𝓛 : Logic 𝓤) (mem : Memory → SProp
     unfolding after_turn
     ending t h =
         nothing ! $ use1 𝓛 (raw ((answer-to 𝓛 mem run).pre (to-answer t.c t.m))) (goes-answer t.c t.m t.is_c t.is_m) $
-        calls_to answer.ended (answer.clauses 𝓛 mem run) (to-answer t.c t.m) (λ r ws. r ≡ answer_of t.c.tally.steps t.m.phase) (λ r ws. id⊢ 𝓤 _) S'.lowered answer-same ! fm known.answer (and_then ! (var ! 91 refl) (and_then ! (var ! 89 refl) (no_more !))) (λ r ws e is-r.
-        drop ! $ drop ! $ land ! (from ! (stop !)) (init ! 108 refl (answer_typed 𝓛 r _ is-r)) $ returns_within ! Post refl (look ! 108 refl) $
+        calls_to answer.ended (answer.clauses 𝓛 mem run) (to-answer t.c t.m) (λ r ws. r ≡ answer_of t.c.tally.steps t.m.phase) (λ r ws. id⊢ 𝓤 _) S'.lowered answer-same ! fm known.answer (and_then ! (var ! 79 refl) (and_then ! (var ! 77 refl) (no_more !))) (λ r ws e is-r.
+        drop ! $ drop ! $ land ! (from ! (stop !)) (init ! 96 refl (answer_typed 𝓛 r _ is-r)) $ returns_within ! Post refl (look ! 96 refl) $
         frees_all ! body.locals ls (some _ ∷ some _ ∷ some _ ∷ some _ ∷ some _ ∷ some _ ∷ some _ ∷ some _ ∷ some _ ∷ some _ ∷ some _ ∷ some _ ∷ some _ ∷ []) $
         by ! (exits r is-r t (answered t h e)))
 
     turns : (t : Upon) → Sq 𝓛 (At t) (runs C Λ En body.turn-1 (any_q (After t)))
     turns t =
-        fills ! 74 (of_opd ! (var ! 86 refl)) refl (reader_typed 𝓛 κ₀ x₀ room₀ t.place t.fits) $ move ! (110 ∷ 111 ∷ []) $
-        moves mem run κ₀ q₀ x₀ ! fm known.moved t.place t.m.at t.fits (place-fits t.m t.is_m) (and_then ! (var ! 76 refl) (and_then ! (part ! 90 {d = 8} refl (sub ! 1 {d = 8} refl (whole !))) (no_more !))) (
-        land ! (from ! (stop !)) (store ! 88 refl (reader_typed 𝓛 κ₀ x₀ room₀ t.m.at (place-fits t.m t.is_m))) $ forget ! 76 refl $
-        move ! (1 ∷ 0 ∷ 112 ∷ 113 ∷ 114 ∷ 115 ∷ 116 ∷ 117 ∷ 118 ∷ 119 ∷ []) $ rotate ! 10 $
+        fills ! 66 (of_opd ! (var ! 74 refl)) refl (reader_typed 𝓛 κ₀ x₀ room₀ t.place t.fits) $ move ! (98 ∷ 99 ∷ []) $
+        moves mem run κ₀ q₀ x₀ ! fm known.moved t.place t.m.at t.fits (place-fits t.m t.is_m) (and_then ! (var ! 68 refl) (and_then ! (part ! 78 refl (sub ! 1 refl (whole !))) (no_more !))) (
+        land ! (from ! (stop !)) (store ! 76 refl (reader_typed 𝓛 κ₀ x₀ room₀ t.m.at (place-fits t.m t.is_m))) $ forget ! 68 refl $
+        move ! (1 ∷ 0 ∷ 100 ∷ 101 ∷ 102 ∷ 103 ∷ 104 ∷ 105 ∷ 106 ∷ 107 ∷ []) $ rotate ! 10 $
         nothing ! $ use1 𝓛 (raw ((turn-of-to 𝓛 mem run).pre (to-turn-of t.m))) (goes-turn-of t.m t.is_m) $
-        calls_to turn-of.ended (turn-of.clauses 𝓛 mem run) (to-turn-of t.m) (λ r ws. r ≡ turn_of t.m.phase) (λ r ws. id⊢ 𝓤 _) (vint w8) (uint-same w8) ! fm known.turn-of (and_then ! (var ! 89 refl) (no_more !)) (λ r ws e is.
-        drop ! $ drop ! $ land ! (from ! (stop !)) (init ! 84 refl (tt, record { fits = is.1 })) $
-        rewrite ! 84 (λ (k : ℕ). ‵ (fat full_share (ty 12) (l ls 12) 0 (vint w8 k))) e refl $
-        fills ! 72 (bin ! (var ! 84 refl) (lit ! tt) tt) refl (tt, tt) $
-        branches ! (var ! 72 refl)
+        calls_to turn-of.ended (turn-of.clauses 𝓛 mem run) (to-turn-of t.m) (λ r ws. r ≡ turn_of t.m.phase) (λ r ws. id⊢ 𝓤 _) (vint w8) (uint-same w8) ! fm known.turn-of (and_then ! (var ! 77 refl) (no_more !)) (λ r ws e is.
+        drop ! $ drop ! $ land ! (from ! (stop !)) (init ! 72 refl (tt, record { fits = is.1 })) $
+        rewrite ! 72 (λ (k : ℕ). ‵ (fat full_share (ty 12) (l ls 12) 0 (vint w8 k))) e refl $
+        fills ! 64 (bin ! (var ! 72 refl) (lit ! tt) tt) refl (tt, tt) $
+        branches ! (var ! 64 refl)
         (λ yes.
-        forget ! 72 refl $ looking t (eqb→eq _ 0 yes))
+        forget ! 64 refl $ looking t (eqb→eq _ 0 yes))
         (λ no₀.
-        forget ! 72 refl $ fills ! 52 (bin ! (var ! 84 refl) (lit ! tt) tt) refl (tt, tt) $ branches ! (var ! 52 refl)
+        forget ! 64 refl $ fills ! 44 (bin ! (var ! 72 refl) (lit ! tt) tt) refl (tt, tt) $ branches ! (var ! 44 refl)
         (λ yes.
-        forget ! 52 refl $ deleting t (eqb→eq _ 1 yes))
+        forget ! 44 refl $ deleting t (eqb→eq _ 1 yes))
         (λ no₁.
-        forget ! 52 refl $ fills ! 46 (bin ! (var ! 84 refl) (lit ! tt) tt) refl (tt, tt) $ branches ! (var ! 46 refl)
+        forget ! 44 refl $ fills ! 38 (bin ! (var ! 72 refl) (lit ! tt) tt) refl (tt, tt) $ branches ! (var ! 38 refl)
         (λ yes.
-        forget ! 46 refl $ keeping t (eqb→eq _ 2 yes))
+        forget ! 38 refl $ keeping t (eqb→eq _ 2 yes))
         (λ no₂.
-        forget ! 46 refl $ fills ! 12 (bin ! (var ! 84 refl) (lit ! tt) tt) refl (tt, tt) $ branches ! (var ! 12 refl)
+        forget ! 38 refl $ fills ! 12 (bin ! (var ! 72 refl) (lit ! tt) tt) refl (tt, tt) $ branches ! (var ! 12 refl)
         (λ yes.
         forget ! 12 refl $ judging t (eqb→eq _ 3 yes))
         (λ no₃.
-        forget ! 12 refl $ fills ! 4 (bin ! (var ! 84 refl) (lit ! tt) tt) refl (tt, tt) $ branches ! (var ! 4 refl)
+        forget ! 12 refl $ fills ! 4 (bin ! (var ! 72 refl) (lit ! tt) tt) refl (tt, tt) $ branches ! (var ! 4 refl)
         (λ yes.
         forget ! 4 refl $ reading t (eqb→eq _ 4 yes))
         (λ no₄.
@@ -932,24 +880,24 @@ module _ {M : Type 1} {𝓤 : Ura M} (𝓛 : Logic 𝓤) (mem : Memory → SProp
       enter ! 𝓣.C 𝓣.Λ code.function (s₀ ∷ s₁ us ∷ s₂ ys ∷ s₃ ms ∷ s₄ tr ∷ vint w64 last ∷ vint w64 n ∷ vint w64 used ∷ []) _ $
       allocs_all ! body.locals (λ ls. params1 ! $
       -- [the locals, the last one first; what the slices own, each with its token]
-      pass1 ! (init ! 106 refl (tt, (tt, (record { fits = room₀.0 }, tt)))) $
-      pass1 ! (init ! 104 refl (tt, (tt, (record { fits = room₁.0 }, tt)))) $
-      pass1 ! (init ! 102 refl (tt, (tt, (record { fits = room₂.0 }, tt)))) $
-      pass1 ! (init ! 100 refl (tt, (tt, (record { fits = room₃.0 }, tt)))) $
-      pass1 ! (init ! 98 refl (tt, (tt, (record { fits = room₄.0 }, tt)))) $
-      pass1 ! (init ! 96 refl (tt, record { fits = last_Fits })) $
-      pass1 ! (init ! 94 refl (tt, record { fits = n-fits })) $
-      pass1 ! (init ! 92 refl (tt, record { fits = used-fits })) $
+      pass1 ! (init ! 94 refl (tt, (tt, (record { fits = room₀.0 }, tt)))) $
+      pass1 ! (init ! 92 refl (tt, (tt, (record { fits = room₁.0 }, tt)))) $
+      pass1 ! (init ! 90 refl (tt, (tt, (record { fits = room₂.0 }, tt)))) $
+      pass1 ! (init ! 88 refl (tt, (tt, (record { fits = room₃.0 }, tt)))) $
+      pass1 ! (init ! 86 refl (tt, (tt, (record { fits = room₄.0 }, tt)))) $
+      pass1 ! (init ! 84 refl (tt, record { fits = last_Fits })) $
+      pass1 ! (init ! 82 refl (tt, record { fits = n-fits })) $
+      pass1 ! (init ! 80 refl (tt, record { fits = used-fits })) $
       pass0 ! $
       nothing ! $ use1 𝓛 (raw ((begin-to 𝓛 mem run).pre to-begin)) goes-begin $
-      calls_to begin.ended (begin.clauses 𝓛 mem run) to-begin (λ r ws. r ≡ begun n used) (λ r ws. id⊢ 𝓤 _) K'.lowered check-same ! fm known.begin (and_then ! (var ! 95 refl) (and_then ! (var ! 93 refl) (no_more !))) (λ c ws e is_c.
-      drop ! $ drop ! $ land ! (from ! (stop !)) (init ! 90 refl (check_typed 𝓛 c _ is_c)) $
+      calls_to begin.ended (begin.clauses 𝓛 mem run) to-begin (λ r ws. r ≡ begun n used) (λ r ws. id⊢ 𝓤 _) K'.lowered check-same ! fm known.begin (and_then ! (var ! 83 refl) (and_then ! (var ! 81 refl) (no_more !))) (λ c ws e is_c.
+      drop ! $ drop ! $ land ! (from ! (stop !)) (init ! 78 refl (check-typed 𝓛 c _ is_c)) $
       nothing ! $ use1 𝓛 (raw ((ready-to 𝓛 mem run).pre to-ready)) goes-ready $
       calls_to ready.ended (ready.clauses 𝓛 mem run) to-ready (λ r ws. r ≡ stopped Next 0) (λ r ws. id⊢ 𝓤 _) N'.lowered machine-same ! fm known.ready (no_more !) (λ m ws' e' is_m.
-      drop ! $ drop ! $ land ! (from ! (stop !)) (init ! 88 refl (machine_typed 𝓛 m _ is_m)) $ move ! (110 ∷ 111 ∷ []) $
-      makes mem run κ₀ q₀ x₀ ! fm known.over 0 (lit< tt) (and_then ! (var ! 108 refl) (and_then ! (lit ! tt) (no_more !))) (
-      land ! (from ! (stop !)) (init ! 88 refl (reader_typed 𝓛 κ₀ x₀ room₀ 0 (lit< tt))) $
-      move ! (1 ∷ 0 ∷ 112 ∷ 113 ∷ 114 ∷ 115 ∷ 116 ∷ 117 ∷ 118 ∷ 119 ∷ []) $ rotate ! 10 $
+      drop ! $ drop ! $ land ! (from ! (stop !)) (init ! 76 refl (machine-typed 𝓛 m _ is_m)) $ move ! (98 ∷ 99 ∷ []) $
+      makes mem run κ₀ q₀ x₀ ! fm known.over 0 (lit< tt) (and_then ! (var ! 96 refl) (and_then ! (lit ! tt) (no_more !))) (
+      land ! (from ! (stop !)) (init ! 76 refl (reader_typed 𝓛 κ₀ x₀ room₀ 0 (lit< tt))) $
+      move ! (1 ∷ 0 ∷ 100 ∷ 101 ∷ 102 ∷ 103 ∷ 104 ∷ 105 ∷ 106 ∷ 107 ∷ []) $ rotate ! 10 $
       first ! $ blocks ! $ loops ! 𝓣 Nearer Nearer-wf (At 𝓣 fm known room₀ room₁ room₂ room₃ room₄ ls) (turns 𝓣 fm known room₀ room₁ room₂ room₃ room₄ ls) (starting c m e e' is_c is_m)))))
 
 meets : {M : Type 1} {𝓤 : Ura M} (𝓛 : Logic 𝓤) → (mem : Memory → SProp 𝓤) (run : Routine → Fun 𝓤) (𝓣 : Tables 𝓤 𝓛.H) → Known 𝓛 mem run 𝓣.C
@@ -990,11 +938,9 @@ drive-with-spec 𝓤 𝓛 𝓜 𝓡 =
       begin = cited 𝓤 𝓛.H (begin-to 𝓛 𝓜.mem 𝓡.run) 𝓜 𝓡 code.env #begin begin-def.routine code.calls-turns::check::begin (begin-thm.met 𝓤 𝓛 𝓜 𝓡);
       ready = cited 𝓤 𝓛.H (ready-to 𝓛 𝓜.mem 𝓡.run) 𝓜 𝓡 code.env #ready ready-def.routine code.calls-run::drive::ready (ready-thm.met 𝓤 𝓛 𝓜 𝓡);
       turn-of = cited 𝓤 𝓛.H (turn-of-to 𝓛 𝓜.mem 𝓡.run) 𝓜 𝓡 code.env #turn-of turn-of-def.routine code.calls-hints::machine::turn-of (turn-of-thm.met 𝓤 𝓛 𝓜 𝓡);
-      first-look = cited 𝓤 𝓛.H (first-look-to 𝓛 𝓜.mem 𝓡.run) 𝓜 𝓡 code.env #first-look first-look-def.routine code.calls-turns::places::first-look (first-look-thm.met 𝓤 𝓛 𝓜 𝓡);
       find = cited 𝓤 𝓛.H (find-to 𝓛 𝓜.mem 𝓡.run) 𝓜 𝓡 code.env #find find-def.routine code.calls-lookup::find (find-thm.met 𝓤 𝓛 𝓜 𝓡);
       advance = cited 𝓤 𝓛.H (advance-to 𝓛 𝓜.mem 𝓡.run) 𝓜 𝓡 code.env #advance advance-def.routine code.calls-hints::machine::advance (advance-thm.met 𝓤 𝓛 𝓜 𝓡);
       delete-ids = cited 𝓤 𝓛.H (delete-ids-to 𝓛 𝓜.mem 𝓡.run) 𝓜 𝓡 code.env #delete-ids delete-ids-def.routine code.calls-run::deleting::delete-ids (delete-ids-thm.met 𝓤 𝓛 𝓜 𝓡);
-      make-room = cited 𝓤 𝓛.H (make-room-to 𝓛 𝓜.mem 𝓡.run) 𝓜 𝓡 code.env #make-room make-room-def.routine code.calls-room::make-room (make-room-thm.met 𝓤 𝓛 𝓜 𝓡);
       row-of = cited 𝓤 𝓛.H (row-of-to 𝓛 𝓜.mem 𝓡.run) 𝓜 𝓡 code.env #row-of row-of-def.routine code.calls-turns::check::row-of (row-of-thm.met 𝓤 𝓛 𝓜 𝓡);
       append = cited 𝓤 𝓛.H (append-to 𝓛 𝓜.mem 𝓡.run) 𝓜 𝓡 code.env #append append-def.routine code.calls-directory::append (append-thm.met 𝓤 𝓛 𝓜 𝓡);
       keep = cited 𝓤 𝓛.H (keep-to 𝓛 𝓜.mem 𝓡.run) 𝓜 𝓡 code.env #keep keep_def.routine code.calls-turns::check::keep (keep-thm.met 𝓤 𝓛 𝓜 𝓡);

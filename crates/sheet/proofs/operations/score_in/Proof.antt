@@ -1,5 +1,5 @@
 -- `sheet::operations::score_in` meets its contract. The stores are long enough; a file that is read is accepted or refused.
-use Rattle.tables.proofs.laws.Room.{room_kept}
+use Rattle.tables.proofs.laws.Room.{room-kept}
 use Rattle.instance.proofs.laws.Laws.{accepted}
 use Rattle.sheet.proofs.laws.Answers.{score_file}
 use borrow.Author.Rules.{rules}
@@ -44,7 +44,7 @@ score-read-requires c κs =
     let m = c.before.before.before.before.before in
     let r = m.before.before.before.before.before.before.before.read in
     let b = m.before.before.before.before.before.before.before.before.before.before.before.before.before.before.before.before.before.before in
-    let g = room_kept b.args.file.now r.auto.1.1.1.0 b.requires in
+    let g = room-kept b.args.file.now r.auto.1.1.1.0 b.requires in
     (accepted _ r.new.1.0 r.new.1.1.0 r.new.1.1.1.0 _ (rw m.f.given.1 at r.ensures), search rules)
 
 enum-known-f-2 : tie.Need-enum-known-f-2

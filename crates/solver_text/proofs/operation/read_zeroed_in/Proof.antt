@@ -1,6 +1,6 @@
 -- `operation::read_zeroed_in` meets its contract: the stores are long enough, and a file that is sized is read on.
 use borrow.Author.Rules.{rules}
-use Rattle.tables.proofs.laws.Room.{room_kept}
+use Rattle.tables.proofs.laws.Room.{room-kept}
 use Rattle.solver_text.proofs.laws.Read.{read-refused}
 use Rattle.solver_text.proofs.operation.read_zeroed_in.Statement.{statement}
 use Rattle.solver_text.proofs.operation.read_zeroed_in.Tie as tie
@@ -40,7 +40,7 @@ slice-aggregate-read-sized-3 c = search rules
 
 read-sized-requires : tie.Need-read-sized-requires
 read-sized-requires c κs =
-    let g = room_kept c.before.before.before.before.before.before.before.before.before.before.before.before.before.before.before.before.before.before.before.before.before.before.before.before.before.args.file.now c.before.before.before.before.before.before.before.before.before.before.before.before.before.measure.auto.1.1.1.0 c.before.before.before.before.before.before.before.before.before.before.before.before.before.before.before.before.before.before.before.before.before.before.before.before.before.requires.0 in
+    let g = room-kept c.before.before.before.before.before.before.before.before.before.before.before.before.before.before.before.before.before.before.before.before.before.before.before.before.before.args.file.now c.before.before.before.before.before.before.before.before.before.before.before.before.before.measure.auto.1.1.1.0 c.before.before.before.before.before.before.before.before.before.before.before.before.before.before.before.before.before.before.before.before.before.before.before.before.before.requires.0 in
     (rw c.before.before.before.before.before.before.m.given.1 at c.before.before.before.before.before.before.before.before.before.before.before.before.before.measure.ensures, search rules, c.before.before.before.before.before.before.before.before.before.before.before.before.before.before.before.before.before.before.before.before.before.before.before.before.before.requires.1)
 
 enum-known-m-2 : tie.Need-enum-known-m-2

@@ -33,7 +33,7 @@ same_length c = search rules
 returns-2 : tie.Need-returns-2
 unfolding step_taken
 returns-2 c =
-    let z = lt-leb _ _ c.before.before.before.before.before.before.before.before.before.before.before.before.if1.false in
+    let z = lt-leb _ _ c.before.before.before.before.before.before.before.before.before.if1.false in
     let x = c.before.before.before.before.Read-step.ensures in
     let e = sym x.0 ∙ c.enum_told.given.1 in
     (rw (z, e, c.before.before.before.before.before.before.before.next-number.ensures), x.1 ∙ rw z)
@@ -44,7 +44,7 @@ same-length-2 c = search rules
 returns-3 : tie.Need-returns-3
 unfolding step_taken
 returns-3 c =
-    let z = lt-leb _ _ c.before.before.before.before.before.before.before.before.before.before.before.before.before.if1.false in
+    let z = lt-leb _ _ c.before.before.before.before.before.before.before.before.before.before.if1.false in
     let x = c.before.before.before.before.before.Read-step.ensures in
     let e = sym x.0 ∙ c.before.read.given.1 in
     (rw (z, e, c.before.before.before.before.before.before.before.before.next-number.ensures), x.1 ∙ rw z)
@@ -55,7 +55,7 @@ same-length-3 c = search rules
 returns-4 : tie.Need-returns-4
 unfolding step_taken
 returns-4 c =
-    let z = lt-leb _ _ c.before.before.before.before.before.before.before.before.before.before.before.before.before.if1.false in
+    let z = lt-leb _ _ c.before.before.before.before.before.before.before.before.before.before.if1.false in
     let x = c.before.before.before.before.before.Read-step.ensures in
     let e = sym x.0 ∙ c.before.read2.given.1 in
     (rw (z, e, c.before.before.before.before.before.before.before.before.next-number.ensures), x.1 ∙ rw z)

@@ -1,7 +1,7 @@
 -- `size::text_size_in` meets its contract: the stores are long enough, and each case of `measure` is a case of the answer.
 use mathlib.Core.Path.{ap, ◌∙◌}
 use Rattle.scope.specs.Parsed.{answered}
-use Rattle.tables.proofs.laws.Room.{room_kept}
+use Rattle.tables.proofs.laws.Room.{room-kept}
 use Rattle.text.proofs.laws.Written.{size_answered, size_refused}
 use borrow.Author.Rules.{rules}
 use Rattle.text.proofs.size.text_size_in.Statement.{statement}
@@ -44,7 +44,7 @@ text-length-requires : tie.Need-text-length-requires
 text-length-requires c κs =
     let r = c.before.before.before.before.before.before.before.before.before.before.before.before.measure in
     let b = c.before.before.before.before.before.before.before.before.before.before.before.before.before.before.before.before.before.before.before.before.before.before in
-    let g = room_kept b.args.file.now r.auto.1.1.1.0 b.requires in
+    let g = room-kept b.args.file.now r.auto.1.1.1.0 b.requires in
     record { sized = rw c.before.before.before.before.before.m.given.1 at r.ensures; stores = search rules }
 
 enum-known-m-2 : tie.Need-enum-known-m-2

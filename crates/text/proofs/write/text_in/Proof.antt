@@ -1,6 +1,6 @@
 -- `write::text_in` meets its contract: each case of `measure` is a case of the answer.
 use lib.ListN.{length}
-use Rattle.tables.proofs.laws.Room.{room_kept}
+use Rattle.tables.proofs.laws.Room.{room-kept}
 use Rattle.text.proofs.laws.Written.{text_fitted, text_refused}
 use borrow.Author.Rules.{rules}
 use Rattle.text.proofs.write.text_in.Statement.{statement}
@@ -43,7 +43,7 @@ fit-text-requires : tie.Need-fit-text-requires
 fit-text-requires c κs =
     let r = c.before.before.before.before.before.before.before.before.before.before.before.before.before.measure in
     let b = c.before.before.before.before.before.before.before.before.before.before.before.before.before.before.before.before.before.before.before.before.before.before.before.before in
-    let g = room_kept b.args.file.now r.auto.1.1.1.0 b.requires in
+    let g = room-kept b.args.file.now r.auto.1.1.1.0 b.requires in
     record { sized = rw c.before.before.before.before.before.before.m.given.1 at r.ensures; stores = search rules }
 
 enum-known-m-2 : tie.Need-enum-known-m-2

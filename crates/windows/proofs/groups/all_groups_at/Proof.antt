@@ -3,7 +3,7 @@ use borrow.Author.Rules.{rules}
 use mathlib.Core.Path.{◌≡◌, sym, ap, ◌∙◌}
 use native.Mathlib.Omega.{arith}
 use Rattle.scope.specs.Instance.{groups_at}
-use Rattle.tables.proofs.laws.Room.{room_rows, room-windows, room_kept}
+use Rattle.tables.proofs.laws.Room.{room-rows, room-windows, room-kept}
 use Rattle.table_lists.proofs.laws.Sequence.{rows_value, rows_refused}
 use Rattle.windows.proofs.laws.Times.{times_high, times_calendared, times_dated, times_plain}
 use Rattle.windows.proofs.laws.Windows.{few-groups, groups_refused, groups_plain, groups_dated}
@@ -13,7 +13,7 @@ use Rattle.windows.proofs.groups.all_groups_at.Tie as tie
 groups-at-requires : tie.Need-groups-at-requires
 groups-at-requires c κs =
     let p = c.before.before.before.requires in let s = c.before.before.before.args.s.now in
-    (room_rows s p.0, times_high s p.1)
+    (room-rows s p.0, times_high s p.1)
 
 enum-known-g : tie.Need-enum-known-g
 enum-known-g c = search rules
@@ -42,7 +42,7 @@ windows-at-requires c κs =
     let d = sym c.before.before.dated.ensures ∙ c.before.if1.true in
     let e = rows_value f.new.1.1.1.0 _ f.ensures c.before.before.before.before.g.given.1 in (
       times_calendared s p.1 d,
-      (few-groups _ s _ f.new.1.1.1.0 e, room-windows s d (room_kept s f.auto.1.1.1.0 p.0)),
+      (few-groups _ s _ f.new.1.1.1.0 e, room-windows s d (room-kept s f.auto.1.1.1.0 p.0)),
     )
 
 same-length-2 : tie.Need-same-length-2

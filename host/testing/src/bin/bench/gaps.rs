@@ -1,11 +1,11 @@
 //! The same proofs with ids skipped.
 
-use crate::proofs::{second_copies, Clauses};
+use crate::proofs::{second_copies, steps_of, Clauses};
 use crate::schools::{generated, recorded, Learned, BOUND};
 use crate::table::{head, GAPS};
 use crate::{Bench, WITHOUT_TUNED};
 use testing::generate::Random;
-use testing::steps::{decode_steps, encode_steps, renumbered, with_gaps, Step};
+use testing::steps::{encode_steps, renumbered, with_gaps, Step};
 use timetable::engine;
 
 /// Prints what gaps cost.
@@ -19,7 +19,7 @@ pub fn table(bench: &Bench, learned: &[Learned]) {
             bench,
             &school.name(),
             (&school.file, bound),
-            &decode_steps(proof),
+            &steps_of(proof),
         );
     }
     for &lessons in bench.scale.shown {

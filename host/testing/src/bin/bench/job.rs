@@ -10,7 +10,7 @@ use std::mem::size_of_val;
 use std::time::Duration;
 use testing::reference::{self, Refusal};
 use timetable::engine::{self, call, Store};
-use timetable::proof::added;
+use timetable::proof::room;
 
 type Answer = Result<[u64; 2], Refusal>;
 
@@ -22,8 +22,6 @@ struct Task {
     /// A timetable, a model, a solver's text or a proof.
     other: Vec<u8>,
     bound: u64,
-    /// The words and rows that a check is lent, where they are given.
-    room: Option<[usize; 2]>,
 }
 
 /// Does the job that `words` name, and prints what came of it.
@@ -33,17 +31,15 @@ pub fn run(side: Side, words: &[String]) {
     };
     let milliseconds = |word: &String| Duration::from_millis(word.parse().expect("milliseconds"));
     let load = |name: &String| fs::read(name).expect("an input");
-    let (bound, room) = match rest {
-        [bound, _] => bound_and_room(bound),
-        _ => (0, None),
-    };
     let task = Task {
         span: milliseconds(span),
         turn: milliseconds(turn),
         file: load(file),
         other: rest.last().map(load).unwrap_or_default(),
-        bound,
-        room,
+        bound: match rest {
+            [bound, _] => bound.parse().expect("a bound"),
+            _ => 0,
+        },
     };
     let mut run = match side {
         Side::Engine => engine(job, &task),
@@ -51,17 +47,6 @@ pub fn run(side: Side, words: &[String]) {
     };
     run.peak = peak();
     run.print();
-}
-
-/// `BOUND` or `BOUND:WORDS:ROWS`. Plain C reads the bound alone.
-fn bound_and_room(word: &str) -> (u64, Option<[usize; 2]>) {
-    let numbers = word.split(':').map(|number| number.parse());
-    let numbers: Result<Vec<u64>, _> = numbers.collect();
-    match numbers.expect("a bound, words and rows")[..] {
-        [bound] => (bound, None),
-        [bound, words, rows] => (bound, Some([words as usize, rows as usize])),
-        _ => panic!("a bound, words and rows are wanted"),
-    }
 }
 
 fn engine(job: &str, task: &Task) -> Run {
@@ -119,14 +104,9 @@ fn by_reference(job: &str, task: &Task) -> Run {
         "solver_text" => filled_by_reference(task),
         "check" => {
             let size = engine::sizes(file, task.bound).expect("an accepted file");
-            let all = added(other).all;
-            let [words, rows] = task.room.map_or(
-                [
-                    size.words + all.words as u64,
-                    size.clauses + all.rows as u64,
-                ],
-                |room| room.map(|lent| lent as u64),
-            );
+            let added = room(other);
+            let words = size.words + added.words as u64;
+            let rows = size.clauses + added.rows as u64;
             let marks = size.variables;
             timed(task, 0, || {
                 let answer = reference::check(file, task.bound, other, words, rows, marks);
@@ -211,14 +191,7 @@ fn room_for_text(task: &Task) -> Vec<u8> {
 
 fn store(task: &Task) -> Store {
     let size = engine::sizes(&task.file, task.bound).expect("an accepted file");
-    match task.room {
-        None => Store::for_proof(size, &task.other),
-        Some([words, rows]) => Store {
-            words: vec![0; words],
-            rows: vec![call::Row::default(); rows],
-            marks: vec![0; size.variables as usize],
-        },
-    }
+    Store::for_proof(size, &task.other)
 }
 
 /// The bytes of the stores.

@@ -1,13 +1,12 @@
 //! Times the engine against plain C, tuned C and the reference: schools of
 //! growing size, formulas of many ORs, lengths of subevents, preferred times, lessons
 //! before others, schools in clock time, proofs of many hints and with gaps in their
-//! ids, the worst inputs that are accepted, with the memory of each, texts of
-//! solvers, and proofs that delete most of what they add, in tight stores.
+//! ids, the worst inputs that are accepted, with the memory of each, and texts of
+//! solvers.
 //!
 //! `cargo run --release --offline --bin bench` prints the tables of
-//! docs/BENCHMARKS.md; with `-- --short` the same on small inputs, with
-//! `-- --solver-texts` the table of solvers' texts alone, and with `-- --packing` that
-//! of packing alone, each on small inputs where `--short` follows. Each time is
+//! docs/BENCHMARKS.md; with `-- --short` the same on small inputs, and with
+//! `-- --solver-texts` the table of solvers' texts alone. Each time is
 //! time on a processor: a call is made again and again in spans of 20 ms, and
 //! the median of the spans of several turns counts, in which the sides
 //! alternate, so that a busy machine disturbs all alike. Each turn is a process
@@ -19,7 +18,6 @@ mod clock;
 mod gaps;
 mod job;
 mod lengths;
-mod packing;
 mod precedence;
 mod preferred;
 mod programs;
@@ -64,11 +62,6 @@ pub struct Scale {
     /// Lessons of the school whose solver's text is read, and bytes of comments.
     printed: usize,
     comments: usize,
-    /// Lessons of the school whose proofs delete most of what they add, the clauses that
-    /// one of them adds, and how often the worst proof for packing adds one.
-    packed: usize,
-    deleted: usize,
-    packings: usize,
 }
 
 const WHOLE: Scale = Scale {
@@ -85,9 +78,6 @@ const WHOLE: Scale = Scale {
     part: 1,
     printed: 400,
     comments: 100_000_000,
-    packed: 100,
-    deleted: 2_000_000,
-    packings: 1_000,
 };
 
 const SHORT: Scale = Scale {
@@ -104,9 +94,6 @@ const SHORT: Scale = Scale {
     part: 64,
     printed: 100,
     comments: 1_500_000,
-    packed: 50,
-    deleted: 600_000,
-    packings: 100,
 };
 
 const MANY: Turns = Turns {
@@ -159,25 +146,20 @@ fn main() -> ExitCode {
     let (turns, scale) = match words.first().map(String::as_str) {
         None => (MANY, WHOLE),
         Some("--short") => (FEW, SHORT),
-        Some("--solver-texts") => return alone(solver_texts::table, &words[1..]),
-        Some("--packing") => return alone(packing::table, &words[1..]),
+        Some("--solver-texts") => {
+            let sides = Sides::new(MANY);
+            let scale = WHOLE;
+            solver_texts::table(&Bench { sides, scale });
+            return ExitCode::SUCCESS;
+        }
         Some("engine") => return done(Side::Engine, &words[1..]),
         Some("reference") => return done(Side::Reference, &words[1..]),
         Some(_) => {
-            eprintln!("bench: wanted is nothing, --short, --solver-texts or --packing");
+            eprintln!("bench: wanted is nothing, --short or --solver-texts");
             return ExitCode::from(2);
         }
     };
     tables(turns, scale);
-    ExitCode::SUCCESS
-}
-
-/// Prints one table, on small inputs where `--short` follows.
-fn alone(table: fn(&Bench), words: &[String]) -> ExitCode {
-    let short = words.iter().any(|word| word == "--short");
-    let (turns, scale) = if short { (FEW, SHORT) } else { (MANY, WHOLE) };
-    let sides = Sides::new(turns);
-    table(&Bench { sides, scale });
     ExitCode::SUCCESS
 }
 
@@ -196,7 +178,6 @@ fn tables(turns: Turns, scale: Scale) {
     drop(learned);
     worst::table(&bench);
     solver_texts::table(&bench);
-    packing::table(&bench);
     let minutes = begin.elapsed().as_secs_f64() / 60.0;
     let after = load();
     println!(

@@ -2,7 +2,8 @@
 //! they are answered with 18 after their last step.
 
 use testing::generate::Random;
-use testing::reference::{walk_with_tail, write_number, Instance, Literal, Sink, ADD};
+use testing::reference::{read_number, walk_with_tail, write_number};
+use testing::reference::{Instance, Literal, Sink, ADD};
 use testing::steps::Step;
 
 /// The hard clauses and the tail's, one after another.
@@ -38,29 +39,6 @@ impl Clauses {
         let first = if index == 0 { 0 } else { self.ends[index - 1] };
         &self.words[first..self.ends[index]]
     }
-}
-
-/// The length of each clause.
-pub fn lengths(clauses: &Clauses) -> Vec<usize> {
-    let all = 0..clauses.count();
-    all.map(|index| clauses.clause(index).len()).collect()
-}
-
-/// The first clause that is left deleted and the last one added once more, again and
-/// again: in a store that just holds the formula, each time all clauses are moved.
-pub fn one_for_one(clauses: &Clauses, times: usize) -> Vec<Step> {
-    let count = clauses.count() as u32;
-    let last = clauses.clause(clauses.count() - 1);
-    let pair = |at: u32| {
-        let gone = Step::Delete { ids: vec![at] };
-        let new = Step::Add {
-            id: count + at,
-            literals: last.to_vec(),
-            hints: vec![count],
-        };
-        [gone, new]
-    };
-    (1..=times as u32).flat_map(pair).collect()
 }
 
 /// A step that adds a clause by one hint.
@@ -103,35 +81,6 @@ pub fn second_copies(random: &mut Random, clauses: &Clauses, copies: usize) -> V
     first.chain(again).enumerate().map(step).collect()
 }
 
-/// So many copies, half of them of the formula's clauses and half of clauses that were
-/// added not long before.
-pub fn recent_copies(random: &mut Random, clauses: &Clauses, copies: usize) -> Vec<Step> {
-    const RECENT: usize = 1_000;
-    let count = clauses.count();
-    // Of which clause of the formula each is a copy.
-    let mut of: Vec<usize> = Vec::new();
-    let step = |at: usize| {
-        let recent = at.min(RECENT);
-        let (index, hint) = match recent > 0 && random.chance(50) {
-            true => {
-                let copy = at - 1 - random.below(recent);
-                (of[copy], count + copy + 1)
-            }
-            false => {
-                let index = random.below(count);
-                (index, index + 1)
-            }
-        };
-        of.push(index);
-        Step::Add {
-            id: (count + at + 1) as u32,
-            literals: clauses.clause(index).to_vec(),
-            hints: vec![hint as u32],
-        }
-    };
-    (0..copies).map(step).collect()
-}
-
 /// Clauses of so many literals that hold the formula's first, each a copy of
 /// the one before.
 pub fn long_clauses(clauses: &Clauses, length: usize, count: usize) -> Vec<u8> {
@@ -146,4 +95,39 @@ pub fn long_clauses(clauses: &Clauses, length: usize, count: usize) -> Vec<u8> {
         write_step(&mut proof, clauses.count() + at + 1, &literals, hint);
     }
     proof
+}
+
+/// The steps of an accepted proof.
+pub fn steps_of(proof: &[u8]) -> Vec<Step> {
+    let mut at = 0;
+    let mut steps = Vec::new();
+    while at < proof.len() {
+        let adds = proof[at] == ADD;
+        at += 1;
+        if !adds {
+            let ids = list(proof, &mut at);
+            steps.push(Step::Delete { ids });
+            continue;
+        }
+        let id = number(proof, &mut at);
+        let codes = list(proof, &mut at);
+        steps.push(Step::Add {
+            id,
+            literals: codes.into_iter().filter_map(Literal::from_code).collect(),
+            hints: list(proof, &mut at),
+        });
+    }
+    steps
+}
+
+/// The numbers before a 0.
+fn list(proof: &[u8], at: &mut usize) -> Vec<u32> {
+    let numbers = std::iter::from_fn(|| Some(number(proof, at)).filter(|&number| number > 0));
+    numbers.collect()
+}
+
+fn number(proof: &[u8], at: &mut usize) -> u32 {
+    let (number, end) = read_number(proof, *at).expect("a number");
+    *at = end;
+    number
 }

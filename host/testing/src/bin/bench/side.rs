@@ -1,6 +1,5 @@
 //! The sides' turns: each turn is a process that is given
-//! `JOB SPAN TURN INSTANCE [TABLE | MODEL | TEXT | BOUND PROOF]`; after BOUND may stand
-//! `:WORDS:ROWS`, which a check is lent then.
+//! `JOB SPAN TURN INSTANCE [TABLE | MODEL | TEXT | BOUND PROOF]`.
 
 use crate::programs::{command, compile, Side};
 use crate::spans::median;

@@ -112,29 +112,6 @@ impl Row {
         ])
     }
 
-    /// A line of the table of packing, with the words and rows lent and how often these
-    /// are packed, against the same proof in ample stores.
-    pub fn packed(&self, [words, rows]: [u64; 2], packings: u64, ample: &Row) -> String {
-        let [engine, plain] = [self.engine(), self.plain()];
-        let reference = self.run(Side::Reference);
-        let more = engine.time() - ample.engine().time();
-        line(&[
-            self.input.clone(),
-            grouped(words),
-            grouped(rows),
-            grouped(packings),
-            time(engine),
-            time(plain),
-            reference.map_or(NONE.into(), time),
-            ratio(engine, Some(ample.engine())),
-            ratio(engine, Some(plain)),
-            match packings {
-                0 => NONE.into(),
-                _ => format!("{:.1} µs", more / packings as f64),
-            },
-        ])
-    }
-
     /// Nanoseconds of a side for each of so many, for the table of growth.
     pub fn nanoseconds(&self, side: Side, amount: u64) -> String {
         format!("{:.2}", 1e3 * self.took_part(side).time() / amount as f64)
@@ -221,19 +198,6 @@ pub const SOLVER_TEXTS: [&str; 10] = [
     "engine / reference",
     "engine / counting lines",
     "output and store",
-];
-
-pub const PACKING: [&str; 10] = [
-    "proof, store",
-    "words lent",
-    "rows lent",
-    "packings",
-    "engine",
-    "plain C",
-    "reference",
-    "engine / the same in ample stores",
-    "engine / plain C",
-    "engine, each packing",
 ];
 
 fn time(run: &Run) -> String {
@@ -327,20 +291,6 @@ mod tests {
     }
 
     #[test]
-    fn packing_is_set_against_the_same_proof_in_ample_stores() {
-        let ample = row(&WITHOUT_TUNED);
-        let mut least = row(&WITHOUT_TUNED);
-        least.input = "6 lessons, least".into();
-        least.runs[0].1.spans = vec![45.0];
-        let line = "| 6 lessons, least | 1,000 | 300 | 5 | 45.0 µs | 20.0 µs | 1.20 ms \
-                    | 1.50 | 2.25 | 3.0 µs |";
-        assert_eq!(least.packed([1_000, 300], 5, &ample), line);
-        let itself = "| 6 lessons | 2,000 | 600 | 0 | 30.0 µs | 20.0 µs | 1.20 ms \
-                      | 1.00 | 1.50 | – |";
-        assert_eq!(ample.packed([2_000, 600], 0, &ample), itself);
-    }
-
-    #[test]
     fn growth_and_memory() {
         for row in [row(&TWO), row(&ALL)] {
             assert_eq!(row.nanoseconds(Side::Engine, 400), "75.00");
@@ -364,7 +314,6 @@ mod tests {
             ("Gaps in ids", &GAPS),
             ("Worst accepted inputs", &WORST),
             ("Texts of solvers", &SOLVER_TEXTS),
-            ("Packing", &PACKING),
         ] {
             let (_, table) = page
                 .split_once(&format!("\n### {title}\n"))
@@ -386,7 +335,5 @@ mod tests {
         assert_eq!(cells(row(&ALL).against(&row(&ALL))), GAPS.len());
         assert_eq!(cells(row(&ALL).worst()), WORST.len());
         assert_eq!(cells(row(&SIDES).solver_text(0)), SOLVER_TEXTS.len());
-        let packed = row(&ALL).packed([0, 0], 0, &row(&ALL));
-        assert_eq!(cells(packed), PACKING.len());
     }
 }

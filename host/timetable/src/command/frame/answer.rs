@@ -1,7 +1,7 @@
 //! What a subcommand answers, and why it may not.
 
 use super::json::Json;
-use crate::engine::{Lent, Refusal};
+use crate::engine::Refusal;
 use crate::solver;
 use std::path::PathBuf;
 
@@ -56,14 +56,6 @@ impl Answer {
             product: Some(bytes),
             ..Answer::default()
         }
-    }
-
-    /// With what a check was lent said beside it, if it was lent anything.
-    pub fn lending(mut self, lent: Lent) -> Answer {
-        if lent != Lent::default() {
-            self.remarks += &format!("lent: {lent}\n");
-        }
-        self
     }
 
     /// Text for standard output.

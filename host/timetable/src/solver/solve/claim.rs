@@ -1,6 +1,6 @@
 //! What a proof is to show, and what that is for a solver and for the engine.
 
-use crate::engine::{self, Checked, Refusal};
+use crate::engine::{self, Refusal};
 use crate::solver::formula::Formula;
 use crate::solver::Fault;
 
@@ -42,8 +42,8 @@ impl Claim {
         }
     }
 
-    /// Has the engine check a proof of it.
-    pub fn check(self, file: &[u8], proof: &[u8]) -> Result<Checked, Refusal> {
+    /// Has the engine check a proof of it, and gives the number of steps.
+    pub fn check(self, file: &[u8], proof: &[u8]) -> Result<u64, Refusal> {
         match self {
             Claim::Bound(bound) => engine::check(file, bound, proof),
             Claim::AnyCost => engine::check_hard(file, proof),

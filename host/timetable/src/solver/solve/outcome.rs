@@ -1,7 +1,6 @@
 //! What a week came to.
 
 use super::claim::Claim;
-use crate::engine::Checked;
 use std::path::PathBuf;
 
 /// The best timetable so far, as the engine prices it.
@@ -18,7 +17,7 @@ pub struct Best {
 pub struct Refuted {
     pub claim: Claim,
     pub proof: PathBuf,
-    pub checked: Checked,
+    pub steps: u64,
 }
 
 /// What is known. Each cost is one that the engine decoded, each claim one that
@@ -81,8 +80,7 @@ impl Outcome {
 
 #[cfg(test)]
 mod tests {
-    use super::{Best, Checked, Claim, Outcome, Refuted};
-    use crate::engine::Lent;
+    use super::{Best, Claim, Outcome, Refuted};
     use std::path::PathBuf;
 
     fn outcome(cost: Option<u64>, claim: Option<Claim>) -> Outcome {
@@ -96,10 +94,7 @@ mod tests {
             refuted: claim.map(|claim| Refuted {
                 claim,
                 proof: path(),
-                checked: Checked {
-                    steps: 1,
-                    lent: Lent::default(),
-                },
+                steps: 1,
             }),
             ..Outcome::default()
         }

@@ -151,11 +151,11 @@ impl<'a> Week<'a> {
         };
         let path = self.folder.write(&format!("{name}.proof"), &steps.bytes)?;
         match claim.check(self.file, &steps.bytes) {
-            Ok(checked) => {
+            Ok(steps) => {
                 self.outcome.refuted = Some(Refuted {
                     claim,
                     proof: path,
-                    checked,
+                    steps,
                 });
                 Ok(true)
             }

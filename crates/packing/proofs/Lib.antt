@@ -1,3 +1,0 @@
-pub mod laws
-pub mod Moving
-pub mod Elements

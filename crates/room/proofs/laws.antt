@@ -1,2 +1,0 @@
--- Laws, for other crates to use.
-pub mod Room
