@@ -1,5 +1,5 @@
 -- The size of what stands before the constraints, by the tables.
-use Rattle.std.specs.Prelude.{ℕ, ◌-◌, ◌*◌, ◌≤◌, ◌<◌, ◌≡◌, List, length, get_or}
+use Rattle.std.specs.Prelude.{ℕ, ◌*◌, ◌≤◌, ◌<◌, ◌≡◌, List, length, get_or}
 use Rattle.scope.specs.Kinds.{Event, up_to, users}
 use Rattle.constraint.specs.declared.kinds.Head.{Head}
 use Rattle.sizing.specs.declared.Size.{Size}

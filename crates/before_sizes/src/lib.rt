@@ -1,3 +1,4 @@
+#![tactic(auto)]
 // The sizes of what stands before the constraints.
 mod before;
 

@@ -1,3 +1,4 @@
+#![tactic(auto)]
 // Whether a model is the best: it is decoded, and a proof is checked at the bound one below its cost.
 mod answer;
 

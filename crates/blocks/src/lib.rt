@@ -1,3 +1,4 @@
+#![tactic(auto)]
 // The blocks of the formula before its constraints: starts, uses, durations.
 mod durations;
 mod starts;

@@ -53,8 +53,8 @@ fn write_all_uses(
     v: u32,
 ) -> Sink
     requires { UserRows users.now × ((count ≤ 99) × ((times ≤ 125) × ((1 ≤ v) × (v + count * times ≤ 1073741824)))) }
-    ensures* { λ r. ⌜ Ran (step job model.now) (lines v (map gate (flat_map (λ r. use_gates times (users_at users.now r)) (up_to count))))
-        (world s text.old words.old) (world r text.new words.new) ⌝ }
+    ensures { Ran (step job model.now) (lines v (map gate (flat_map (λ r. use_gates times (users_at users.now r)) (up_to count))))
+        (world s text.old words.old) (world result text.new words.new) }
 {
     let mut z = s;
     let mut next = v;
@@ -81,8 +81,8 @@ pub fn write_uses(
     v: u32,
 ) -> Sink
     requires { UserRows users.now × ((count ≤ 99) × ((times ≤ 125) × ((1 ≤ v) × (v + count * times ≤ 1073741824)))) }
-    ensures* { λ r. ⌜ Ran (step job model.now) (lines v (map gate (flat_map (λ r. use_gates times (users_at users.now r)) (up_to count))))
-        (world s text.old words.old) (world r text.new words.new) ⌝ }
+    ensures { Ran (step job model.now) (lines v (map gate (flat_map (λ r. use_gates times (users_at users.now r)) (up_to count))))
+        (world s text.old words.old) (world result text.new words.new) }
 {
     if sink::skips(job) {
         return s;

@@ -2,7 +2,6 @@
 use Rattle.std.specs.Prelude.{◌≡◌, cond, ℕ, suc, ◌+◌, ◌-◌, leb, length, take, drop}
 use mathlib.Core.List.{List, [], ◌∷◌, ◌++◌, flat_map}
 use Rattle.std.proofs.lemmas.List.Edits.{sets}
-use Rattle.scope.specs.Formula.{words}
 use Rattle.directory.specs.declared.Row.{Row}
 use Rattle.directory.specs.Rows.{new_row}
 unfoldable pub use Rattle.sink.specs.Block.{mark}

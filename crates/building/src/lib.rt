@@ -1,3 +1,4 @@
+#![tactic(auto)]
 // The directory of a formula is built of its words, where each clause's last word is marked.
 ghost use Rattle.std.specs.Prelude.{◌≡◌, ◌++◌, ◌+◌, ◌≤◌, ◌<◌, min, length, take, drop};
 ghost use Rattle.std.proofs.Math.Seq.{slice};

@@ -10,7 +10,7 @@ use crate::period::{PeriodRead, limited_in, period_at};
 use number::Number;
 
 // A period of a day with the number of its time; 0 where there is none.
-#[derive(Drop)]
+#[derive(Clone, Copy)]
 pub struct Period {
     pub start: u32,
     pub end: u32,

@@ -9,7 +9,7 @@ use scope::Refusal;
 use scope::refusals::BAD_CALENDAR;
 
 // A start and an end, in minutes from midnight, with the offset after them; or a refusal.
-#[derive(Drop)]
+#[derive(Clone, Copy)]
 pub enum PeriodRead {
     Value(u32, u32, usize),
     Refused(Refusal),

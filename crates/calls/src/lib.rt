@@ -1,3 +1,4 @@
+#![tactic(auto)]
 // What an answer leaves with a caller in C: the number that is returned, *value and the other outputs.
 //
 // One function for each sort of answer, so that the exported functions are an operation and one of these. Its contract is one

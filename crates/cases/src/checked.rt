@@ -1,19 +1,20 @@
 // Checking a proof, with stores that are not zero before it.
 ghost use Rattle.std.specs.Prelude.{◌≤◌, length};
 
-use crate::fields::{after, field, number_field};
-use crate::{put, put_number, put_refusal};
+use crate::line_fields::{after, field, number_field};
+use crate::output::Output;
+use crate::put_refusal;
 use claims::claim::Claim;
 use directory::Row;
 use scope::CheckAnswer;
 
-fn put_answer(answer: CheckAnswer) {
+fn put_answer<P: Print>(out: &mut Output<P>, answer: CheckAnswer) {
     match answer {
         CheckAnswer::NoTimetable(steps) => {
-            put(b"no timetable ");
-            put_number(steps);
+            out.put(b"no timetable ");
+            out.put_number(steps);
         }
-        CheckAnswer::Refused(f) => put_refusal(f),
+        CheckAnswer::Refused(f) => put_refusal(out, f),
     }
 }
 
@@ -36,11 +37,11 @@ fn zero_bytes(bytes: &[u8], n: usize) -> bool {
     true
 }
 
-fn put_zero(words: bool, bytes: bool) {
+fn put_zero<P: Print>(out: &mut Output<P>, words: bool, bytes: bool) {
     if words && bytes {
-        put(b", stores zero\n");
+        out.put(b", stores zero\n");
     } else {
-        put(b", stores not zero\n");
+        out.put(b", stores not zero\n");
     }
 }
 
@@ -82,13 +83,24 @@ fn check_part(
 }
 
 // The answer for a claim and a proof, where so many words, rows and bytes are lent.
-fn put_claim(file: &[u8], claim: Claim, proof: &[u8], words: usize, rows: usize, bytes: usize)
+fn put_claim<P: Print>(
+    out: &mut Output<P>,
+    file: &[u8],
+    claim: Claim,
+    proof: &[u8],
+    words: usize,
+    rows: usize,
+    bytes: usize,
+)
     requires { (words ≤ 2048) × (rows ≤ 1024) × (bytes ≤ 256) }
 {
     let mut w = [4294967295; 2048];
     let mut b = [255; 256];
-    put_answer(check_part(file, claim, proof, &mut w, words, rows, &mut b, bytes));
-    put_zero(zero_words(&w, words), zero_bytes(&b, bytes));
+    put_answer(
+        out,
+        check_part(file, claim, proof, &mut w, words, rows, &mut b, bytes),
+    );
+    put_zero(out, zero_words(&w, words), zero_bytes(&b, bytes));
 }
 
 // A number of words, rows or bytes, up to the most that there are.
@@ -102,7 +114,14 @@ fn at_most(n: u64, most: usize) -> usize
 }
 
 // A claim about a file, with the fields that follow: the proof, the words, rows and bytes that are lent.
-fn claim_line(text: &mut [u8], from: usize, to: usize, claim: Claim, at: usize) -> usize
+fn claim_line<P: Print>(
+    out: &mut Output<P>,
+    text: &mut [u8],
+    from: usize,
+    to: usize,
+    claim: Claim,
+    at: usize,
+) -> usize
     requires { (from ≤ to) × (to ≤ length text.old) × (at ≤ length text.old) }
     ensures { result ≤ length text.new }
 {
@@ -113,6 +132,7 @@ fn claim_line(text: &mut [u8], from: usize, to: usize, claim: Claim, at: usize) 
     let d = number_field(text, w.next);
     let b = number_field(text, d.next);
     put_claim(
+        out,
         &text[from..to],
         claim,
         &text[at..end],
@@ -124,7 +144,7 @@ fn claim_line(text: &mut [u8], from: usize, to: usize, claim: Claim, at: usize) 
 }
 
 // The file and the bound.
-pub fn check_line(text: &mut [u8], at: usize) -> usize
+pub fn check_line<P: Print>(out: &mut Output<P>, text: &mut [u8], at: usize) -> usize
     requires { at ≤ length text.old }
     ensures { result ≤ length text.new }
 {
@@ -132,16 +152,16 @@ pub fn check_line(text: &mut [u8], at: usize) -> usize
     let end = at + n;
     let next = after(text, at, n);
     let bound = number_field(text, next);
-    claim_line(text, at, end, Claim::Bound(bound.value), bound.next)
+    claim_line(out, text, at, end, Claim::Bound(bound.value), bound.next)
 }
 
 // The file, at any cost.
-pub fn hard_line(text: &mut [u8], at: usize) -> usize
+pub fn hard_line<P: Print>(out: &mut Output<P>, text: &mut [u8], at: usize) -> usize
     requires { at ≤ length text.old }
     ensures { result ≤ length text.new }
 {
     let n = field(text, at);
     let end = at + n;
     let next = after(text, at, n);
-    claim_line(text, at, end, Claim::AnyCost, next)
+    claim_line(out, text, at, end, Claim::AnyCost, next)
 }

@@ -1,87 +1,91 @@
 // Cases of the operations. Each line of the input is a name, a letter for the operation and fields of hexadecimal digits; for each a
 // line with the name and the answer is printed. The answers in stdout come from a reading of document 01 that knows nothing of this
 // code.
+#![tactic(auto)]
+
 mod checked;
-mod fields;
+mod line_fields;
+mod output;
 mod scored;
 
-ghost use Rattle.std.specs.Prelude.{◌≤◌, length};
+ghost use Rattle.std.specs.Prelude.{◌≡◌, ◌≤◌, length};
 
-use fields::{colon, past};
-use libc::{STDIN_FILENO, STDOUT_FILENO};
+use input::read_full;
+use line_fields::{colon, past};
+use output::Output;
 use scope::Refusal;
+use std::io;
 
-fn put(text: &[u8]) {
-    io::write_all(STDOUT_FILENO, text);
+// 65,536 zeros.
+fn large_buffer() -> [u8; 65536]
+    ensures { 65536 ≡ length result }
+{
+    [0; 65536]
 }
 
-fn put_number(n: u64) {
-    io::print_decimal(STDOUT_FILENO, n);
+fn put_pair<P: Print>(out: &mut Output<P>, word: &[u8], a: u64, b: u64) {
+    out.put(word);
+    out.put_number(a);
+    out.put(b" ");
+    out.put_number(b);
 }
 
-fn put_pair(word: &[u8], a: u64, b: u64) {
-    put(word);
-    put_number(a);
-    put(b" ");
-    put_number(b);
-}
-
-fn put_refusal(f: Refusal) {
-    put_pair(b"refused ", f.number as u64, f.value);
+fn put_refusal<P: Print>(out: &mut Output<P>, f: Refusal) {
+    put_pair(out, b"refused ", f.number as u64, f.value);
 }
 
 // The operation that a letter stands for, on the fields from a place on; where the next line begins.
-fn answer(letter: u8, text: &mut [u8], at: usize) -> usize
+fn answer<P: Print>(out: &mut Output<P>, letter: u8, text: &mut [u8], at: usize) -> usize
     requires { at ≤ length text.old }
     ensures { result ≤ length text.new }
 {
     if letter == b'r' {
-        return scored::read_line(text, at);
+        return scored::read_line(out, text, at);
     }
     if letter == b's' {
-        return scored::score_line(text, at);
+        return scored::score_line(out, text, at);
     }
     if letter == b'e' {
-        return scored::sheet_line(text, at);
+        return scored::sheet_line(out, text, at);
     }
     if letter == b't' {
-        return scored::text_line(text, at);
+        return scored::text_line(out, text, at);
     }
     if letter == b'd' {
-        return scored::decode_line(text, at);
+        return scored::decode_line(out, text, at);
     }
     if letter == b'c' {
-        return checked::check_line(text, at);
+        return checked::check_line(out, text, at);
     }
     if letter == b'h' {
-        return checked::hard_line(text, at);
+        return checked::hard_line(out, text, at);
     }
-    put(b"no such operation\n");
+    out.put(b"no such operation\n");
     text.len()
 }
 
 // The line at a place; where the next one begins.
-fn line(text: &mut [u8], at: usize) -> usize
+fn line<P: Print>(out: &mut Output<P>, text: &mut [u8], at: usize) -> usize
     requires { at ≤ length text.old }
     ensures { result ≤ length text.new }
 {
     let end = colon(text, at);
-    put(&text[at..end]);
-    put(b": ");
+    out.put(&text[at..end]);
+    out.put(b": ");
     let place = past(end, 2, text.len());
     if place == text.len() {
         return place;
     }
     let letter = text[place];
     let start = past(place, 2, text.len());
-    answer(letter, text, start)
+    answer(out, letter, text, start)
 }
 
 // The answer to each line, in turn.
-fn lines(text: &mut [u8]) {
+fn lines<P: Print>(out: &mut Output<P>, text: &mut [u8]) {
     let mut at: usize = 0;
     while at < text.len() {
-        let next = line(text, at);
+        let next = line(out, text, at);
         if next <= at {
             return;
         }
@@ -89,8 +93,10 @@ fn lines(text: &mut [u8]) {
     }
 }
 
-fn main() {
-    let mut text = io::large_buffer();
-    let n = io::read_full(STDIN_FILENO, &mut text);
-    lines(&mut text[..n]);
+fn main(rt: HostRuntime) -> io::Result<()> {
+    let mut text = large_buffer();
+    let n = read_full(&mut rt.reader(), &mut text)?;
+    let mut out = Output::new(&rt);
+    lines(&mut out, &mut text[..n]);
+    out.end()
 }

@@ -7,7 +7,7 @@ use list_nodes::{store_either, store_until, store_with};
 
 // Where the walk stands: how many of the next times can be reached from times outside the group, the next variable, the variable
 // of the last member, where the nodes end in the words, how many members there are.
-#[derive(Drop)]
+#[derive(Clone, Copy)]
 pub struct Walk {
     pub near: u32,
     pub next: u32,

@@ -1,3 +1,4 @@
+#![tactic(auto)]
 // The lists whose nodes refer to the node of the time before or after: of kind 3 (carried, preferred), and of kind 11.
 mod carried;
 mod gap_nodes;

@@ -60,7 +60,7 @@ pub fn fill_preferred(
     requires { Ground groups.now head × (InRange (counts_in head) (preferred f.event f.group) × ((length durations.now ≡ 1024)
         × ((length out.old ≡ 34816)
         × (v + length (list_in durations.now (λ r. []) groups.now head (preferred f.event f.group) 1).nodes ≤ 8000001)))) }
-    ensures* { λ r. ⌜ Stored (num_of head) (list_in durations.now (λ r. []) groups.now head (preferred f.event f.group) 1) v out.new r ⌝ }
+    ensures { Stored (num_of head) (list_in durations.now (λ r. []) groups.now head (preferred f.event f.group) 1) v out.new result }
 {
     let mut members = [0u32; 125];
     let l = literals::numbering(head.times, head.events, head.resources);

@@ -1,3 +1,1 @@
 pub mod laws
-pub mod Values
-pub mod Calling

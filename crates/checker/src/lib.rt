@@ -1,3 +1,4 @@
+#![tactic(auto)]
 // The operation that checks a proof, at a bound or without the tail.
 mod answer;
 

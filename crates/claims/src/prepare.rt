@@ -16,7 +16,7 @@ use sizes::{Bounded, Measured, measure, measure_bound};
 use sizing::blocks::stored_size;
 
 // A formula of so many words, with its last variable; or a refusal.
-#[derive(Drop)]
+#[derive(Clone, Copy)]
 pub enum Ready {
     Formula(usize, usize),
     Refused(Refusal),

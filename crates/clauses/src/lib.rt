@@ -1,3 +1,4 @@
+#![tactic(auto)]
 // The clauses of an instance's formula, in the order of document 01.
 mod before;
 mod formula;

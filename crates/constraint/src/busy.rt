@@ -6,7 +6,7 @@ ghost use Rattle.constraint.specs.Answers.{kind_of};
 use crate::kinds::Kind;
 use fields::Flat;
 
-#[derive(Drop)]
+#[derive(Clone, Copy)]
 pub struct Busy {
     pub resource: u32,
     pub group: u32,

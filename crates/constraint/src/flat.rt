@@ -9,7 +9,7 @@ use number::{Number, limited, refusal_of};
 use scope::Refusal;
 
 // The kind from 1 to 11, the weight, and the fields in the order in which they were read.
-#[derive(Drop)]
+#[derive(Clone, Copy)]
 pub struct FlatConstraint {
     pub kind: u32,
     pub weight: u32,
@@ -17,7 +17,7 @@ pub struct FlatConstraint {
 }
 
 // A constraint with the offset after it, or a refusal.
-#[derive(Drop)]
+#[derive(Clone, Copy)]
 pub enum FlatNext {
     Read(FlatConstraint, usize),
     Refused(Refusal),

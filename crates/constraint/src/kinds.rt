@@ -16,7 +16,7 @@ use crate::spread::Spread;
 use crate::unavailable::Unavailable;
 use scope::Refusal;
 
-#[derive(Drop)]
+#[derive(Clone, Copy)]
 pub enum Kind {
     Clash(Clash),
     Unavailable(Unavailable),
@@ -32,14 +32,14 @@ pub enum Kind {
 }
 
 // The weight 0 means hard.
-#[derive(Drop)]
+#[derive(Clone, Copy)]
 pub struct Constraint {
     pub weight: u32,
     pub kind: Kind,
 }
 
 // What an instance file has before its constraints, and the offset of the first of them.
-#[derive(Drop)]
+#[derive(Clone, Copy)]
 pub struct Head {
     pub times: u32,
     pub events: u32,
@@ -50,14 +50,14 @@ pub struct Head {
 }
 
 // A constraint with the offset after it, or a refusal.
-#[derive(Drop)]
+#[derive(Clone, Copy)]
 pub enum Next {
     Read(Constraint, usize),
     Refused(Refusal),
 }
 
 // lo and hi as written, and whether a count of 0 is free of charge.
-#[derive(Drop)]
+#[derive(Clone, Copy)]
 pub struct Bounds {
     pub lo: u32,
     pub hi: u32,

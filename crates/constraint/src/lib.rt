@@ -1,3 +1,4 @@
+#![tactic(auto)]
 // The constraints of an instance. They stay in the file, and are decoded one at a time: into a flat struct of numbers, and into a
 // kind with its fields.
 mod busy;

@@ -1,6 +1,6 @@
 // A resource over a list of groups: a cluster's fields and an idle limit's.
 
-#[derive(Drop)]
+#[derive(Clone, Copy)]
 pub struct OverGroups {
     pub resource: u32,
     pub groups: u32,

@@ -7,7 +7,7 @@ ghost use Rattle.constraint.specs.Answers.{kind_of};
 use crate::kinds::Kind;
 use fields::Flat;
 
-#[derive(Drop)]
+#[derive(Clone, Copy)]
 pub struct Spread {
     pub events: u32,
     pub group: u32,

@@ -1,5 +1,5 @@
 -- Where a list that was read ends, for a reader that keeps none of its members.
-use Rattle.std.specs.Prelude.{ℕ, ◌-◌, List, leb, length}
+use Rattle.std.specs.Prelude.{ℕ, List, leb, length}
 use Rattle.scope.specs.Parsed.{Parsed, got, refused, and_then, unless, repeat}
 
 -- the end alone

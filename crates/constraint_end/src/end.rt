@@ -7,7 +7,7 @@ ghost use Rattle.constraint_end.specs.End.{end_of};
 use crate::fault::fault_of;
 use fields::Flat;
 
-#[derive(Drop)]
+#[derive(Clone, Copy)]
 pub struct End {
     pub fault: u8,
     pub lo: u32,

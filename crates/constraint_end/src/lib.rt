@@ -1,3 +1,4 @@
+#![tactic(auto)]
 // A constraint as it stands in the file, checked at its end: the length of its counted list (4), whether its two events are one (19),
 // its bounds and the order of its lengths or of its gap's bounds (5).
 mod busy;

@@ -1,2 +1,3 @@
+#![tactic(auto)]
 // The literals of a clause are copied from a proof into the words. specs/ says what is copied.
 pub mod literals;

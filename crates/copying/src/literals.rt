@@ -7,7 +7,7 @@ use number::Number;
 use reader::{moved, over, read_number};
 
 // Literals that are being copied: whether it goes on, where the next one stands, and the word that it goes to.
-#[derive(Drop)]
+#[derive(Clone, Copy)]
 pub struct Copying {
     pub more: bool,
     pub at: usize,

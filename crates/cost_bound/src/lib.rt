@@ -1,3 +1,4 @@
+#![tactic(auto)]
 // A decoded cost against bounds: the claim that is to be checked, and what the check makes of the cost.
 ghost use Rattle.std.specs.Prelude.{◌≡◌, leb};
 ghost use Rattle.cost_bound.specs.Claimed.{claim_for, shown_for, judged};

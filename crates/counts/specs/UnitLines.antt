@@ -1,5 +1,5 @@
 -- The lines of a counted list's bounds: what the writers' loops keep.
-use Rattle.std.specs.Prelude.{Bool, true, false, List, [], ◌∷◌, ◌++◌, ℕ, zero, suc, ◌+◌, ◌-◌}
+use Rattle.std.specs.Prelude.{Bool, true, false, List, [], ◌∷◌, ◌++◌, ℕ, zero, suc}
 use Rattle.scope.specs.Cnf.{neg, opp, and, gate}
 use Rattle.sink.specs.Lines.{Line, lines}
 use Rattle.gates.specs.Units.{unit_line}

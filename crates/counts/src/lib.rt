@@ -1,3 +1,4 @@
+#![tactic(auto)]
 // Counted lists: a counter and the units of its bounds.
 ghost use Rattle.std.specs.Prelude.{◌≡◌, true, false, ◌+◌, ◌-◌, ◌*◌, ◌≤◌, ◌<◌, length};
 ghost use Rattle.scope.specs.Formula.{high_units, short_units, count_into};

@@ -1,3 +1,4 @@
+#![tactic(auto)]
 // What an evaluation of a model leaves with a caller in C.
 ghost use Rattle.std.specs.Prelude.{◌≡◌};
 ghost use Rattle.calls.specs.Call.{call};

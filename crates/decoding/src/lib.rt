@@ -1,3 +1,4 @@
+#![tactic(auto)]
 // Decoding a model: the part of its bytes that holds Y and S, with its cost. proofs/laws/Demand.antt shows demand 2 of the answers.
 ghost use Rattle.std.specs.Prelude.{◌≡◌};
 ghost use Rattle.scope.specs.Operations.{decode_of};
@@ -9,7 +10,7 @@ use model::evaluate;
 use scope::DecodeAnswer;
 
 // What decoding gives: the part of the model that holds Y and S, with its cost; or an empty part, with the refusal.
-#[derive(Drop)]
+#[derive(Clone, Copy)]
 pub struct Decoding<'a> {
     pub part: &'a [u8],
     pub answer: DecodeAnswer,

@@ -1,2 +1,3 @@
+#![tactic(auto)]
 // An id to delete is passed, with the row that was found for it. specs/ says what comes next.
 pub mod ids;

@@ -9,7 +9,7 @@ use crate::rows::{row_of, starts_of};
 use constraint::Head;
 
 // The lengths that are wanted: those from one to another, or all outside them.
-#[derive(Drop)]
+#[derive(Clone, Copy)]
 pub struct Wanted {
     pub from: u32,
     pub to: u32,
@@ -18,7 +18,7 @@ pub struct Wanted {
 
 // A walk back over an event's times: how many subevents have a wanted length, and how many times, from the last one passed
 // on, go on with the subevent before them: taken and no start, one after another.
-#[derive(Drop)]
+#[derive(Clone, Copy)]
 pub struct Runs {
     pub count: u32,
     pub run: u32,

@@ -1,5 +1,5 @@
 -- The last digits of a number, and how many digits it has.
-use Rattle.std.specs.Prelude.{List, [], ◌∷◌, ◌++◌, ℕ, zero, suc, ◌+◌, ◌-◌, ◌/◌, ◌%◌}
+use Rattle.std.specs.Prelude.{List, [], ◌∷◌, ◌++◌, ℕ, zero, suc, ◌+◌, ◌/◌, ◌%◌}
 
 -- the last k digits of n, with zeros in front
 abbrev pub last_digits : ℕ → ℕ → List ℕ

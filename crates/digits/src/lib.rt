@@ -1,3 +1,4 @@
+#![tactic(auto)]
 // Decimal numbers and literals in a lent output, in two forms: with a test for each byte, and without, where there is room.
 ghost use Rattle.std.specs.Prelude.{◌≡◌, [], ◌∷◌, ◌+◌, ◌-◌, ◌%◌, ◌≤◌, ◌<◌, length};
 ghost use Rattle.std.proofs.lemmas.List.Edits.{sets};

@@ -9,7 +9,7 @@ ghost use Rattle.digits.specs.Spelled.{four_bytes, Spelt};
 
 // A number, and its digits with a space after them: their first four bytes and their last four, which may be some of the
 // first, the lowest byte of each first, and how many they are. Where they are two or three, all stand in the first.
-#[derive(Drop)]
+#[derive(Clone, Copy)]
 pub struct Spelled {
     pub value: u32,
     pub first: u32,

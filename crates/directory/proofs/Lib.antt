@@ -1,3 +1,2 @@
 pub mod laws
-pub mod Elements
 pub mod Exact

@@ -1,3 +1,4 @@
+#![tactic(auto)]
 // The directory: a row for each clause, in ascending order of their ids. The code of other crates makes rows and looks into them
 // by the functions here alone, but for the program cases, which lends rows of its own; definitions and laws name a row's parts.
 ghost use Rattle.std.specs.Prelude.{◌≡◌, ◌%◌, length, set, replicate};
@@ -6,7 +7,7 @@ ghost use Rattle.directory.specs.Directory.{with_dead};
 
 // A clause's id, its first word within a block of 2^32 words, its length, and 0 if it is dead, else 1 and the number of that block.
 #[repr(C)]
-#[derive(Drop)]
+#[derive(Clone, Copy)]
 pub struct Row {
     pub id: u32,
     pub first: u32,

@@ -1,3 +1,4 @@
+#![tactic(auto)]
 // The engine's operations as C functions, which include/timetable.h declares.
 //
 // Each but the idle step, which refuses nothing, answers 0 if it is accepted, and else the number of the first refusal in document

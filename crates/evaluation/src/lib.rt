@@ -1,3 +1,4 @@
+#![tactic(auto)]
 // What is told of an evaluated model, and the part and the answer that decoding makes of it.
 ghost use Rattle.std.specs.Prelude.{◌≡◌};
 ghost use Rattle.evaluation.specs.Evaluated.{judged_of, part_of, answer_of};
@@ -6,7 +7,7 @@ use scope::refusals::CLAUSE_FALSE;
 use scope::{DecodeAnswer, Objective, Refusal};
 
 // How many bytes of the model hold Y and S, with the weight of the soft clauses that it falsifies; or a refusal.
-#[derive(Drop)]
+#[derive(Clone, Copy)]
 pub enum Evaluation {
     Holds(usize, Objective),
     Refused(Refusal),

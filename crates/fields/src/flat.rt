@@ -3,7 +3,7 @@ ghost use Rattle.std.specs.Prelude.{◌≡◌};
 ghost use Rattle.fields.specs.Flat.{pushed, put_or};
 
 // The last four numbers that were read, the latest in d, and the length of the list.
-#[derive(Drop)]
+#[derive(Clone, Copy)]
 pub struct Flat {
     pub a: u32,
     pub b: u32,

@@ -1,3 +1,4 @@
+#![tactic(auto)]
 // The fields of a constraint of each kind, read by one table into a flat struct of numbers. A list stands in a store beside.
 mod field;
 mod flat;

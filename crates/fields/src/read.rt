@@ -11,7 +11,7 @@ use number::{Number, limited, refusal_of};
 use scope::Refusal;
 
 // The fields with the offset after them, or a refusal.
-#[derive(Drop)]
+#[derive(Clone, Copy)]
 pub enum FlatRead {
     Read(Flat, usize),
     Refused(Refusal),

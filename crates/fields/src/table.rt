@@ -3,7 +3,7 @@ ghost use Rattle.std.specs.Prelude.{◌≡◌};
 ghost use Rattle.fields.specs.Table.{things_of, second_listed};
 
 // How many things there are to refer to.
-#[derive(Drop)]
+#[derive(Clone, Copy)]
 pub struct Totals {
     pub times: u32,
     pub events: u32,

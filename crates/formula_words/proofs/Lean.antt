@@ -1,5 +1,5 @@
 -- Sizes with at most 385 words for each variable, and some more.
-use mathlib.Core.Path.{◌≡◌, refl}
+use mathlib.Core.Path.{refl}
 use mathlib.Core.Bool.{Bool, true, false, cond}
 use Prim.Native.Nat.{ℕ, zero, suc, ◌+◌, ◌-◌, ◌*◌, ◌≤◌}
 use native.Mathlib.Nat.{mul-le-mul_left}
@@ -8,7 +8,7 @@ use lib.Dec.{eqb}
 use Rattle.scope.specs.Formula.{columns}
 use Rattle.sizing.specs.declared.Size.{Size}
 use Rattle.sizing.specs.Sums.{none, sum, multiple, Within}
-use Rattle.sizing.specs.Gates.{or_size, soft_size, hard_unit, unit_size}
+use Rattle.sizing.specs.Gates.{hard_unit}
 use Rattle.sizing.specs.Rows.{first_row, later_row, equal_rows}
 use Rattle.sizing.specs.NodeSizes.{node_sizes}
 use Rattle.sizing.specs.Tail.{tail_add}

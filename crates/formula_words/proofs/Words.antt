@@ -2,33 +2,34 @@
 use mathlib.Core.Path.{◌≡◌, refl, ap}
 use mathlib.Core.Bool.{Bool, true, false, cond}
 use mathlib.Core.List.{List, [], ◌∷◌, map}
-use Prim.Native.Nat.{ℕ, zero, suc, ◌+◌, ◌-◌, ◌*◌, ◌≤◌, ◌<◌}
+use Prim.Native.Nat.{ℕ, zero, suc, ◌+◌, ◌-◌, ◌*◌, ◌≤◌}
 use native.Mathlib.Omega.{arith}
 use lib.Dec.{ltb}
-use lib.ListN.{length, get_or, length-map, get_or-eq_default}
+use lib.ListN.{length, get_or-eq_default}
 use borrow.Author.Tests.{ltb-true, ltb-false}
 use Rattle.laws.specs.Lists.{All, All-at}
-use Rattle.scope.specs.Kinds.{Event, Constraint, Listed, Counted, Rule, rule, member, from, up_to, duration_of, users, users_from, group_at, counted_of}
+use Rattle.scope.specs.Kinds.{Event, Constraint, Listed, Counted, rule, member, from, up_to, duration_of, users, users_from, group_at, counted_of}
 use Rattle.scope.specs.Instance.{Instance}
-use Rattle.scope.specs.Score.{event_count, rules}
+use Rattle.scope.specs.Score.{event_count}
 use Rattle.scope.specs.Formula.{words, variables, hard_of, bounded_variables, bounded_hard}
 use Rattle.scope.specs.declared.FormulaSize.{FormulaSize}
 use Rattle.parsing.specs.Numbers.{Ascending}
 use Rattle.parsing.proofs.laws.Numbers.{ascending-length}
 use Rattle.theory.specs.Accepted.{ValidInstance}
 use Rattle.sizing.specs.declared.Size.{Size}
-use Rattle.sizing.specs.Sums.{none, sum, multiple, Within}
+use Rattle.sizing.specs.Sums.{none, multiple, Within}
 use Rattle.sizing.proofs.laws.Sums.{within_more, within-multiple}
 use Rattle.sizing.specs.Gates.{or_size}
-use Rattle.sizing.specs.Blocks.{starts_size, use_size}
+use Rattle.sizing.specs.Blocks.{use_size}
 use Rattle.sizing.specs.Counts.{list_size}
 use Rattle.sizing.proofs.laws.Limits.{or-within, starts-within}
+use Rattle.sizing.specs.Tail.{tail_add}
 use Rattle.sizing.specs.Whole.{stored}
 use Rattle.measuring.specs.Rules.{rule_size, rules_size}
 use Rattle.measuring.specs.Blocks.{uses_size, durations_size}
-use Rattle.measuring.specs.Whole.{weighed_rules, constraint_size, constraints_size, before_size, whole_size, tail_after, tail_of}
+use Rattle.measuring.specs.Whole.{constraint_size, constraints_size, before_size, whole_size, tail_after, tail_of}
 use Rattle.measuring.proofs.laws.Whole.{formula_of, whole-size, bounded_size}
-use Rattle.formula_words.proofs.Inputs.{Modest, Few, kind_few}
+use Rattle.formula_words.proofs.Inputs.{Modest, kind_few}
 use Rattle.formula_words.proofs.Lean.{Lean, lean-more, lean-none, lean-sum, lean-within, count-lean, nodes-lean, tail-lean}
 
 -- no more events use a resource than there are
@@ -108,7 +109,7 @@ module _ (i : Instance) (v : ValidInstance i) where
   tail-after : (cols : ℕ) (s : Size) (cs : List Constraint) → Lean 1 s → Lean 1 (tail_after i cols s cs)
   unfolding tail_after
   tail-after cols s [] l = l
-  tail-after cols s (c ∷ cs) l = tail-after cols _ cs (tail-lean cols s (constraint_size i c).units c.weight l)
+  tail-after cols s (c ∷ cs) l = tail-after cols (tail_add cols s (constraint_size i c).units c.weight) cs (tail-lean cols s (constraint_size i c).units c.weight l)
 
   -- without the tail
   pub hard_words : variables i ≤ 8000000 → words (hard_of i) ≤ 4294967295

@@ -1,3 +1,4 @@
+#![tactic(auto)]
 // The writers of a start, of kind 6's variable and of a unit.
 pub mod clauses;
 pub mod units;

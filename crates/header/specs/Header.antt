@@ -1,5 +1,5 @@
 -- The header's bytes for three numbers, and their length.
-use Rattle.std.specs.Prelude.{List, ◌++◌, ℕ, ◌+◌}
+use Rattle.std.specs.Prelude.{List, ◌++◌, ℕ}
 use Rattle.scope.specs.Text.{decimal, header, space, newline}
 
 -- "p wcnf V C top"

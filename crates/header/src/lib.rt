@@ -1,3 +1,4 @@
+#![tactic(auto)]
 // The header "p wcnf V C top".
 ghost use Rattle.std.specs.Prelude.{◌≡◌, ◌≤◌, length, ◌++◌};
 ghost use Rattle.scope.specs.Text.{decimal};

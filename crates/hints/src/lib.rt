@@ -1,2 +1,3 @@
+#![tactic(auto)]
 // The machine that judges a proof, id by id. specs/ says what each turn makes of it.
 pub mod machine;

@@ -16,7 +16,7 @@ use standing::{Standing, standing_of, wipe_clause};
 use trail::record_literal;
 
 // What is to be done next.
-#[derive(Drop)]
+#[derive(Clone, Copy)]
 pub enum Phase {
     // A step is to be read.
     Next,
@@ -51,7 +51,7 @@ pub const END: u8 = 5;
 
 // A phase, where the next number of the proof stands, the id that is wanted, and how many literals the trail of the step at hand
 // holds: those that its hints set true; the largest number where it has no room for them.
-#[derive(Drop)]
+#[derive(Clone, Copy)]
 pub struct Machine {
     pub phase: Phase,
     pub at: usize,

@@ -1,5 +1,5 @@
 -- A directory that was built holds its formula.
-use Rattle.std.specs.Prelude.{List, [], ◌∷◌, ℕ, ◌-◌, ◌≤◌, length}
+use Rattle.std.specs.Prelude.{List, [], ◌∷◌, ℕ, ◌≤◌, length}
 use Rattle.scope.specs.Formula.{words}
 use Rattle.holding.specs.Holding.{All}
 

@@ -1,5 +1,5 @@
 -- What holds of a store between two steps: rows in order over words that are used, and literals of the formula's variables.
-use Rattle.std.specs.Prelude.{List, [], ◌∷◌, ℕ, ◌-◌, ◌/◌, ◌≤◌}
+use Rattle.std.specs.Prelude.{List, [], ◌∷◌, ℕ, ◌/◌, ◌≤◌}
 
 -- P of every literal of a clause
 abbrev pub All : (ℕ → Type 0) → List ℕ → Type 0

@@ -1,3 +1,4 @@
+#![tactic(auto)]
 // A walk over a group's members counts the idle times, which are members without X between members with X. It is nothing but this
 // step.
 ghost use Rattle.std.specs.Prelude.{◌≡◌, ◌≤◌};

@@ -1,3 +1,4 @@
+#![tactic(auto)]
 // The instance file: its tables filled, its constraints checked one by one, refusals 1 to 6, 19 and 22 in file order.
 mod answer;
 mod reader;

@@ -16,7 +16,7 @@ use table_lists::events_at;
 use windows::all_groups_at;
 
 // How many times, events, resources and groups there are.
-#[derive(Drop)]
+#[derive(Clone, Copy)]
 pub struct Sizes {
     pub times: u32,
     pub events: u32,
@@ -25,14 +25,14 @@ pub struct Sizes {
 }
 
 // Sizes with the offset after what was read, or a refusal.
-#[derive(Drop)]
+#[derive(Clone, Copy)]
 pub enum SizesRead {
     Value(Sizes, usize),
     Refused(Refusal),
 }
 
 // A whole file, read into the tables: 1 to 6, 19 and 22, or what its head says.
-#[derive(Drop)]
+#[derive(Clone, Copy)]
 pub enum File {
     Accepted(Head),
     Refused(Refusal),

@@ -1,3 +1,4 @@
+#![tactic(auto)]
 // Items that a writer ran, and the writer of a counted list by its bounds as written.
 ghost use Rattle.std.specs.Prelude.{◌≡◌, ◌+◌, ◌-◌, ◌*◌, ◌≤◌, ◌<◌, min, length};
 ghost use Rattle.scope.specs.Formula.{columns as columns_of};
@@ -10,7 +11,7 @@ use constraint::Bounds;
 use sink::{Job, Sink};
 
 // A sink, and the variable after those of the items that were written.
-#[derive(Drop)]
+#[derive(Clone, Copy)]
 pub struct Written {
     pub sink: Sink,
     pub next: u32,

@@ -1,3 +1,4 @@
+#![tactic(auto)]
 // Whether lent stores are long enough for a formula.
 ghost use Rattle.std.specs.Prelude.{◌≡◌};
 ghost use Rattle.lent.specs.Room.{lent, size_fits};

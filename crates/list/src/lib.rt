@@ -1,3 +1,4 @@
+#![tactic(auto)]
 // A constraint's counted lists, filled into a lent store of words: the nodes one after another, and after the nodes the members.
 mod by_kind;
 

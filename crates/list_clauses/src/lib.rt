@@ -1,3 +1,4 @@
+#![tactic(auto)]
 // A list of nodes and members that stands in a store of words, whatever its kind.
 pub mod list;
 pub mod nodes;

@@ -1,5 +1,5 @@
 -- What a list is filled from: the sizes of an instance, and the rows of its groups.
-use Rattle.std.specs.Prelude.{ℕ, ◌-◌, ◌≤◌, ◌<◌, List}
+use Rattle.std.specs.Prelude.{ℕ, ◌≤◌, ◌<◌, List}
 use Rattle.scope.specs.declared.Layout.{Layout}
 use Rattle.scope.specs.Score.{layout_at}
 use Rattle.parsing.specs.Numbers.{Ascending}

@@ -2,7 +2,7 @@
 ghost use Rattle.std.specs.Prelude.{◌≡◌};
 
 // How many nodes there are, where the members begin in the words, and where they end.
-#[derive(Drop)]
+#[derive(Clone, Copy)]
 pub struct Filled {
     pub nodes: usize,
     pub at: usize,

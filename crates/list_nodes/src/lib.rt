@@ -1,3 +1,4 @@
+#![tactic(auto)]
 // What a filled list has, and its nodes: each a head word with the number of its inputs, then its long clause.
 mod filled;
 mod node;

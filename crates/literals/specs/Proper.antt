@@ -1,5 +1,5 @@
 -- The gathered literals are literals of variables, and fit a word with a bit to spare.
-use Rattle.std.specs.Prelude.{ℕ, ◌-◌, ◌≤◌, ◌<◌}
+use Rattle.std.specs.Prelude.{ℕ, ◌≤◌, ◌<◌}
 
 -- a literal of a variable
 pub record Proper (l : ℕ) : Type 0 where

@@ -1,5 +1,5 @@
 -- Lists at the front of a lent slice of words.
-use Rattle.std.specs.Prelude.{ℕ, ◌-◌, ◌≡◌, List, [], ◌∷◌, Bool, false, cond, eqb, length, take}
+use Rattle.std.specs.Prelude.{ℕ, ◌≡◌, List, [], ◌∷◌, Bool, false, cond, eqb, length, take}
 
 -- k is 1 where b is true, else 0
 pub record Indicator (b : Bool) (k : ℕ) : Type 0 where

@@ -1,3 +1,4 @@
+#![tactic(auto)]
 // The literals of the formula's lists, gathered from the tables of an instance into a lent slice of words. Each function that
 // gathers answers how many literals there are; they stand at the front of the slice.
 mod events;

@@ -1,4 +1,3 @@
 pub mod laws
 pub mod Search
 pub mod Looks
-pub mod Elements

@@ -1,3 +1,4 @@
+#![tactic(auto)]
 // A clause's row is found by its id.
 ghost use Rattle.std.specs.Prelude.{◌≡◌, ◌≤◌, ◌<◌, min};
 ghost use Rattle.lookup.specs.Lookup.{started, halving, ended, narrowed, look_up};
@@ -6,7 +7,7 @@ use directory::{Row, id_of, no_row};
 
 // Where a search stands: the row is in lo..hi if it is anywhere, at is looked at next, and hit is the row once it is met. The
 // first look is a guess from the id, and guess is 1 before it, then 0.
-#[derive(Drop)]
+#[derive(Clone, Copy)]
 pub struct Probe {
     pub lo: usize,
     pub hi: usize,

@@ -1,3 +1,4 @@
+#![tactic(auto)]
 // What an answer of several numbers leaves with a caller in C: each in an output of its own.
 ghost use Rattle.std.specs.Prelude.{◌≡◌};
 ghost use Rattle.scope.specs.Answers.{read_means, score_means, sizes_means};

@@ -1,5 +1,5 @@
 -- The marks that bytes hold.
-use Rattle.std.specs.Prelude.{List, ℕ, zero, suc, ◌-◌, get_or, set}
+use Rattle.std.specs.Prelude.{List, ℕ, zero, suc, get_or, set}
 use Rattle.theory.specs.Marked.{Marks}
 
 -- variable v at byte v − 1; there is no variable 0, and a mark past the bytes is open

@@ -1,3 +1,4 @@
+#![tactic(auto)]
 // The marks of variables: one byte for each, variable v at byte v - 1. A mark past the bytes is open, and is not set.
 ghost use Rattle.std.specs.Prelude.{◌≡◌, length, replicate};
 ghost use Rattle.marks.specs.Marks.{marks_of, put_mark};

@@ -1,5 +1,5 @@
 -- The sizes of the formula's blocks before the constraints are those of their items: starts, uses and durations.
-use Rattle.std.specs.Prelude.{false, List, [], ◌∷◌, ℕ, ◌-◌, length}
+use Rattle.std.specs.Prelude.{false, List, [], ◌∷◌, ℕ, length}
 use Rattle.scope.specs.Kinds.{Event, users}
 use Rattle.sizing.specs.declared.Size.{Size}
 use Rattle.sizing.specs.Sums.{none, sum}

@@ -65,7 +65,9 @@ fn evaluate_in(file: &[u8], model: &[u8], groups: &mut [u8]) -> Evaluation
 }
 
 // The length of the part with Y and S and the falsified soft weight, or refusals 1 to 6, 8, 10, 11, 13, 19 and 22. One run over the
-// clauses serves both; the work is linear in the formula.
+// clauses serves both; the work is linear in the formula. It is a call of its own, so that its tables are gone from the stack when a
+// caller goes on.
+#[inline(never)]
 pub fn evaluate(file: &[u8], model: &[u8]) -> Evaluation
     ensures { EvaluatedAs file.now model.now result }
 {

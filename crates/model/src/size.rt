@@ -6,7 +6,7 @@ use scope::refusals::{ABOVE_ONE, WRONG_LENGTH};
 use timetable::bytes::{Found, first_above};
 
 // Bytes that may be a model, or their refusal.
-#[derive(Drop)]
+#[derive(Clone, Copy)]
 pub enum Form {
     Right,
     Refused(Refusal),

@@ -1,6 +1,6 @@
 -- A node's clauses read off its long clause: for each word m before the last the clause (opposite of m, opposite of the last), and
 -- then the long clause itself.
-use Rattle.std.specs.Prelude.{List, ◌++◌, map, ℕ, ◌+◌, ◌-◌, ◌≤◌, length, take, get_or}
+use Rattle.std.specs.Prelude.{List, ◌++◌, map, ℕ, ◌-◌, ◌≤◌, length, take, get_or}
 use Rattle.scope.specs.Cnf.{opp, pairs}
 use Rattle.sink.specs.Block.{split}
 use Rattle.counters.specs.Literals.{LiteralsTo}

@@ -1,5 +1,5 @@
 -- Clauses of two literals with the same second one, as a block.
-use Rattle.std.specs.Prelude.{List, [], ◌∷◌, ℕ, ◌-◌}
+use Rattle.std.specs.Prelude.{List, [], ◌∷◌, ℕ}
 use Rattle.scope.specs.Cnf.{opp}
 
 -- the words of the clauses (opposite of l, p) for each l, where last is p marked

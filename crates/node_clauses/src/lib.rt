@@ -1,3 +1,4 @@
+#![tactic(auto)]
 // The clauses of a node, an OR or an AND, by its long clause, whatever the mode.
 mod evaluate;
 mod nodes;

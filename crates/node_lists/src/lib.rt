@@ -1,3 +1,4 @@
+#![tactic(auto)]
 // The lists of the kinds that count outputs of nodes, a file for each kind.
 mod cluster;
 mod distribute;

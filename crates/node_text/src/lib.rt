@@ -1,3 +1,4 @@
+#![tactic(auto)]
 // The clauses of a node as text, where every number has at most seven digits: those of two literals with the same second one,
 // whose number is turned into bytes once, and the long one. A number that follows the one before it is made from that.
 ghost use Rattle.std.specs.Prelude.{◌≡◌, true, [], ◌∷◌, ◌++◌, map, ◌+◌, ◌*◌, ◌/◌, ◌≤◌, ◌<◌, length};

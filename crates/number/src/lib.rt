@@ -1,3 +1,4 @@
+#![tactic(auto)]
 // Reading a number: groups of seven bits, lowest first, in the shortest form. The instance file and proofs are made of them.
 // The work is one turn for each byte.
 ghost use Rattle.std.specs.Prelude.{◌≡◌, ◌-◌};
@@ -8,7 +9,7 @@ use scope::Refusal;
 use scope::refusals::{BAD_NUMBER, BAD_REFERENCE, OUTSIDE_LIMIT};
 
 // A number with the offset after it, or a refusal.
-#[derive(Drop)]
+#[derive(Clone, Copy)]
 pub enum Number {
     Value(u32, usize),
     Refused(Refusal),

@@ -1,5 +1,5 @@
 -- Laws of reading one thing after another: what follows from a reading that got something, and the turns of a loop that reads.
-use Rattle.std.specs.Prelude.{◌-◌, List, []}
+use Rattle.std.specs.Prelude.{List, []}
 use Rattle.scope.specs.Parsed.{Parsed, got, refused}
 
 -- the list that was read; of a refusal none

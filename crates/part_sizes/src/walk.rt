@@ -9,7 +9,7 @@ use sizing::rows::tail_add;
 use sizing::sums::{nothing, plus};
 
 // The formula without its tail, and the tail.
-#[derive(Drop)]
+#[derive(Clone, Copy)]
 pub struct Total {
     pub formula: Size,
     pub tail: Size,

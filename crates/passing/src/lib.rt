@@ -1,2 +1,3 @@
+#![tactic(auto)]
 // The numbers of a proof up to a 0 are passed over. specs/ says where they end.
 pub mod numbers;

@@ -7,14 +7,14 @@ use number::Number;
 use reader::{moved, over, read_number};
 
 // Numbers up to a 0: where what follows the 0 stands. Cut where no 0 comes.
-#[derive(Drop)]
+#[derive(Clone, Copy)]
 pub enum Numbers {
     End(usize),
     Cut,
 }
 
 // Numbers that are being passed over: whether it goes on, where the next one stands, and what is found once it does not.
-#[derive(Drop)]
+#[derive(Clone, Copy)]
 pub struct Passing {
     pub more: bool,
     pub at: usize,

@@ -1,2 +1,3 @@
+#![tactic(auto)]
 // What comes next in a check, by its phase. The definitions stand in turns/specs.
 pub mod next;

@@ -1,3 +1,4 @@
+#![tactic(auto)]
 // The lists of the kinds that have no nodes, a file for each kind.
 mod busy;
 mod clash;

@@ -2,4 +2,5 @@
 pub mod Numerals
 pub mod Words
 pub mod ReadBack
+pub mod TextBack
 pub mod Demand

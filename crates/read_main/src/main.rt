@@ -1,10 +1,13 @@
 // Reads an instance file of up to 262,144 bytes from standard input and prints what reading it answers; for a longer one `9 0`.
+#![tactic(auto)]
+
 ghost use Rattle.std.specs.Prelude.{◌≡◌, length};
 
+use input::read_full;
 use instance::read_instance;
-use libc::{STDIN_FILENO, STDOUT_FILENO};
 use scope::refusals::TOO_SHORT;
 use scope::{InstanceSize, ReadAnswer, Refusal};
+use std::io;
 
 // One byte more than a file may have.
 fn store() -> [u8; 262145]
@@ -13,47 +16,46 @@ fn store() -> [u8; 262145]
     [0; 262145]
 }
 
-fn number(n: u64) {
-    io::write_all(STDOUT_FILENO, b" ");
-    io::print_decimal(STDOUT_FILENO, n);
+fn number(rt: &impl Print, n: u64) -> io::Result<()> {
+    print!(rt; " {n}")
 }
 
-fn print_sizes(z: InstanceSize) {
-    io::write_all(STDOUT_FILENO, b"accepted");
-    number(z.times as u64);
-    number(z.events as u64);
-    number(z.resources as u64);
-    number(z.groups as u64);
-    number(z.constraints as u64);
+fn print_sizes(rt: &impl Print, z: InstanceSize) -> io::Result<()> {
+    print!(rt; "accepted")?;
+    number(rt, z.times as u64)?;
+    number(rt, z.events as u64)?;
+    number(rt, z.resources as u64)?;
+    number(rt, z.groups as u64)?;
+    number(rt, z.constraints as u64)?;
+    println!(rt; "")
 }
 
 // `number value`
-fn print_refusal(f: Refusal) {
-    io::print_decimal(STDOUT_FILENO, f.number as u64);
-    number(f.value);
-    io::write_all(STDOUT_FILENO, b"\n");
+fn print_refusal(rt: &impl Print, f: Refusal) -> io::Result<()> {
+    print!(rt; "{}", f.number)?;
+    number(rt, f.value)?;
+    println!(rt; "")
 }
 
 // `accepted T E R groups constraints`, or a refusal
-fn print_answer(a: ReadAnswer) {
+fn print_answer(rt: &impl Print, a: ReadAnswer) -> io::Result<()> {
     match a {
-        ReadAnswer::Accepted(z) => {
-            print_sizes(z);
-            io::write_all(STDOUT_FILENO, b"\n");
-        }
-        ReadAnswer::Refused(f) => print_refusal(f),
+        ReadAnswer::Accepted(z) => print_sizes(rt, z),
+        ReadAnswer::Refused(f) => print_refusal(rt, f),
     }
 }
 
-fn main() {
+fn main(rt: HostRuntime) -> io::Result<()> {
     let mut file = store();
-    let n = io::read_full(STDIN_FILENO, &mut file);
+    let n = read_full(&mut rt.reader(), &mut file)?;
     if 262144 < n {
-        print_refusal(Refusal {
-            number: TOO_SHORT,
-            value: 0,
-        });
-        return;
+        return print_refusal(
+            &rt,
+            Refusal {
+                number: TOO_SHORT,
+                value: 0,
+            },
+        );
     }
-    print_answer(read_instance(&file[..n]));
+    print_answer(&rt, read_instance(&file[..n]))
 }

@@ -1,4 +1,2 @@
-pub mod Readers
 pub mod NumberTold
 pub mod Loops
-pub mod ReaderCalls

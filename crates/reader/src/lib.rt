@@ -1,3 +1,4 @@
+#![tactic(auto)]
 // The proof as it is read: the lent bytes, and the position of what is read next. The functions over a reader are thin: each takes
 // it apart and leaves the work to a function over the bytes.
 ghost use Rattle.std.specs.Prelude.{◌≡◌, get_or};
@@ -6,7 +7,7 @@ ghost use Rattle.number.specs.Answers.{said};
 
 use number::{Number, number_at};
 
-#[derive(Drop)]
+#[derive(Clone, Copy)]
 pub struct Reader<'a> {
     pub bytes: &'a [u8],
     pub at: usize,

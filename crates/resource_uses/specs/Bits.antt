@@ -1,5 +1,5 @@
 -- Bytes as bits, at some places after an offset.
-use Rattle.std.specs.Prelude.{ℕ, ◌+◌, ◌-◌, Bool, List, map}
+use Rattle.std.specs.Prelude.{ℕ, ◌+◌, Bool, List, map}
 use Rattle.scope.specs.Cnf.{bit}
 
 -- the bits of some places, each counted from 1 after an offset

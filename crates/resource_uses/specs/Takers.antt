@@ -1,5 +1,5 @@
 -- How many of the events that use a resource take a time: from the rows of resources, and by the definition of users.
-use Rattle.std.specs.Prelude.{ℕ, zero, suc, ◌+◌, ◌-◌, ◌*◌, cond, List}
+use Rattle.std.specs.Prelude.{ℕ, zero, suc, ◌+◌, ◌*◌, cond, List}
 use Rattle.scope.specs.Cnf.{bit}
 use Rattle.scope.specs.Kinds.{member}
 use Rattle.tables.specs.Rows.{row_at}

@@ -1,5 +1,5 @@
 -- How often each resource is used at each time.
-use Rattle.std.specs.Prelude.{ℕ, suc, ◌+◌, ◌-◌, ◌*◌, ◌<◌, ◌≤◌, ◌≡◌, cond, List, length, get_or, eqb, ltb}
+use Rattle.std.specs.Prelude.{ℕ, suc, ◌+◌, ◌*◌, ◌<◌, ◌≤◌, ◌≡◌, cond, List, length, get_or, eqb, ltb}
 use Rattle.parsing.specs.Numbers.{Ascending}
 use Rattle.tables.specs.Rows.{row_at, RowIn}
 use Rattle.tables.specs.Occurrences.{occurrences}

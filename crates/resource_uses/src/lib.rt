@@ -1,3 +1,4 @@
+#![tactic(auto)]
 // How often each resource is used at each time: a row of T counts for each resource, of the events that use it and take the time.
 ghost use Rattle.std.specs.Prelude.{◌≡◌, ℕ, ◌+◌, ◌*◌, ◌≤◌, ◌<◌, cond, length, get_or, eqb, ltb};
 ghost use Rattle.tables.specs.Rows.{row_at};

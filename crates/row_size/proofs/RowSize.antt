@@ -8,7 +8,7 @@ use native.Mathlib.Omega.{arith}
 use lib.ListN.{length, length-append}
 use lib.Dec.{ltb}
 use borrow.Author.Tests.{ltb-true, ltb-false}
-use Rattle.scope.specs.Cnf.{opp, pos, neg, gate_clauses}
+use Rattle.scope.specs.Cnf.{opp, gate_clauses}
 use Rattle.scope.specs.Formula.{row}
 use Rattle.scope.specs.Text.{digits, decimal, space, newline, literal_text, line}
 use Rattle.digits.proofs.laws.Decimal.{digits-some, digits-small, digits_more, digits-most}

@@ -1,3 +1,4 @@
+#![tactic(auto)]
 // The length of a row's text by arithmetic, where the numbers of each row have equally many digits.
 ghost use Rattle.std.specs.Prelude.{◌≡◌, ◌+◌, ◌≤◌, ◌<◌, length};
 ghost use Rattle.scope.specs.Cnf.{opp};

@@ -1,3 +1,4 @@
+#![tactic(auto)]
 // Rows as text, where every number has at most seven digits: each is turned into bytes once, and there is room for all.
 ghost use Rattle.std.specs.Prelude.{◌≡◌, true, ◌+◌, ◌*◌, ◌/◌, ◌≤◌, ◌<◌, length};
 ghost use Rattle.scope.specs.Formula.{row};

@@ -1,3 +1,4 @@
+#![tactic(auto)]
 // Rows in a model: the clauses of a cell are all true where its variable has its gate's value.
 ghost use Rattle.std.specs.Prelude.{◌≡◌, true, ◌&&◌, ◌||◌, suc, ◌+◌, ◌-◌, ◌≤◌, ◌<◌};
 ghost use Rattle.std.specs.Bool.{beq};

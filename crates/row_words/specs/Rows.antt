@@ -1,5 +1,5 @@
 -- The lines of a counter, cell by cell and row by row: what the loops keep.
-use Rattle.std.specs.Prelude.{◌≡◌, refl, List, [], ◌∷◌, map, suc, ◌-◌, length}
+use Rattle.std.specs.Prelude.{◌≡◌, refl, List, [], ◌∷◌, map, suc, length}
 use Rattle.std.proofs.Common.{ap}
 use Rattle.scope.specs.Cnf.{Gate, gate, gates}
 

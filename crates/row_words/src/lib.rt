@@ -1,3 +1,4 @@
+#![tactic(auto)]
 // The cells of counters: their clauses as words, one cell and a whole row.
 ghost use Rattle.std.specs.Prelude.{◌≡◌, ◌<◌};
 ghost use Rattle.scope.specs.Cnf.{opp};

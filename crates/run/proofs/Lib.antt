@@ -3,4 +3,4 @@ mod Taking
 mod Lengths
 mod Deletions
 pub mod Turning
-mod Local
+mod Driving

@@ -14,7 +14,7 @@ use reader::{moved, over, read_number};
 use scope::CheckAnswer;
 use taking::step::next_step;
 use turns::check::{begin, judge, keep, row_of};
-use unwinding::marks::unwind;
+use unwinding::opening::unwind;
 
 // The machine before the first step.
 fn ready() -> Machine

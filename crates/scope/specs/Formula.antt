@@ -1,5 +1,5 @@
 -- The formula of an instance: its items in the order of clauses and variables, the tail for a bound, and their sizes.
-use Rattle.std.specs.Prelude.{Bool, cond, ℕ, zero, suc, ◌+◌, ◌-◌, ◌*◌, min, length, leb, ltb}
+use Rattle.std.specs.Prelude.{cond, ℕ, zero, suc, ◌+◌, ◌-◌, ◌*◌, min, length, leb, ltb}
 use mathlib.Core.List.{List, [], ◌∷◌, ◌++◌, map, flat_map}
 use Rattle.scope.specs.Kinds.{Event, Constraint, Atom, Y, S, Thing, an_atom, a_node, Ref, Node, some_of, all_of, entries, Rule, rule, between, from, up_to, users, takes_at}
 use Rattle.scope.specs.Instance.{Instance}

@@ -19,4 +19,3 @@ pub mod Answers
 pub mod Spelling
 pub mod Refutation
 pub mod Demands
-pub mod Examples

@@ -1,5 +1,5 @@
 -- What each operation answers, for every input: the refusals in the order of their places, then the result.
-use Rattle.std.specs.Prelude.{Bool, true, false, cond, ◌&&◌, List, [], ◌∷◌, ◌++◌, ℕ, zero, suc, ◌+◌, length, take, leb, eqb}
+use Rattle.std.specs.Prelude.{Bool, true, false, cond, ◌&&◌, List, [], ◌∷◌, ◌++◌, ℕ, zero, suc, length, take, leb, eqb}
 use Rattle.std.proofs.Math.Option.{Option, none, some}
 use Rattle.scope.specs.Parsed.{Answer, answered, refusal, with, then, provided}
 use Rattle.scope.specs.Instance.{Instance, parse}

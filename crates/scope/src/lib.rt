@@ -1,25 +1,26 @@
+#![tactic(auto)]
 // What the operations answer. specs/ has the definitions that a reader of document 01 must believe; specs/Answers.antt says
 // for each case below which number and values of document 01 it stands for.
 pub mod refusals;
 
 // A refusal: its number in document 01's table, and the value that it gives.
-#[derive(Drop)]
+#[derive(Clone, Copy)]
 pub struct Refusal {
     pub number: u8,
     pub value: u64,
 }
 
 // The deviations of hard constraints, summed.
-#[derive(Drop)]
+#[derive(Clone, Copy)]
 pub struct Infeasibility(pub u64);
 
 // The cost: the sum of weight times deviation of the other constraints. It is never added to an infeasibility.
-#[derive(Drop)]
+#[derive(Clone, Copy)]
 pub struct Objective(pub u64);
 
 // The numbering of a formula's variables: the last variable before those of S, before the first gate's output, before those of
 // X, and before what the rules add. Y comes first. Y, S and X stand in rows of one variable for each time.
-#[derive(Drop)]
+#[derive(Clone, Copy)]
 pub struct Layout {
     pub starts: u32,
     pub primary: u32,
@@ -28,7 +29,7 @@ pub struct Layout {
 }
 
 // What an accepted instance has.
-#[derive(Drop)]
+#[derive(Clone, Copy)]
 pub struct InstanceSize {
     pub times: u32,
     pub events: u32,
@@ -37,19 +38,19 @@ pub struct InstanceSize {
     pub constraints: u32,
 }
 
-#[derive(Drop)]
+#[derive(Clone, Copy)]
 pub enum ReadAnswer {
     Accepted(InstanceSize),
     Refused(Refusal),
 }
 
-#[derive(Drop)]
+#[derive(Clone, Copy)]
 pub enum ScoreAnswer {
     Scored(Infeasibility, Objective),
     Refused(Refusal),
 }
 
-#[derive(Drop)]
+#[derive(Clone, Copy)]
 pub enum SheetAnswer {
     Same,
     Different,
@@ -57,42 +58,42 @@ pub enum SheetAnswer {
 }
 
 // What a formula needs of a store: a byte for each variable, a row for each clause, a word for each literal.
-#[derive(Drop)]
+#[derive(Clone, Copy)]
 pub struct FormulaSize {
     pub variables: u64,
     pub clauses: u64,
     pub words: u64,
 }
 
-#[derive(Drop)]
+#[derive(Clone, Copy)]
 pub enum SizesAnswer {
     Sizes(FormulaSize),
     Refused(Refusal),
 }
 
 // The text's length in bytes, measured or written.
-#[derive(Drop)]
+#[derive(Clone, Copy)]
 pub enum TextAnswer {
     Bytes(u64),
     Refused(Refusal),
 }
 
 // A decoded model's cost; the part that holds Y and S is returned beside it.
-#[derive(Drop)]
+#[derive(Clone, Copy)]
 pub enum DecodeAnswer {
     Decoded(Objective),
     Refused(Refusal),
 }
 
 // "No timetable" with the number of steps.
-#[derive(Drop)]
+#[derive(Clone, Copy)]
 pub enum CheckAnswer {
     NoTimetable(u64),
     Refused(Refusal),
 }
 
 // No timetable costs less than a decoded model's cost; with the number of steps that show it.
-#[derive(Drop)]
+#[derive(Clone, Copy)]
 pub enum BestAnswer {
     Best(Objective, u64),
     Refused(Refusal),
@@ -100,7 +101,7 @@ pub enum BestAnswer {
 
 // What a walk over a group's members keeps from one to the next: how many are idle so far, how many without X have come since the
 // last with X, and whether one had X.
-#[derive(Drop)]
+#[derive(Clone, Copy)]
 pub struct Kept {
     pub idle: u64,
     pub since: u64,

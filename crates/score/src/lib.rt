@@ -1,3 +1,4 @@
+#![tactic(auto)]
 // The score of bytes that are a timetable of an accepted file: each resource's uses are counted once, then each constraint is
 // decoded once and charged.
 mod scored;

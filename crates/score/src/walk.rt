@@ -8,7 +8,7 @@ use deviation::deviation_of;
 use scope::{Infeasibility, Objective};
 
 // Infeasibility and objective, which are never added together.
-#[derive(Drop)]
+#[derive(Clone, Copy)]
 pub struct Score {
     pub infeasibility: Infeasibility,
     pub objective: Objective,

@@ -1,3 +1,4 @@
+#![tactic(auto)]
 // Scoring a timetable, and whether two timetables are the same sheet.
 mod operations;
 

@@ -1,5 +1,5 @@
 -- A line of two or three literals, from its first part, what stands between, and its last part.
-use mathlib.Core.Path.{◌≡◌, refl, ◌∙◌, sym}
+use mathlib.Core.Path.{◌≡◌}
 use mathlib.Core.List.{List, [], ◌∷◌, ◌++◌, flat_map, append-nil, append_assoc}
 use Prim.Native.Nat.{ℕ}
 use Rattle.scope.specs.Text.{decimal, space, newline, literal_text, line}

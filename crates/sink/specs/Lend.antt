@@ -1,5 +1,5 @@
 -- A run over outputs that are lent from a position on is the run over the whole outputs.
-use Rattle.std.specs.Prelude.{◌≡◌, List, ℕ, ◌-◌, min, length, take}
+use Rattle.std.specs.Prelude.{◌≡◌, List, ℕ, min, length, take}
 use Rattle.sink.specs.declared.Mode.{Mode}
 use Rattle.sink.specs.declared.Mode.TheVariants.{Measure, Text, SoftText, Words, Evaluate, Tail}
 

@@ -1,5 +1,5 @@
 -- How text, its length and a model's truth go through a block, word by word.
-use Rattle.std.specs.Prelude.{false, ◌||◌, List, ◌∷◌, ◌++◌, ℕ, ◌+◌, length}
+use Rattle.std.specs.Prelude.{false, ◌||◌, List, ◌∷◌, ◌++◌, ℕ, length}
 use Rattle.scope.specs.Cnf.{bit, lit}
 use Rattle.scope.specs.Text.{decimal, space, newline, literal_text}
 use Rattle.sink.specs.Run.{run, Out, put, further}

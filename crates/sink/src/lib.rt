@@ -1,3 +1,4 @@
+#![tactic(auto)]
 // What happens with a block of clauses, by mode.
 ghost use Rattle.std.specs.Prelude.{◌≡◌, map, true, ◌+◌, ◌≤◌, min};
 ghost use Rattle.sink.specs.Run.{Ran};
@@ -17,7 +18,7 @@ pub mod store;
 
 // What a run over the formula is for: the text's length; its hard lines; its soft lines; the hard clauses as words; a model's
 // lowest false clause and falsified weight; the tail's rows as words.
-#[derive(Drop)]
+#[derive(Clone, Copy)]
 pub enum Mode {
     Measure,
     Text,
@@ -28,7 +29,7 @@ pub enum Mode {
 }
 
 // A mode, the weight of hard lines, and the columns of the tail's counter.
-#[derive(Drop)]
+#[derive(Clone, Copy)]
 pub struct Job {
     pub mode: Mode,
     pub top: u64,
@@ -37,7 +38,7 @@ pub struct Job {
 
 // Where a run stands: the position in text or words, or the number of clauses passed; the lowest false clause's id, or 0; the
 // falsified weight; the first variables of the tail's last row, 0 before the first, and of its next row.
-#[derive(Drop)]
+#[derive(Clone, Copy)]
 pub struct Sink {
     pub at: usize,
     pub bad: usize,
@@ -47,7 +48,7 @@ pub struct Sink {
 }
 
 // A model's truth so far: clauses passed, the lowest false one's id or 0, and whether a literal of the present clause is true.
-#[derive(Drop)]
+#[derive(Clone, Copy)]
 pub struct Judgement {
     pub at: usize,
     pub bad: usize,

@@ -1,3 +1,4 @@
+#![tactic(auto)]
 // Refusals 7 and 8 and the sizes of a file's formula: a walk over the tables and the constraints, whose counted lists are filled
 // but not written.
 mod answer;

@@ -16,14 +16,14 @@ use sizing::blocks::stored_size;
 use sizing::sums::plus;
 
 // The formula's size without its tail, or refusals 1 to 6, 8, 19 and 22.
-#[derive(Drop)]
+#[derive(Clone, Copy)]
 pub enum Measured {
     Sized(Head, Size),
     Refused(Refusal),
 }
 
 // The formula's size without its tail, and with the tail for a bound; or refusals 1 to 8, 19 and 22.
-#[derive(Drop)]
+#[derive(Clone, Copy)]
 pub enum Bounded {
     Sized(Head, Size, FormulaSize),
     Refused(Refusal),

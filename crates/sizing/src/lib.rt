@@ -1,3 +1,4 @@
+#![tactic(auto)]
 // The sizes of a formula by arithmetic, with no walk over its clauses: variables, hard clauses, words, soft units and the
 // sum of their weights. Crate measuring ties each size to the items that it stands for.
 pub mod blocks;
@@ -7,7 +8,7 @@ pub mod rows;
 pub mod sums;
 
 // Variables, hard clauses, words (literals of hard clauses), soft units, and the sum of the soft units' weights.
-#[derive(Drop)]
+#[derive(Clone, Copy)]
 pub struct Size {
     pub variables: u64,
     pub clauses: u64,

@@ -1,3 +1,4 @@
+#![tactic(auto)]
 // The lines of a solver's text, and the literals of its v lines noted in a store with a byte for each variable.
 mod line;
 mod lines;

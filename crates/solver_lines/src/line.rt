@@ -18,7 +18,7 @@ const STATUS: u8 = 115;
 const VALUES: u8 = 118;
 
 // The offset of the line's end and whether the closing 0 has come; or the offset of what is no line or no word.
-#[derive(Drop)]
+#[derive(Clone, Copy)]
 pub enum Line {
     Read(usize, bool),
     Fault(usize),

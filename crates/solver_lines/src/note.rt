@@ -25,7 +25,7 @@ fn note(store: &mut [u8], v: u32, mark: u8)
 }
 
 // What follows a word: the offset after it and whether the closing 0 has come; or nothing, where it is a fault.
-#[derive(Drop)]
+#[derive(Clone, Copy)]
 pub enum Turn {
     Next(usize, bool),
     Fault,

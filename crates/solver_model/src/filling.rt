@@ -9,7 +9,7 @@ use scope::refusals::{BAD_SOLVER_TEXT, NOT_GIVEN_ONCE, TOO_SHORT, WRONG_LENGTH};
 use solver_lines::{Line, read_lines};
 
 // The store holds the model; or a refusal.
-#[derive(Drop)]
+#[derive(Clone, Copy)]
 pub enum Given {
     Model,
     Refused(Refusal),

@@ -1,3 +1,4 @@
+#![tactic(auto)]
 // The model that a solver's text gives, filled into a store.
 mod filling;
 mod settling;

@@ -2,7 +2,7 @@
 ghost use Rattle.solver_model.specs.Settled.{SettledAs};
 
 // Each variable is given once; or the lowest that is not.
-#[derive(Drop)]
+#[derive(Clone, Copy)]
 pub enum Settled {
     Each,
     Not(u64),

@@ -1,3 +1,4 @@
+#![tactic(auto)]
 // What a solver printed, read into a lent model, and the model decoded.
 mod handover;
 mod operation;

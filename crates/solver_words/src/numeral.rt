@@ -11,7 +11,7 @@ const ZERO: u8 = 48;
 const NINE: u8 = 57;
 
 // A variable with the offset after its digits; or none, where a byte is no digit or the number is too large.
-#[derive(Drop)]
+#[derive(Clone, Copy)]
 pub enum Variable {
     Of(u32, usize),
     Nothing,

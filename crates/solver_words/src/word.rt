@@ -13,7 +13,7 @@ const MINUS: u8 = 45;
 const ZERO: u8 = 48;
 
 // A variable without a minus or with one, or the closing 0, each with the offset after the word; or neither.
-#[derive(Drop)]
+#[derive(Clone, Copy)]
 pub enum Word {
     Positive(u32, usize),
     Negative(u32, usize),

@@ -9,7 +9,7 @@ use number::Number;
 use reader::{moved, over, read_number, wide};
 
 // The literals of a clause: how many, and where what follows their 0 stands.
-#[derive(Drop)]
+#[derive(Clone, Copy)]
 pub enum Literals {
     Read(usize, usize),
     Misformed,
@@ -36,7 +36,7 @@ fn deny(marks: &mut [u8], l: u32, last: usize) -> bool
 }
 
 // Literals that are being read: whether it goes on, where the next one stands, how many there were, and what is found.
-#[derive(Drop)]
+#[derive(Clone, Copy)]
 pub struct Spelling {
     pub more: bool,
     pub at: usize,

@@ -1,3 +1,4 @@
+#![tactic(auto)]
 // How a clause stands under the marks. A clause is len words from the word first on, as far as there are words.
 ghost use Rattle.std.specs.Prelude.{◌≡◌, ◌+◌, min, length, replicate};
 ghost use Rattle.theory.specs.Marked.{also_open, also_literal, standing, falsified};
@@ -7,7 +8,7 @@ ghost use Rattle.standing.specs.Clauses.{part, stands, wiped};
 use marks::{mark_of, put_mark};
 
 // How a clause stands under the marks: all its literals false; one open, the others false; anything else.
-#[derive(Drop)]
+#[derive(Clone, Copy)]
 pub enum Standing {
     Falsified,
     OneOpen(u32),

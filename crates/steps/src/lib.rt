@@ -1,2 +1,3 @@
+#![tactic(auto)]
 // The steps of a proof, as they stand in its bytes: each is read whole. specs/ says what is read.
 pub mod step;

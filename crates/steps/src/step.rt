@@ -8,7 +8,7 @@ use reader::{number_in, step_byte_in, wide};
 use spelling::literals::{Literals, read_literals};
 
 // A clause that a step adds: its id, where its literals stand, how many they are, and where its hints stand.
-#[derive(Drop)]
+#[derive(Clone, Copy)]
 pub struct Clause {
     pub id: usize,
     pub literals: usize,
@@ -17,7 +17,7 @@ pub struct Clause {
 }
 
 // A step: a clause is added; ids are deleted, which stand at an offset; misformed.
-#[derive(Drop)]
+#[derive(Clone, Copy)]
 pub enum Read {
     Adds(Clause),
     Deletes(usize),

@@ -1,3 +1,4 @@
+#![tactic(auto)]
 // Reading the lists of events and of time groups into tables: one turn for each number.
 ghost use Rattle.std.specs.Prelude.{◌≡◌, ◌≤◌, length};
 ghost use Rattle.scope.specs.Parsed.{repeat};

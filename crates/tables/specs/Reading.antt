@@ -1,5 +1,5 @@
 -- What is known of events and groups that were read, and so of the tables' rows that hold them.
-use Rattle.std.specs.Prelude.{ℕ, ◌-◌, ◌≤◌}
+use Rattle.std.specs.Prelude.{ℕ, ◌≤◌}
 use Rattle.scope.specs.Kinds.{Event}
 use Rattle.parsing.specs.Numbers.{Ascending}
 

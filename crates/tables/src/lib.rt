@@ -1,3 +1,4 @@
+#![tactic(auto)]
 // The tables of an instance: rows of 126 bytes, each a count and then as many members, for the resources of events and for
 // time groups; beside them the durations of events.
 mod occurrences;

@@ -1,3 +1,4 @@
+#![tactic(auto)]
 // The text for solvers, in the older "p wcnf" form.
 mod lines;
 mod size;

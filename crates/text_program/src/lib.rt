@@ -1,3 +1,4 @@
+#![tactic(auto)]
 // What the text program prints for its input: the text of a file of up to 65,536 bytes, or a refusal.
 ghost use Rattle.std.specs.Prelude.{length};
 ghost use Rattle.scope.specs.Operations.{printed};

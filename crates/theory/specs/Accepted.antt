@@ -1,5 +1,5 @@
 -- What an accepted instance satisfies: every limit, reference and list that the reader checks.
-use Rattle.std.specs.Prelude.{◌≡◌, true, List, ℕ, ◌-◌, ◌≤◌, length}
+use Rattle.std.specs.Prelude.{◌≡◌, true, List, ℕ, ◌≤◌, length}
 use Rattle.laws.specs.Lists.{All}
 use Rattle.scope.specs.Kinds.{Event, Kind, Constraint, Counted, duration_of, users, group_at, counted_of, longest}
 use Rattle.scope.specs.Instance.{Instance, counts_of, distinct, ordered}

@@ -1,5 +1,5 @@
 -- Hints and literals by marks, a number for each variable, as the code keeps them.
-use Rattle.std.specs.Prelude.{cond, List, [], ◌∷◌, ℕ, ◌+◌, ◌-◌, ◌/◌, ◌%◌, eqb}
+use Rattle.std.specs.Prelude.{cond, List, [], ◌∷◌, ℕ, ◌+◌, ◌/◌, ◌%◌, eqb}
 
 -- marks: 0 where a variable is open, else 1 + the last bit of its true literal
 abbrev pub Marks : Type 0

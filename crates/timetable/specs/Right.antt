@@ -1,6 +1,6 @@
 -- Which events of a timetable are right, told from its bytes: an event's "taken" bytes begin at an offset y, its "starts" bytes
 -- as far after the slots, c. Score.antt's event_right and first_wrong come to the same.
-use Rattle.std.specs.Prelude.{ℕ, zero, suc, ◌+◌, ◌-◌, ◌*◌, ◌<◌, ◌≡◌, Bool, false, not, ◌&&◌, ◌||◌, cond, List, [], map, length, get_or, eqb}
+use Rattle.std.specs.Prelude.{ℕ, zero, suc, ◌+◌, ◌*◌, ◌<◌, ◌≡◌, Bool, false, not, ◌&&◌, ◌||◌, cond, List, [], map, length, get_or, eqb}
 use Rattle.std.proofs.Math.Option.{Option, none, some}
 use Rattle.scope.specs.Cnf.{bit}
 use Rattle.scope.specs.Kinds.{Event, up_to}

@@ -8,7 +8,7 @@ ghost use Rattle.resource_uses.specs.Bits.{marks};
 use resource_uses::bit_of;
 
 // The first of some things that was looked for, if there is one.
-#[derive(Drop)]
+#[derive(Clone, Copy)]
 pub enum Found {
     At(u64),
     Nothing,

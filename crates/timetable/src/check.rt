@@ -78,7 +78,7 @@ fn first_wrong(bytes: &[u8], durations: &[u8], events: usize, times: usize) -> F
 }
 
 // A timetable, or the refusal of the bytes.
-#[derive(Drop)]
+#[derive(Clone, Copy)]
 pub enum Verdict {
     Timetable,
     Refused(Refusal),

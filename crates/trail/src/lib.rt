@@ -1,3 +1,4 @@
+#![tactic(auto)]
 // The trail of a step: the literals that its hints set true, in a store of fixed length. specs/ says what it holds.
 ghost use Rattle.std.specs.Prelude.{◌≡◌, length};
 ghost use Rattle.trail.specs.Recorded.{recorded, recorded_at};

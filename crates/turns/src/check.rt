@@ -10,7 +10,7 @@ use scope::refusals::{BAD_END, CLAUSE_TOO_LONG};
 use steps::step::Clause;
 
 // Steps, the one at hand counted; the highest id; rows and words in use.
-#[derive(Drop)]
+#[derive(Clone, Copy)]
 pub struct Tally {
     pub steps: u64,
     pub highest: usize,
@@ -19,7 +19,7 @@ pub struct Tally {
 }
 
 // What comes next, what is counted, and the clause at hand; for a step that deletes, its hints are where the ids stand.
-#[derive(Drop)]
+#[derive(Clone, Copy)]
 pub struct Check {
     pub phase: Phase,
     pub tally: Tally,

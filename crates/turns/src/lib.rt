@@ -1,2 +1,3 @@
+#![tactic(auto)]
 // A check between two walks over ids: what is counted, the clause at hand, and what each step does to them. specs/ says what.
 pub mod check;

@@ -12,7 +12,7 @@ use lib.Dec.{eqb, leb}
 use lib.ListN.{length, get_or, take, drop, set, length-set, length-append, length-drop}
 use lib.Seq.{take-suc, take_all, take-set-le, drop-set-lt, drop-set-add, get_or-set_same, get_or-set_other}
 use Rattle.scope.specs.Kinds.{member}
-use Rattle.parsing.specs.Numbers.{Ascending, more}
+use Rattle.parsing.specs.Numbers.{Ascending, none, more}
 use Rattle.tables.specs.Rows.{row_at}
 use Rattle.literals.specs.Words.{Holds}
 use Rattle.literals.proofs.laws.Words.{holds-none, holds_as, holds_more}
@@ -82,11 +82,13 @@ module _ {l : List ℕ} {f : ℕ → List ℕ} (h : Filled l f) (y e : ℕ) (few
 
 -- a member of an ascending list: it is above where the list starts, and does not stand before
 above : (n : ℕ) {before : ℕ} {l : List ℕ} → Ascending n before l → (k : ℕ) → k < length l → (before < get_or l k 0) × (get_or l k 0 ≤ n)
+above n none k h = elim h [ ]
 above n (more a b r) zero h = (a, b)
 above n (more a b r) (suc k) h = let i = above n r k (omega arith) in (omega (arith, i.0), i.1)
 
 fresh : (n : ℕ) {before : ℕ} {l : List ℕ} → Ascending n before l → (k : ℕ) → k < length l → member (get_or l k 0) (take k l) ≡ false
 unfolding member
+fresh n none k h = elim h [ ]
 fresh n (more a b r) zero h = refl
 fresh n (more {x = x} {xs = xs} a b r) (suc k) h =
     let i = above n r k (omega arith) in

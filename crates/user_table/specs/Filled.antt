@@ -1,6 +1,6 @@
 -- The table of the users of each resource: rows of 1,025 numbers, each a count and then as many numbers of events. Row r is
 -- that of resource r, from 1 to 99; row 0 is empty.
-use Rattle.std.specs.Prelude.{ℕ, ◌+◌, ◌-◌, ◌*◌, ◌≤◌, ◌<◌, ◌≡◌, List, length, get_or, take, drop, set}
+use Rattle.std.specs.Prelude.{ℕ, ◌+◌, ◌*◌, ◌≤◌, ◌<◌, ◌≡◌, List, length, get_or, take, drop, set}
 use Rattle.parsing.specs.Each.{Each}
 use Rattle.parsing.specs.Numbers.{Ascending}
 use Rattle.tables.specs.Rows.{row_at, RowsIn}

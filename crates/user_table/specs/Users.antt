@@ -1,5 +1,5 @@
 -- The events that use a resource, by the rows of the table of the events' resources.
-use Rattle.std.specs.Prelude.{ℕ, zero, suc, ◌+◌, List, [], ◌∷◌, ◌++◌, cond}
+use Rattle.std.specs.Prelude.{ℕ, zero, suc, List, [], ◌∷◌, ◌++◌, cond}
 use Rattle.scope.specs.Kinds.{member}
 use Rattle.tables.specs.Rows.{row_at}
 

@@ -1,3 +1,4 @@
+#![tactic(auto)]
 // The table of the users of each resource.
 mod users;
 

@@ -1,3 +1,4 @@
+#![tactic(auto)]
 // What is answered of one or two lent timetables once the file is read: refusals 10 to 12, the score, the same sheet.
 mod judged;
 mod same;

@@ -3,7 +3,7 @@ use mathlib.Core.Path.{◌≡◌, sym, ap, subst}
 use mathlib.Core.List.{List, [], ◌∷◌}
 use Prim.Native.Nat.{ℕ}
 use seplogic.Ra.Ura.{Ura}
-use mir.Syntax.{Width, Name, Place, Opd as Operand, Body, seq, call}
+use mir.Syntax.{Width, Callee, Place, Opd as Operand, Body, seq, call}
 use mir.Val.{Val, vunit, vint}
 use base.Logic.{SProp, ent, sep, emp, id⊢, via, comm∗, mono_l, mono_r, emp∗, fst∗, snd∗}
 use prog.Wp.{Env, Calls, Loops}
@@ -85,7 +85,7 @@ module _ {M : Type 1} {𝓤 : Ura M} {𝓛 : Logic 𝓤} {K : Type 0} {Γ : List
       peeks t (type_at T.signature.result y.0.0) (Is (type_at T.signature.result y.0.0)) (shows 𝓛 (type_at T.signature.result y.0.0)) r (v ∷ []) (λ is.
       move t (0 ∷ 2 ∷ 1 ∷ []) $ subst (λ (u : Val). Seq K 𝓛 (Owned 𝓛 T c y r u ∷ Left 𝓛 T c y Γ ws) (G u)) (sym (same r v is)) (k r ws e (subst (IsResult 𝓛 T c y r) (same r v is) is))))))
 
-  module _ {E : Env 𝓤 H} {C : Calls 𝓤 H} {Λ : Loops 𝓤 H} {q : Post 𝓤 H} {f : Name} {xs : List Operand} {d : Place} (t : K) (fm : FmC 𝓤 H 𝓛.laws C)
+  module _ {E : Env 𝓤 H} {C : Calls 𝓤 H} {Λ : Loops 𝓤 H} {q : Post 𝓤 H} {f : Callee} {xs : List Operand} {d : Place} (t : K) (fm : FmC 𝓤 H 𝓛.laws C)
       (known : Triple 𝓤 (C f) (To 𝓛 T c)) (ops : Opds K 𝓛 (raw ((To 𝓛 T c).pre y) ∷ Γ) E xs ((To 𝓛 T c).args y)) where
     -- the result owns something: it may hold references
     pub calls_giving : {rest : Body} → ((r : Result 𝓛 T c y) (ws : Last 𝓛 T c y) → φ r ws → IsResult 𝓛 T c y r (val r) → Seq K 𝓛 (Owned 𝓛 T c y r (val r) ∷ Left 𝓛 T c y Γ ws) (lands C Λ E d (val r) rest q))

@@ -4,12 +4,12 @@ use Prim.Native.Nat.{ℕ}
 use mathlib.Core.List.{List, [], ◌∷◌}
 use lib.ListN.{length}
 use seplogic.Ra.Ura.{Ura}
-use seplogic.Ra.TreeShare.{full_share}
+use base.Fraction.{full_share}
 use mir.Syntax.{Lifetime, named}
 use mir.Val.{Val}
 use base.Fml.{Lft, GName, Share, Fml, fsep, flft, fobs, fauth, flent, fobor}
 use types.Logic.{Logic}
-use types.Kit.{Item, Goal, Soaks, Seq, Step, step, ‵, ◌⊛◌, some, later, ◌$◌, move, use1, use3, drop, split, pick, fsplit, fjoin, feq_i, await}
+use types.Kit.{Item, Goal, Soaks, Seq, Step, step, ‵, ◌⊛◌, some, later, ◌$◌, move, use1, use3, drop, split, pick, fsplit, fjoin, await}
 use types.Tokens.{lft_new, lft_end, lent_back}
 use types.SemTy.{cells, Arr}
 use types.Share.{arr_parts}
@@ -19,14 +19,18 @@ use denote.Builtin.{u8}
 use denote.Shadow.{pure_l, pure_i}
 use denote.Memory.{mem, shares}
 use denote.Ref.{Bor, MutBor}
-use denote.Slice.{slice_val, MutSlice, ShrSlice, heres, Room, room, finally, shr_slice_at, coded_holeys, shr_slice_Tells}
-use denote.Lend.{Held, lends_slice, slice_back, lends_shr_slice}
+use denote.Slice.{slice_val, MutSlice, ShrSlice, heres, Room, room, finally, mut_slice_at, coded_holeys, shr_slice_Tells}
+use denote.Lend.{Held, lends_slice, slice_back}
 use denote.Steps.{only}
 use denote.Index.{row, whole_out, whole_in, opens_slice, closes_slice}
 
 -- the slice at (b, o) under the name γ, with the elements ys
 abbrev pub at-list : {X : Type 0} (b o : ℕ) (γ : GName) → List X → MutBor (List X)
 at-list b o γ ys = record { ref_ptr = (b, o); ghost_name = γ; now = ys }
+
+-- the slice at (b, o) behind a `&`, which has no name
+abbrev pub lent_list : {X : Type 0} (b o : ℕ) → List X → Bor (List X)
+lent_list b o ys = record { ref_ptr = (b, o); now = ys }
 
 -- a `&[u8]`: its machine value, and what it owns
 abbrev pub slice : Bor (List ℕ) → Val
@@ -61,7 +65,7 @@ module _ (R : RattleType) (κ : Lft) (q : Share) (γ : GName) (b o : ℕ) where
     pub opened : (Room R (length ys) → Seq K 𝓛 (‵ (row R full_share ys b o) ∷ ‵ (Open ys) ∷ Γ) G)
         → Seq K 𝓛 (‵ (Whole ℓ ys) ∷ ‵ (flft κ q) ∷ Γ) G
     opened k =
-        fsplit t $ pure_l t (shr_slice_at R (at-list b o γ ys) (slice_val (b, o) (length ys) ∷ [])) (λ p. fsplit t $
+        fsplit t $ pure_l t (mut_slice_at R (at-list b o γ ys) (slice_val (b, o) (length ys) ∷ [])) (λ p. fsplit t $
         opens_slice t z R ys b o $ move t (2 ∷ 3 ∷ []) $ fjoin t $ move t (2 ∷ 0 ∷ []) $ fjoin t $
         pure_i t (room R (length ys)) (tt, tt) p.1 $ fjoin t $ move t (1 ∷ 0 ∷ []) $ k p.1)
 
@@ -71,7 +75,7 @@ module _ (R : RattleType) (κ : Lft) (q : Share) (γ : GName) (b o : ℕ) where
         step (λ s. move t (1 ∷ []) $ fsplit t $ pure_l t (room R (length ys)) (λ p. fsplit t $ move t (1 ∷ []) $ fsplit t $
         move t (3 ∷ 2 ∷ 0 ∷ 1 ∷ []) $
         closes_slice t z R ys zs e b o $ fjoin t $
-        pure_i t (shr_slice_at R (at-list b o γ zs) (slice_val (b, o) (length zs) ∷ [])) (tt, (tt, tt)) (refl, subst (Room R) (sym e) p) $ fjoin t $ s))
+        pure_i t (mut_slice_at R (at-list b o γ zs) (slice_val (b, o) (length zs) ∷ [])) (tt, (tt, tt)) (refl, subst (Room R) (sym e) p) $ fjoin t $ s))
 
     -- lent again for a lifetime of its own
     pub lent : ((ν : ℕ) (δ : GName) → Seq K 𝓛 (‵ ((MutSlice ℓ (ν ∷ []) R).own_val (at-list b o δ ys) (slice_val (b, o) (length ys) ∷ [])) ∷ ‵ (flft (ν ∷ []) full_share) ∷ ‵ (LentOut (ν ∷ []) δ ys) ∷ Γ) G)
@@ -90,15 +94,7 @@ module _ (R : RattleType) (κ : Lft) (q : Share) (γ : GName) (b o : ℕ) where
         drop t $
         use1 𝓛 (‵ (row R full_share zs b o)) (whole_out 𝓛 R zs b o) $ closed zs e $ s)
 
-    -- lent as a `&` for a lifetime of its own
-    pub shared : ((ν : ℕ) (δ : GName) → Seq K 𝓛 (‵ ((ShrSlice ℓ (ν ∷ []) R).own_val (at-list b o δ ys) (slice_val (b, o) (length ys) ∷ [])) ∷ ‵ (flft (ν ∷ []) full_share) ∷ ‵ (SharedOut (ν ∷ []) ys) ∷ Γ) G)
-        → Seq K 𝓛 (‵ (Whole ℓ ys) ∷ ‵ (flft κ q) ∷ Γ) G
-    shared k =
-        opened (λ fits. feq_i t ℕ (length ys) (length ys) refl $ fjoin t $ lft_new t z (λ ν. move t (1 ∷ []) $
-        use1 𝓛 (later (some (λ (δ : GName). ‵ ((ShrSlice ℓ (ν ∷ []) R).own_val (at-list b o δ ys) (slice_val (b, o) (length ys) ∷ [])) ⊛ ‵ (flent (ν ∷ []) ((arr_parts (shares R) (length ys)).part full_share ys b o))))) (lends_shr_slice 𝓛 R ℓ (ν ∷ []) full_share ys b o fits) $
-        await t z $ pick t (λ δ. split t $ move t (1 ∷ 3 ∷ []) $ fjoin t $ move t (1 ∷ 2 ∷ 0 ∷ []) $ k ν δ)))
-
-    -- it comes back as it was
+    -- what was lent as a `&` comes back as it was
     pub unshared : {ν : ℕ}
         → Step K 𝓛 (‵ (Whole ℓ ys) ∷ ‵ (flft κ q) ∷ Γ) G (‵ (flft (ν ∷ []) full_share) ∷ ‵ (SharedOut (ν ∷ []) ys) ∷ Γ) G
     unshared =

@@ -5,8 +5,8 @@ use mathlib.Core.Option.{Option, none, some}
 use Prim.Native.Nat.{ℕ, zero, suc, ◌+◌}
 use lib.Dec.{T}
 use seplogic.Ra.Ura.{Ura}
-use seplogic.Ra.TreeShare.{full_share}
-use mir.Syntax.{Ty, ty_unit, Local, local, place, field, copy, Rv, Body, skip, seq, assign, block, loop, cond, switch, exit, return, call}
+use base.Fraction.{full_share}
+use mir.Syntax.{Ty, ty_unit, Local, local, place, field, copy, Rv, Body, skip, seq, assign, block, loop, cond, switch, exit, return, call, unreachable, call_v, lend_static}
 use mir.Val.{Val, WT, has_ty}
 use base.Logic.{ent, sep, id⊢, via, comm∗, mono_l, mono_r}
 use base.Fml.{Share, Fml, ftrue, fsep, fat, froom, fdies}
@@ -31,6 +31,9 @@ rest (switch c a) = skip
 rest (exit k) = skip
 rest return = skip
 rest (call f xs d) = skip
+rest unreachable = skip
+rest (call_v f s xs d) = skip
+rest (lend_static p τ k) = skip
 
 -- the two arms of a branch
 abbrev pub held : Body → Body
@@ -44,6 +47,9 @@ held (switch c a) = skip
 held (exit k) = skip
 held return = skip
 held (call f xs d) = skip
+held unreachable = skip
+held (call_v f s xs d) = skip
+held (lend_static p τ k) = skip
 
 abbrev pub failed : Body → Body
 failed (cond c a b) = b
@@ -56,6 +62,9 @@ failed (switch c a) = skip
 failed (exit k) = skip
 failed return = skip
 failed (call f xs d) = skip
+failed unreachable = skip
+failed (call_v f s xs d) = skip
+failed (lend_static p τ k) = skip
 
 abbrev ty-of : Local → Ty
 ty-of (local τ h) = τ

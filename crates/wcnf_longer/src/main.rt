@@ -1,7 +1,10 @@
 // The text program on a file of 65,537 bytes.
+#![tactic(auto)]
+
 ghost use Rattle.std.specs.Prelude.{◌≡◌, length};
 
-use libc::{STDIN_FILENO, STDOUT_FILENO};
+use input::read_full;
+use std::io;
 use text_program::print_text;
 
 // One byte more than a file may have: a file that fills it is longer, whatever comes after.
@@ -12,10 +15,10 @@ fn store() -> [u8; 65537]
 }
 
 // What stands on standard input, as text or as a refusal.
-fn main() {
+fn main(rt: HostRuntime) -> io::Result<()> {
     let mut file = store();
-    let n = io::read_full(STDIN_FILENO, &mut file);
-    let mut out = io::large_buffer();
+    let n = read_full(&mut rt.reader(), &mut file)?;
+    let mut out = [0; 65536];
     let m = print_text(&file[..n], &mut out);
-    io::write_all(STDOUT_FILENO, &out[..m]);
+    rt.write_all(&out[..m])
 }

@@ -1,3 +1,4 @@
+#![tactic(auto)]
 // The windows of a calendar as rows of the groups' table, after the time groups (order 6).
 mod groups;
 mod row;

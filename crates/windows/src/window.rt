@@ -8,7 +8,7 @@ use number::{Number, refusal_of};
 use scope::Refusal;
 
 // A day from 1 to 7, from and to in minutes, with the offset after them; or a refusal.
-#[derive(Drop)]
+#[derive(Clone, Copy)]
 pub enum WindowRead {
     Value(u32, u32, u32, usize),
     Refused(Refusal),

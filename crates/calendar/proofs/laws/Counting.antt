@@ -1,7 +1,7 @@
 -- Counting the periods of a day and of a calendar, turn by turn: laws.
 use Prim.Native.Nat.{ℕ, suc, ◌+◌, ◌-◌, ◌≤◌, ◌<◌}
 use mathlib.Core.Path.{◌≡◌, refl, sym, ap, ◌∙◌}
-use mathlib.Core.List.{List, [], ◌∷◌}
+use mathlib.Core.List.{List}
 use mathlib.Core.Option.{some}
 use lib.ListN.{length}
 use native.Mathlib.Omega.{arith}
@@ -16,7 +16,7 @@ use Rattle.number.specs.Answers.{said, refused_by}
 use Rattle.parsing.proofs.laws.Parsing.{refused-got}
 use Rattle.calendar.specs.declared.period.PeriodRead.{PeriodRead}
 use Rattle.calendar.specs.declared.period.PeriodRead.TheVariants.{Value, Refused}
-use Rattle.calendar.specs.Answers.{said_period, refusal_in, counted_on, counted, totalled_on, totalled, times_counted}
+use Rattle.calendar.specs.Answers.{said_period, counted_on, counted, totalled_on, totalled, times_counted}
 
 -- what an answer stands for, by its case
 module _ (x : PeriodRead) where

@@ -1,10 +1,10 @@
 -- The array of a calendar, filled day by day and period by period: laws.
-use Prim.Native.Nat.{ℕ, zero, suc, ◌+◌, ◌-◌, ◌≤◌, ◌<◌}
+use Prim.Native.Nat.{ℕ, suc, ◌+◌, ◌-◌, ◌≤◌, ◌<◌}
 use mathlib.Core.Path.{◌≡◌, refl, sym, ap, ◌∙◌}
-use mathlib.Core.List.{List, [], ◌∷◌, ◌++◌, append_assoc}
+use mathlib.Core.List.{List, [], ◌∷◌, ◌++◌}
 use lib.ListN.{length, set, replicate, length-append, length-replicate}
 use native.Mathlib.Omega.{arith}
-use Rattle.scope.specs.Parsed.{Parsed, got, refused, and_then, cons, repeat}
+use Rattle.scope.specs.Parsed.{got, refused, repeat}
 use Rattle.scope.specs.Calendar.{Period as Span, limited_in, period_at, periods_at, day_at, period_count}
 use Rattle.parsing.specs.Parsing.{list_of}
 use Rattle.parsing.proofs.laws.Parsing.{before, before-cons, before-nil, before-end, repeat_more, repeat_refused, repeat-end}

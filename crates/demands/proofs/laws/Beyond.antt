@@ -1,22 +1,20 @@
 -- What the C functions beyond document 01 say of timetables: the check without the tail, and the best model.
 use Prim.Native.Nat.{ℕ, ◌≤◌}
 use mathlib.Core.Path.{◌≡◌, refl, ap, ◌∙◌}
-use mathlib.Core.Logic.{◌↔◌}
 use mathlib.Core.List.{List}
 use Rattle.scope.specs.Parsed.{Answer, answered, refusal, then}
 use Rattle.scope.specs.Instance.{Instance, parse}
 use Rattle.scope.specs.Operations.{decode_of, check_hard_of, nothing_below, best_of}
-use Rattle.scope.specs.Refutation.{NoneAtAll}
 use Rattle.scope.specs.Demands.{Accepted, KeepsHard, IsBest}
 use Rattle.scope.specs.declared.Objective.{Objective}
 use Rattle.laws.specs.Booleans.{impossible}
-use Rattle.theory.proofs.laws.Demands.{demand_hard, demand_best}
-use Rattle.operation_calls.specs.Operations.{Stores, lent_by, zeroed, steps_call, check_hard_call, best_call}
+use Rattle.theory.proofs.laws.Demands.{demand_best}
+use Rattle.operation_calls.specs.Operations.{Stores, lent_by, zeroed, check_hard_call, best_call}
 use Rattle.refusal_numbers.proofs.laws.Numbers.{zero-accepted, check-hard-numbers, best-numbers}
 use Rattle.demands.proofs.laws.Calls.{Read, was_read}
 
 module _ (file proof : List ℕ) (s : Stores) where
-  hard_read : {n : ℕ} → check_hard_of file proof (lent_by s) ≡ answered n → Read file
+  pub hard_read : {n : ℕ} → check_hard_of file proof (lent_by s) ≡ answered n → Read file
   unfolding check_hard_of
   hard_read h = was_read file (parse file) _ refl h
 
@@ -25,29 +23,10 @@ module _ (file proof : List ℕ) (s : Stores) where
     pub number : (check_hard_call file proof s).number ≡ 0
     pub value : (check_hard_call file proof s).value ≡ n
 
-  hard_answers : {n : ℕ} → RefutedHard n → check_hard_of file proof (lent_by s) ≡ answered n
+  pub hard_answers : {n : ℕ} → RefutedHard n → check_hard_of file proof (lent_by s) ≡ answered n
   hard_answers r =
       let a = zero-accepted (λ (steps : ℕ). (steps, zeroed s)) (zeroed s) refl (check-hard-numbers file proof (lent_by s)) r.number in
       a.eq ∙ ap answered (rw a.eq at r.value)
-
-  -- then no timetable keeps every hard constraint, whatever it costs
-  pub none_at_all : {n : ℕ} → RefutedHard n → (t : List ℕ) (cost : Objective) → KeepsHard file t cost → ⊥
-  none_at_all r =
-      let a = hard_read (hard_answers r) in
-      demand_hard.never file a.instance proof (lent_by s) _ a.accepted (hard_answers r)
-
-  -- and it returns 0 exactly when the proof refutes the hard clauses
-  pub hard_exactly : (i : Instance) → Accepted file i → (n : ℕ) → RefutedHard n ↔ NoneAtAll i proof (lent_by s) n
-  hard_exactly i a n =
-      let d = demand_hard.exactly file i proof (lent_by s) n a in (
-        λ r. d.0 (hard_answers r),
-        λ k.
-            let e = d.1 k in
-            record {
-              number = ap (λ (x : Answer ℕ). (steps_call x s).number) e;
-              value = ap (λ (x : Answer ℕ). (steps_call x s).value) e;
-            },
-      )
 
 module _ (file m proof : List ℕ) (before : ℕ) (s : Stores) where
   best_read : {w : Objective} {n : ℕ} → best_of file m proof (lent_by s) ≡ answered (w, n) → Read file

@@ -188,11 +188,3 @@ pub record DecodeMatches (file : List ℕ) (i : Instance) : Type 0 where
   pub models : (before : ℕ) (m : List ℕ) → ((decode_call file m before).number ≡ 0) ↔ Model i m
   pub timetables : (before : ℕ) (m : List ℕ) (k w : ℕ) → Decoded file m before k w → KeepsHard file (take k m) (record { 0 = w })
   pub one_each : (before : ℕ) (t : List ℕ) (cost : Objective) → KeepsHard file t cost → OneModel file t before cost.0
-
-pub demand2_of_decode : (file : List ℕ) (i : Instance) → Accepted file i → variables i ≤ most_variables → DecodeMatches file i
-demand2_of_decode file i a l =
-    record {
-      models = zero-exactly file i a l;
-      timetables = λ before m k w d. keeps file m before d;
-      one_each = λ before t cost k. one_model file i a l t cost k before;
-    }

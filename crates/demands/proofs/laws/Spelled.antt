@@ -1,7 +1,7 @@
 -- What the C functions answer for a file with windows: the same as for the file with its groups spelled out. `engine` proves what a
 -- call leaves from the operation's answer.
 use Prim.Native.Nat.{ℕ, ◌≤◌}
-use mathlib.Core.Path.{◌≡◌, ap}
+use mathlib.Core.Path.{◌≡◌}
 use mathlib.Core.List.{List}
 use lib.ListN.{length}
 use Rattle.scope.specs.Parsed.{got}

@@ -1,6 +1,6 @@
 -- The directory's rows: laws.
 use mathlib.Core.Path.{◌≡◌}
-use Prim.Native.Nat.{ℕ, ◌-◌, ◌<◌}
+use Prim.Native.Nat.{ℕ, ◌<◌}
 use Rattle.scope.specs.Steps.{put}
 use Rattle.directory.specs.declared.Row.{Row}
 use Rattle.directory.specs.Rows.{dying}

@@ -1,5 +1,5 @@
 -- A counted list in a store of words: its nodes one after another, and then its members: laws.
-use Prim.Native.Nat.{ℕ, ◌-◌}
+use Prim.Native.Nat.{ℕ}
 use mathlib.Core.Path.{◌≡◌, refl}
 use mathlib.Core.List.{List, [], ◌++◌}
 use lib.ListN.{length}

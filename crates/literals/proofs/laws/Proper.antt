@@ -1,5 +1,5 @@
 -- The gathered literals are literals of variables, and fit a word with a bit to spare: laws.
-use Prim.Native.Nat.{ℕ, zero, suc, ◌+◌, ◌-◌, ◌*◌, ◌≤◌, ◌<◌}
+use Prim.Native.Nat.{ℕ, zero, suc, ◌+◌, ◌*◌, ◌≤◌, ◌<◌}
 use mathlib.Core.List.{List, ◌++◌, map, flat_map}
 use native.Mathlib.Omega.{arith}
 use Rattle.scope.specs.Kinds.{from, up_to}

@@ -1,6 +1,6 @@
 -- How a directory is searched for an id, and what is found: laws.
 use mathlib.Core.Path.{◌≡◌}
-use Prim.Native.Nat.{ℕ, ◌<◌, ◌≤◌, ◌-◌}
+use Prim.Native.Nat.{ℕ, ◌<◌, ◌≤◌}
 use Rattle.directory.specs.declared.Row.{Row}
 use Rattle.directory.specs.Rows.{no_row}
 use Rattle.directory.proofs.laws.Rows.{Rising}

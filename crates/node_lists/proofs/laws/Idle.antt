@@ -1,10 +1,10 @@
 -- Kind 8's list: for each member of a group but first and last G over those before, H over those after, and I, which is counted: laws.
 use Prim.Native.Nat.{ℕ, zero, suc, ◌+◌, ◌-◌, ◌*◌}
-use mathlib.Core.Path.{◌≡◌, refl, sym, ◌∙◌}
+use mathlib.Core.Path.{◌≡◌, refl, sym, subst, ◌∙◌}
 use mathlib.Core.List.{List, [], ◌∷◌, ◌++◌, map, flat_map, map-append, append_assoc}
 use native.Mathlib.Omega.{arith}
 use native.Mathlib.Nat.{add-zero}
-use lib.ListN.{length, length-append, length-map}
+use lib.ListN.{length, drop, length-append, length-map}
 use lib.Seq.{take_at, drop_at, get_or_at}
 use Rattle.scope.specs.declared.Layout.{Layout}
 use Rattle.scope.specs.Cnf.{pos, opp, Gate, or, and}
@@ -57,14 +57,10 @@ unfolding gap_gates
 gates-step before rest x n v =
     let k = length before in
     let e : length (before ++ (x ∷ [])) ≡ suc k = simp length-append (omega arith) in
-    rw (
-      append_assoc before (x ∷ []) rest,
-      e,
-      take_at before (x ∷ rest) k refl,
-      get_or_at before x rest 0 k refl,
-      ← (append_assoc before (x ∷ []) rest),
-      drop_at (before ++ (x ∷ [])) rest (suc k) e,
-    )
+    let a : (before ++ (x ∷ [])) ++ rest ≡ before ++ x ∷ rest = append_assoc before (x ∷ []) rest in
+    let d : drop (suc k) (before ++ x ∷ rest) ≡ rest =
+    subst (λ (us : List ℕ). drop (suc k) us ≡ rest) a (drop_at (before ++ (x ∷ [])) rest (suc k) e) in
+    rw (take_at before (x ∷ rest) k refl, get_or_at before x rest 0 k refl, d, e, a)
 
 module _ (num : Atom → ℕ) where
   -- the idle times among the rest of a group's members, n of them, the first of whose nodes is the variable w

@@ -10,7 +10,7 @@ use Rattle.number.specs.declared.Number.{Number}
 use Rattle.number.specs.declared.Number.TheVariants.{Value, Refused}
 use Rattle.number.specs.Answers.{said, refusal_of}
 use Rattle.parsing.proofs.laws.Numbers.{LimitedAt, ReferenceAt, limited-got, reference-got}
-use Rattle.scope.specs.Number.{number, limited, reference}
+use Rattle.scope.specs.Number.{limited, reference}
 use mathlib.Core.List.{List}
 
 -- what was read goes to the rest; a refusal is the result

@@ -1,7 +1,7 @@
 -- What is known of a calendar and of windows that were read: their sizes, where they end, and the times that a window shows: laws.
 use Prim.Native.Nat.{ℕ, zero, suc, ◌+◌, ◌-◌, ◌≤◌, ◌<◌}
 use mathlib.Core.Path.{◌≡◌, refl, sym, ap, subst}
-use mathlib.Core.List.{List, [], ◌∷◌, ◌++◌}
+use mathlib.Core.List.{List, [], ◌∷◌}
 use mathlib.Core.Bool.{Bool, true, false, cond, ◌&&◌}
 use mathlib.Core.Option.{Option, none, some}
 use lib.Dec.{ltb, leb, eqb}
@@ -15,7 +15,7 @@ use Rattle.scope.specs.Instance.{Times, times_at}
 use Rattle.parsing.proofs.laws.Parsing.{and_then-got, unless-got, cons-got, got-value, repeat-length}
 use Rattle.parsing.proofs.laws.Numbers.{LimitedAt, number-got, limited-got, repeat-got}
 use Rattle.parsing.proofs.laws.Each.{repeat-each}
-use Rattle.parsing.specs.Each.{Each, each_none, each_more}
+use Rattle.parsing.specs.Each.{Each, each_none}
 use Rattle.parsing.specs.Numbers.{Ascending, none as no_more, more}
 
 -- a number within its limits

@@ -15,7 +15,7 @@ use Rattle.scope.specs.Demands.{Accepted, KeepsHard, Model, DemandSolverText}
 use Rattle.scope.specs.declared.Objective.{Objective}
 use Rattle.theory.proofs.laws.Demands.{demand2}
 use Rattle.theory.proofs.laws.Answered.{answered-value, provided_answers}
-use Rattle.printed_model.proofs.laws.ReadBack.{reads_back}
+use Rattle.printed_model.proofs.laws.TextBack.{reads_back}
 
 -- where both results are given, the first operation answers the first, and the second answers the other for it
 then-answers : {A B : Type 0} (a : Answer A) (f : A → Answer B) {x : A} {y : B}

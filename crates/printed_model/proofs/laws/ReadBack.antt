@@ -1,5 +1,5 @@
--- A model's text reads back as that model: its literals give each variable once, and each byte by the literal of its variable.
-use mathlib.Core.Path.{◌≡◌, refl, sym, ap, ap₂, ◌∙◌}
+-- The literals of a model give each variable once, and each byte by the literal of its variable.
+use mathlib.Core.Path.{◌≡◌, refl, sym, ap, ap₂, subst, ◌∙◌}
 use mathlib.Core.Bool.{Bool, true, false, cond, or-false}
 use mathlib.Core.List.{List, [], ◌∷◌, map}
 use mathlib.Core.Logic.{⊎_elim}
@@ -11,14 +11,11 @@ use lib.Dec.{eqb}
 use lib.ListN.{length, get_or}
 use borrow.Author.Tests.{eqb-true, eqb-false, eq-eqb, ne_eqb}
 use Rattle.laws.specs.Lists.{All}
-use Rattle.scope.specs.Parsed.{answered}
 use Rattle.scope.specs.Cnf.{pos, neg}
-use Rattle.scope.specs.Kinds.{from, up_to, member}
+use Rattle.scope.specs.Kinds.{from, member}
 use Rattle.scope.specs.Formula.{most_variables}
-use Rattle.scope.specs.SolverText.{times_given, not_once, model_given, model_in, literals_from, model_text}
-use Rattle.theory.proofs.laws.Ranges.{from_all}
+use Rattle.scope.specs.SolverText.{times_given, not_once, model_given, literals_from}
 use Rattle.printed_model.proofs.laws.Numerals.{Within}
-use Rattle.printed_model.proofs.laws.Words.{text-read}
 
 -- the literal of variable v for a byte, by whether that is 1
 abbrev given : ℕ → Bool → ℕ
@@ -28,7 +25,7 @@ given-variable : (v : ℕ) (t : Bool) → given v t / 2 ≡ v
 given-variable v true = omega arith
 given-variable v false = omega arith
 
-literals-within : (n v : ℕ) (m : List ℕ) → 1 ≤ v → v + length m ≤ suc n → All (Within n) (literals_from v m)
+pub literals-within : (n v : ℕ) (m : List ℕ) → 1 ≤ v → v + length m ≤ suc n → All (Within n) (literals_from v m)
 unfolding literals_from
 literals-within n v [] l h = tt
 literals-within n v (b ∷ bs) l h =
@@ -42,7 +39,7 @@ given-before w v [] l = refl
 given-before w v (b ∷ bs) l =
     rw (given-variable v (eqb b 1), ne_eqb v w (λ e. omega arith), given-before w (suc v) bs (omega arith))
 
-given_once : (w v : ℕ) (m : List ℕ) → v ≤ w → w < v + length m → times_given w (literals_from v m) ≡ 1
+pub given_once : (w v : ℕ) (m : List ℕ) → v ≤ w → w < v + length m → times_given w (literals_from v m) ≡ 1
 unfolding times_given literals_from
 given_once w v [] l h = let f : ⊥ = omega arith in absurd f
 given_once w v (b ∷ bs) l h =
@@ -52,7 +49,7 @@ given_once w v (b ∷ bs) l h =
     (λ (k : v < w). rw (ne_eqb v w (λ e. omega arith), given_once w (suc v) bs k (omega arith)))
     (eq-or-lt_of_le l))
 
-none-not-once : (ls vs : List ℕ) → All (λ v. times_given v ls ≡ 1) vs → not_once ls vs ≡ none
+pub none-not-once : (ls vs : List ℕ) → All (λ v. times_given v ls ≡ 1) vs → not_once ls vs ≡ none
 unfolding not_once
 none-not-once ls [] h = refl
 none-not-once ls (v ∷ vs) h = rw (h.0, none-not-once ls vs h.1)
@@ -75,10 +72,12 @@ member-at : (v k : ℕ) (m : List ℕ) → member (pos (v + k)) (literals_from v
 unfolding member literals_from
 member-at v k [] = refl
 member-at v zero (b ∷ bs) =
-    rw (add-zero, eqb-given-same v (eqb b 1), member-before v (suc v) bs (omega arith)) (or-false (eqb b 1))
+    subst (λ (u : ℕ). member (pos u) (literals_from v (b ∷ bs)) ≡ eqb b 1) (sym (add-zero v))
+    (rw (eqb-given-same v (eqb b 1), member-before v (suc v) bs (omega arith)) (or-false (eqb b 1)))
 member-at v (suc k) (b ∷ bs) =
     let e : v + suc k ≡ suc v + k = omega arith in
-    rw (eqb-given (v + suc k) v (eqb b 1) (λ q. omega arith), e) (member-at (suc v) k bs)
+    rw (eqb-given (v + suc k) v (eqb b 1) (λ q. omega arith))
+    (subst (λ (u : ℕ). member (pos u) (literals_from (suc v) bs) ≡ eqb (get_or bs k 0) 1) (sym e) (member-at (suc v) k bs))
 
 -- numbers from v on, each taken to the byte of its place
 map-places : (f : ℕ → ℕ) (v : ℕ) (m : List ℕ) → ((k : ℕ) → f (v + k) ≡ get_or m k 0) → map f (from v (length m)) ≡ m
@@ -96,18 +95,7 @@ byte-back b h = go (eqb b 1) refl
     go false e = omega (arith, eqb-false b 1 e)
 
 module _ (m : List ℕ) (few : length m ≤ most_variables) (bytes : (k : ℕ) → get_or m k 0 ≤ 1) where
-  model_back : model_given (length m) (literals_from 1 m) ≡ m
+  pub model_back : model_given (length m) (literals_from 1 m) ≡ m
   model_back =
       map-places (λ v. cond (member (pos v) (literals_from 1 m)) 1 0) 1 m
       (λ k. ap (λ t. cond t 1 0) (member-at 1 k m) ∙ byte-back (get_or m k 0) (omega (arith, bytes k)))
-
-  pub reads_back : model_in (length m) (model_text m) ≡ answered m
-  unfolding model_in model_text
-  reads_back =
-      let n = length m in
-      let ls = literals_from 1 m in
-      rw (
-        text-read n ls few (literals-within n 1 m (omega arith) (omega arith)),
-        none-not-once ls (up_to n) (from_all (λ v. times_given v ls ≡ 1) 1 n (λ v a b. given_once v 1 m a b)),
-        model_back,
-      )

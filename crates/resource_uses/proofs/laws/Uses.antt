@@ -176,7 +176,7 @@ module _ (T : ℕ) (b rs : List ℕ) (n : ℕ) (u : List ℕ) (a : UsesOf T b rs
             λ p q hp hq.
             let k : suc q ≡ q + 1 = omega arith in
             d.each p q hp hq
-            ∙ rw (a.each p q hp hq, occurrences-once (suc p) 99 0 (row_at rs n) h, add-one n, k, bit-next b (n * T) q);
+            ∙ rw (a.each p q hp hq, occurrences-once (suc p) 99 0 (row_at rs n) h, add-one n, k, bit-next b (n * T) q) cc;
       }
 
   pub uses_most : (p q : ℕ) → p < 99 → q < T → get_or u (p * T + q) 0 ≤ n

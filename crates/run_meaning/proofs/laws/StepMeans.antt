@@ -1,5 +1,5 @@
 -- A step-level turn keeps what holds of a check: a clause is deleted, kept or judged, and a step is read.
-use mathlib.Core.Path.{◌≡◌, refl, sym, ap, ◌∙◌, fun_ext}
+use mathlib.Core.Path.{◌≡◌, refl, sym, ap, subst, ◌∙◌, fun_ext}
 use mathlib.Core.Bool.{Bool, true, false, cond, ◌&&◌}
 use mathlib.Core.List.{List, [], ◌∷◌}
 use mathlib.Core.Option.{Option, none, some}
@@ -43,7 +43,7 @@ use Rattle.hints.specs.Machine.{stopped, onward}
 use Rattle.hints.proofs.laws.Machine.{onward-end, onward-more}
 use Rattle.trail.specs.Recorded.{largest}
 use Rattle.turns.specs.Check.{verdict, row_of, kept_as, unwound, unwound_marks}
-use Rattle.run_meaning.proofs.laws.Hints.{in_hint, in_hints, IsLive, outside-false, literals-good, hints_same, live_same}
+use Rattle.run_meaning.proofs.laws.Hints.{in_hint, in_hints, AllLive, IsLive, outside-false, literals-good, hints_same, live_same}
 use Rattle.run_meaning.proofs.laws.Invariant.{Base, InStep, ending, before, live_in, state_of, Following, Keeping, Wiping, Deleting, InvariantAt}
 
 -- what a deletion leaves does not go by the clauses that were live before it
@@ -207,6 +207,9 @@ module _ (s : List ℕ) (lim : Limits) (A : Answer ℕ) (c : Check) (R : ℕ →
       kept_used : min (c.tally.words + c.clause.size) largest ≡ c.tally.words + length w.adding.literals
       kept_used = omega (arith, w.words_fit, w.adding.size)
 
+      kept_all : live_in (kept_as c).tally kept_rows kept_words ≡ put (live_in c.tally R ws) c.clause.id (some w.adding.literals)
+      kept_all = rw kept_count kept_live
+
       kept_wiping : Wiping s lim A (kept_as c).tally (kept_as c).clause kept_rows kept_words ms c.clause.id c.clause.hints
       kept_wiping =
           record {
@@ -227,7 +230,7 @@ module _ (s : List ℕ) (lim : Limits) (A : Answer ℕ) (c : Check) (R : ℕ →
                 };
             left = w.adding.hints;
             left_at = w.adding.hints_at;
-            live = rw (kept_count, kept_live) (
+            live = subst (λ (L : Live). AllLive L (c.clause.id ∷ w.adding.hints)) (sym kept_all) (
               rw (put_same (live_in c.tally R ws) c.clause.id (some w.adding.literals))
                   tt,
               live_same (live_in c.tally R ws) _ hint_kept w.adding.hints w.live,

@@ -1,6 +1,6 @@
 -- The size of a counted list: a counter over its literals, and the units of its bounds: laws.
 use mathlib.Core.Path.{◌≡◌, refl}
-use Prim.Native.Nat.{ℕ, zero, suc, ◌+◌, ◌-◌, ◌*◌, min, ◌≤◌}
+use Prim.Native.Nat.{ℕ, zero, suc, ◌+◌, ◌*◌, min, ◌≤◌}
 use native.Mathlib.Omega.{arith}
 use Rattle.scope.specs.Formula.{columns}
 use Rattle.sizing.specs.Sums.{sum, multiple}

@@ -11,8 +11,9 @@ use Rattle.scope.specs.Operations.{Lent, read_of, score_of, same_sheet_of, sizes
 use Rattle.scope.specs.Demands.{Accepted, Alike, DemandCalendar}
 use Rattle.parsing.proofs.laws.Parsing.{got-value}
 use Rattle.spelled_out.proofs.laws.Pieces.{Pieces, pieces, made_of, spelled}
-use Rattle.spelled_out.proofs.laws.Whole.{few-groups, spelled-read}
-use Rattle.spelled_out.proofs.laws.Windows.{shows, only}
+use Rattle.spelled_out.proofs.laws.Whole.{few-groups}
+use Rattle.spelled_out.proofs.laws.SpelledFile.{spelled-read}
+use Rattle.spelled_out.proofs.laws.Shown.{shows, only}
 
 -- operations that go on alike answer alike
 then_same : {A B : Type 0} (a : Answer A) (f g : A → Answer B) → ((x : A) → f x ≡ g x) → then a f ≡ then a g

@@ -4,24 +4,21 @@ use mathlib.Core.Path.{◌≡◌, sym, ap, ◌∙◌}
 use mathlib.Core.List.{List, [], ◌++◌, flat_map, append_assoc, append-nil}
 use mathlib.Core.Option.{none}
 use native.Mathlib.Omega.{arith}
-use lib.ListN.{length, take, drop, length-append, length-drop}
-use lib.Seq.{take_all}
+use lib.ListN.{length, drop, length-append, length-drop}
 use borrow.Author.Tests.{le-leb, ne_eqb}
 use Rattle.scope.specs.Parsed.{Parsed, got, repeat}
 use Rattle.scope.specs.Number.{limited, listed}
 use Rattle.scope.specs.Kinds.{Event, Constraint}
 use Rattle.scope.specs.Instance.{Instance, times_at, sizes_at, event_at, groups_at, all_groups_at, constraints_at, file_up_to}
-use Rattle.scope.specs.SpelledOut.{spelt, spelt_list, bytes_from}
+use Rattle.scope.specs.SpelledOut.{spelt, spelt_list}
 use Rattle.parsing.specs.Numbers.{Ascending}
 use Rattle.parsing.specs.Each.{Each}
 use Rattle.parsing.proofs.laws.Parsing.{repeat-length}
 use Rattle.parsing.proofs.laws.Numbers.{limited-got}
 use Rattle.spelled_out.proofs.laws.Reads.{Reads, drop_past, reads-and_then, reads-append, reads-limited}
-use Rattle.spelled_out.proofs.laws.Local.{bytes-join, local-repeat, local-limited}
-use Rattle.spelled_out.proofs.laws.Parts.{local-listed, local-event, local-sizes, local_constraints}
-use Rattle.spelled_out.proofs.laws.Spelt.{reads-spelt, reads-lists}
+use Rattle.spelled_out.proofs.laws.SpeltLists.{reads-spelt, reads-lists}
 use Rattle.parsing.proofs.laws.Calendar.{times-got, windows-after}
-use Rattle.spelled_out.proofs.laws.Pieces.{Pieces, made_of}
+use Rattle.spelled_out.proofs.laws.Pieces.{Pieces}
 
 -- where the next bytes of a file are known, they are read, and those after them are known
 next : {A Q : Type 0} {f : List ℕ → ℕ → Parsed A} {w : List ℕ} {v : A} → Reads f w v → (s : List ℕ) (at : ℕ) (q : List ℕ) → at ≤ length s
@@ -65,7 +62,7 @@ module _ (most T : ℕ) (n : ℕ × ℕ) (es : List Event) (gs ws : List (List �
   regroup = rw (append_assoc (spelt (length gs + length ws)) (groups ++ flat_map spelt_list ws) constraints, append_assoc groups (flat_map spelt_list ws) constraints)
 
   -- they make a file that is read as the instance
-  made_read : (s : List ℕ)
+  pub made_read : (s : List ℕ)
       → s ≡ spelt T ++ ((sizes ++ events) ++ (spelt (length gs + length ws) ++ (groups ++ (flat_map spelt_list ws ++ constraints))))
       → file_up_to most s ≡ got (record { times = T; resources = n.1; events = es; groups = gs ++ ws; constraints = cs }) (length s)
   unfolding file_up_to
@@ -85,7 +82,7 @@ module _ (most T : ℕ) (n : ℕ × ℕ) (es : List Event) (gs ws : List (List �
       rw (times-read T s a low times, size, event, group, constraint, le-leb (length s) end (omega arith), through))))))
 
 -- up to 1,024 time groups, and as many windows
-all-groups : (file : List ℕ) (i : Instance) (p : Pieces 1024 file i) → length i.groups ≡ length p.gs + length p.ws
+pub all-groups : (file : List ℕ) (i : Instance) (p : Pieces 1024 file i) → length i.groups ≡ length p.gs + length p.ws
 all-groups file i p = ap (λ (i : Instance). length i.groups) (sym p.whole) ∙ length-append p.gs p.ws
 
 pub few-groups : (file : List ℕ) (i : Instance) (p : Pieces 1024 file i) → length i.groups ≤ 2048
@@ -98,26 +95,3 @@ few-groups file i p =
       (limited-got 0 1024 file p.c p.count).high,
       (windows-after p.t.days p.t.count file p.e t.periods p.windows).count,
     )
-
--- the file that an accepted file's pieces make, where as many groups are allowed
-pub spelled-read : (file : List ℕ) (i : Instance) (p : Pieces 1024 file i) (most : ℕ) → length i.groups ≤ most
-    → file_up_to most (made_of p) ≡ got i (length (made_of p))
-spelled-read file i p most few =
-    let T = p.t.count in
-    let t = times-got file p.times in
-    let sizes = local-sizes.span file p.a t.inside p.sizes in
-    let events = (local-repeat p.n.0 (event_at T p.n.1) (local-event T p.n.1)).span file p.b sizes.inside p.events in
-    let count = (local-limited 0 1024).span file p.c events.inside p.count in
-    let groups = (local-repeat p.G (listed T) (local-listed T)).span file p.d count.inside p.groups in
-    let windows = windows-after p.t.days T file p.e t.periods p.windows in
-    let constraints =
-    (local_constraints T p.n.1 p.es (p.gs ++ p.ws)).span file p.f (windows.inside groups.inside) p.constraints in
-    let many = repeat-length p.G (listed T file) p.d p.groups in
-    let rest : take (p.last - p.f) (drop p.f file) ≡ drop p.f file =
-    take_all (p.last - p.f) (drop p.f file) (rw length-drop (omega (arith, p.through))) in
-    made_read most T p.n p.es p.gs p.ws p.cs
-    (bytes_from p.a p.b file) (bytes_from p.b p.c file) (bytes_from p.d p.e file) (drop p.f file)
-    t.low t.high (omega (arith, all-groups file i p)) (omega (arith, all-groups file i p, few-groups file i p))
-    sizes.reads events.reads (rw many groups.reads) windows.each (rw rest at constraints.reads)
-    (made_of p) (rw (bytes-join p.a p.b p.c file sizes.ahead events.ahead))
-    ∙ ap (λ (i : Instance). got i (length (made_of p))) p.whole

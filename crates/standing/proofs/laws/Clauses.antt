@@ -11,7 +11,6 @@ use lib.Seq.{slice, slice-cons, take_all, take-length}
 use borrow.Author.Tests.{leb-true, leb-false}
 use Rattle.theory.specs.Marked as steps
 use Rattle.theory.specs.Marked.{Marks, also_literal, standing}
-use Rattle.standing.specs.declared.Standing.{Standing}
 use Rattle.marks.specs.Marks.{marks_of, put_mark}
 use Rattle.marks.proofs.laws.Marks.{mark-opened}
 use Rattle.standing.specs.Clauses.{part, wiped}

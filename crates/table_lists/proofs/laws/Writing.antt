@@ -53,7 +53,9 @@ pub rows_more : (t r : List ℕ) (g : ℕ)
     → length r ≡ 126
     → rows (put_row t g r) (g + 1) ≡ rows t g ++ (row_of r ∷ [])
 unfolding rows
-rows_more t r g h l = rw (add-one, rows-kept t _ g g (omega arith) (omega arith), row_at-put t r g h l)
+rows_more t r g h l =
+    let kept : rows (put_row t g r) g ≡ rows t g = rows-kept t _ g g (omega arith) (omega arith) in
+    rw (add-one, kept, row_at-put t r g h l)
 
 -- one event more
 events-kept : (d t u : List ℕ) (n e v : ℕ)
@@ -72,4 +74,5 @@ pub events-more : (d t r : List ℕ) (e v : ℕ)
     → events_of (set d e v) (put_row t e r) (e + 1) ≡ events_of d t e ++ (record { duration = v; resources = row_of r } ∷ [])
 unfolding events_of
 events-more d t r e v h l k =
-    rw (add-one, events-kept d t _ e e v (omega arith) (omega arith), get_or-set_same d e v 0 h, row_at-put t r e l k)
+    let kept : events_of (set d e v) (put_row t e r) e ≡ events_of d t e = events-kept d t _ e e v (omega arith) (omega arith) in
+    rw (add-one, kept, get_or-set_same d e v 0 h, row_at-put t r e l k)

@@ -14,7 +14,7 @@ use Rattle.scope.specs.Instance.{Instance, parse}
 use Rattle.scope.specs.Formula.{variables, most_variables}
 use Rattle.scope.specs.Text.{text}
 use Rattle.scope.specs.Operations.{text_of, printed, program_prints}
-use Rattle.io.specs.Counts.{IsPrefixLen}
+use Rattle.std.specs.Counts.{IsPrefixLen}
 use Rattle.sink.specs.Run.{Out, out, put, Ran, run}
 use Rattle.sink.proofs.laws.Run.{run_fits}
 use Rattle.text.specs.Written.{written}

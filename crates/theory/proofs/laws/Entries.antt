@@ -1,4 +1,5 @@
 -- The entries of kinds 1 to 8, valued in a timetable: their nodes and members count the same.
+use mathlib.Core.Path.{subst}
 use mathlib.Core.Path.{◌≡◌, refl, sym, ap, ap₂, ◌∙◌}
 use mathlib.Core.Bool.{Bool, true, false, not, cond, ◌&&◌, and-true, and_assoc}
 use mathlib.Core.List.{List, [], ◌∷◌, ◌++◌, map, flat_map, sum, map-append}
@@ -65,7 +66,9 @@ module _ (τ : Atom → Bool) where
       let ms = entries_nodes xs (k + added x) in
       let ws = values_after τ vs (entry_nodes x k) in
       let l : length ws ≡ k + added x = omega (arith, length-values τ vs (entry_nodes x k), length-entry x k) in
-      rw (values_append τ vs (entry_nodes x k) ms)
+      subst
+      (λ (us : List Bool). map (ref_true τ us) (entry_member x k ∷ entries_members xs (k + added x)) ≡ map (entry_true τ) (x ∷ xs))
+      (sym (values_append τ vs (entry_nodes x k) ms))
       (ap₂ (λ b bs. b ∷ bs) (entry-true x vs k ms e) (entries_true xs ws (k + added x) l))
 
   -- as many members are true as entries

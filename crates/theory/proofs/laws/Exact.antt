@@ -151,6 +151,8 @@ module _ (lim : Limits) (s : List ℕ) where
   -- the other way: such a list is run, where k is at least the number of steps
   lists_run : (k at : ℕ) (st : State) {ts : Tokens} {ss : List Step} → ts ≡ tokens_from s at → ReadAs ts ss → Taken lim st ss
       → length ss ≤ k → run k lim s at st ≡ answered (st.steps + length ss)
+  lists_run zero at st t done x h = elim x [ ]
+  lists_run (suc k) at st t done x h = elim x [ ]
   lists_run zero at st t (first r q) (ends w e) h = absurd (omega arith)
   lists_run zero at st t (first r q) (goes_on_lem w e a) h = absurd (omega arith)
   lists_run (suc k) at st t (first {ts' = ts'} {s = x} r q) (ends w e) h =

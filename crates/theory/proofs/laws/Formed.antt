@@ -15,6 +15,7 @@ use Rattle.scope.specs.Refutation.{Literals, no_literal, literal, WellFormed, ad
 -- a variable is among those of some literals exactly where one of them has it
 member-variable : (v k : ℕ) (ls : List ℕ) → Memᴰ k ls → k / 2 ≡ v → member v (map (λ k. k / 2) ls) ≡ true
 unfolding member
+member-variable v k [] i h = elim i [ ]
 member-variable v k (l ∷ ls) (Memᴰ.head e) h = rw (eq-eqb v (l / 2) (sym h ∙ ap (λ j. j / 2) e))
 member-variable v k (l ∷ ls) (Memᴰ.tail i) h = or_also (eqb v (l / 2)) (member-variable v k ls i h)
   where

@@ -1,12 +1,13 @@
 -- What kind 3 counts: in a timetable the members of its list that are true are the times held by a subevent that starts outside
 -- the group. No other time is held so, since no subevent is longer than the event's duration.
+use mathlib.Core.Path.{subst}
 use mathlib.Core.Path.{◌≡◌, refl, sym, ap, ap₂, ◌∙◌}
 use mathlib.Core.Bool.{Bool, true, false, not, cond, ◌&&◌, ◌||◌, and-true, or-false, and-eq-true_iff, false≢true}
 use mathlib.Core.List.{List, [], ◌∷◌, ◌++◌, map}
-use Prim.Native.Nat.{ℕ, zero, suc, ◌+◌, ◌-◌, ◌*◌, ◌≤◌, ◌<◌}
+use Prim.Native.Nat.{ℕ, zero, suc, ◌+◌, ◌-◌, ◌≤◌, ◌<◌}
 use native.Mathlib.Nat.{zero-add}
 use native.Mathlib.Omega.{arith}
-use lib.Dec.{leb, eqb}
+use lib.Dec.{eqb}
 use lib.ListN.{length, get_or}
 use borrow.Author.Tests.{le-leb, lt-leb, eqb-true}
 use Rattle.laws.specs.Lists.{All, All-at}
@@ -127,7 +128,10 @@ module _ (T : ℕ) (τ : Atom → Bool) (e : ℕ) (d : ℕ) (g : List ℕ) where
   unfolding reaches_nodes reaches_members trues
   one_more x xs vs k p b h rest q =
       let ms = reaches_nodes e xs (k + reach_added x) (reach_ref e x k) in
-      rw (values_append τ vs (reach_nodes e x k p) ms) (ap₂ ◌+◌ (ap (λ v. cond v 1 0) (h ms)) q)
+      subst
+      (λ (us : List Bool). trues (map (ref_true τ us) (reach_ref e x k ∷ reaches_members e xs (k + reach_added x))) ≡ cond b 1 0 + rest)
+      (sym (values_append τ vs (reach_nodes e x k p) ms))
+      (ap₂ ◌+◌ (ap (λ v. cond v 1 0) (h ms)) q)
 
   module _ (starts : (t : ℕ) → 1 ≤ t → t ≤ T → τ (S e t) ≡ true → τ (Y e t) ≡ true) where
     -- what is known before the times after u: where the time u is held, as many as can be reached are near

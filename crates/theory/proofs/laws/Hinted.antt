@@ -154,7 +154,7 @@ module _ {φ τ : List ℕ} (d : Opposites φ τ) where
 hinted : {φ τ : List ℕ} (L : Live) → Opposites φ τ → (hs : List ℕ) → hints_show L φ hs ≡ follows → Hinted L τ hs
 unfolding hints_show
 hinted L d [] e = impossible (cc)
-hinted {φ} {τ} L d (h ∷ hs) e = by_live (λ k. hinted L (opposites-more d k) hs) (L h) refl e
+hinted {φ} {τ} L d (h ∷ hs) e = by_live (λ k. hinted {φ = opp k ∷ φ} {τ = k ∷ τ} L (opposites-more d k) hs) (L h) refl e
   where
     Ih : Type 0
     Ih = (k : ℕ) → hints_show L (opp k ∷ φ) hs ≡ follows → Hinted L (k ∷ τ) hs
@@ -183,12 +183,12 @@ hinted {φ} {τ} L d (h ∷ hs) e = by_live (λ k. hinted L (opposites-more d k)
     by_live ih (some c) t e = rest ih c t (outside φ c) refl e
 
 -- and where it follows, the hints show it
-hinting : {φ τ : List ℕ} (L : Live) → Opposites φ τ → {hs : List ℕ} → Hinted L τ hs → hints_show L φ hs ≡ follows
+hinting : (L : Live) {φ τ : List ℕ} → Opposites φ τ → {hs : List ℕ} → Hinted L τ hs → hints_show L φ hs ≡ follows
 unfolding hints_show
-hinting {φ} L d (conflict {c = c} t f) = rw (t, left-none φ c (false_all d c f))
-hinting {φ} L d (implied {xs = xs} {ys = ys} {k = k} t f o g n) =
+hinting L {φ} d (conflict {c = c} t f) = rw (t, left-none φ c (false_all d c f))
+hinting L {φ} d (implied {xs = xs} {ys = ys} {k = k} t f o g n) =
     let p = open_is d k o in
-    rw (t, left_one φ xs k ys (false_all d xs f) p.0 (false_all d ys g), p.1) (hinting L (opposites-more d k) n)
+    rw (t, left_one φ xs k ys (false_all d xs f) p.0 (false_all d ys g), p.1) (hinting L {φ = opp k ∷ φ} (opposites-more d k) n)
 
 -- the hints show that a clause follows exactly where it does
 pub hints-exact : (L : Live) (c hs : List ℕ) → (hints_show L c hs ≡ follows) ↔ Follows L c hs

@@ -1,12 +1,12 @@
 -- The list of kind 3: how many nodes and members it has, and what these refer to.
 use mathlib.Core.Path.{◌≡◌, refl, ap}
 use mathlib.Core.Bool.{Bool, true, false, cond}
-use mathlib.Core.List.{List, [], ◌∷◌, ◌++◌}
+use mathlib.Core.List.{List, [], ◌∷◌}
 use Prim.Native.Nat.{ℕ, zero, suc, ◌+◌, ◌-◌, ◌*◌, ◌≤◌}
 use native.Mathlib.Omega.{arith}
 use lib.ListN.{length, length-append}
 use Rattle.laws.specs.Lists.{All}
-use Rattle.scope.specs.Kinds.{Atom, Y, S, Ref, is, a_node, Node, Listed, from, up_to, member, Reach, started, carried, both, reached, reach_ref, reach_nodes, reach_added, reaches_nodes, reaches_members, reaches, from_outside}
+use Rattle.scope.specs.Kinds.{Atom, Y, S, Ref, is, a_node, from, up_to, member, Reach, started, carried, both, reached, reach_ref, reach_nodes, reach_added, reaches_nodes, reaches_members, from_outside}
 use Rattle.parsing.specs.Valid.{Within}
 use Rattle.theory.proofs.laws.Ranges.{length_from_lem, from_all}
 use Rattle.theory.proofs.laws.Nodes.{Known, NodesKnown, ListKnown, known_append}

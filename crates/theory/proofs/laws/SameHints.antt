@@ -178,7 +178,7 @@ unfolding all_false
 marking-clause d no_literal h = d
 marking-clause {m = m} {φ = φ} d (literal {l} {ls} a b f k) h =
     let e = marking-false d l (h l (Memᴰ.head refl)) in
-    let r = marking-clause e k (open-before m l ls (λ j i. h j (Memᴰ.tail i)) f) in
+    let r = marking-clause {m = make_false m l} {φ = l ∷ φ} e k (open-before m l ls (λ j i. h j (Memᴰ.tail i)) f) in
     record { small = r.small; set_false = λ j. sym (member-middle j l ls φ) ∙ r.set_false j }
 
 none-marked : Marking all_open []
@@ -214,7 +214,7 @@ by-rest φ (l ∷ k ∷ ls) hs f g h = refl
 hints-marked : {m : Marks} {φ : List ℕ} (L : Live) → Marking m φ → (hs : List ℕ) → hints_show L φ hs ≡ marked_show L m hs
 unfolding hints_show marked_show
 hints-marked L d [] = refl
-hints-marked {m} {φ} L d (h ∷ hs) = go (λ l z. hints-marked L (marking_true d l z) hs) (L h)
+hints-marked {m} {φ} L d (h ∷ hs) = go (λ l z. hints-marked {m = make_true m l} {φ = opp l ∷ φ} L (marking_true d l z) hs) (L h)
   where
     Ih : Type 0
     Ih = (l : ℕ) → m (l / 2) ≡ 0 → hints_show L (opp l ∷ φ) hs ≡ marked_show L (make_true m l) hs

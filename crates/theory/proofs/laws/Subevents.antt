@@ -1,4 +1,5 @@
 -- What kinds 9 and 10 count: the subevents of a length, and those whose length lies outside two.
+use mathlib.Core.Path.{subst, sym}
 use mathlib.Core.Path.{◌≡◌, refl, ap, ap₂, ◌∙◌}
 use mathlib.Core.Bool.{Bool, true, false, cond, ◌&&◌, ◌||◌}
 use mathlib.Core.List.{List, [], ◌∷◌, ◌++◌, map, flat_map}
@@ -32,7 +33,9 @@ module _ (T : ℕ) (τ : Atom → Bool) (e : ℕ) where
         let m : length ws ≡ T + s * (suc t - 1) = length-values τ vs (f t) ∙ omega (arith, rows t, after_step T s t h) in
         let p : suc t - 1 ≡ t = omega arith in
         let r : T + s * t - 1 < length ws = rw m (rw p (omega arith)) in
-        rw (values_append τ vs (f t) ms)
+        subst
+        (λ (us : List Bool). map (ref_true τ us) (map (λ u. is (a_node (T + s * u - 1))) (t ∷ from (suc t) k)) ≡ map g (t ∷ from (suc t) k))
+        (sym (values_append τ vs (f t) ms))
         (ap₂ ◌∷◌ (values_keep τ ws ms (T + s * t - 1) r ∙ last t vs h (omega arith) o n)
         (each_true (suc t) k ws (omega arith) (omega arith) (ons_keep T τ e vs (f t) o) m))
 

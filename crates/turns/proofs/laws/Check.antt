@@ -1,7 +1,7 @@
 -- A check between two walks over ids: what is counted, and what each step-level turn makes of it: laws.
 use mathlib.Core.Path.{◌≡◌}
 use mathlib.Core.List.{List}
-use Prim.Native.Nat.{ℕ, ◌-◌, ◌≤◌, ◌<◌}
+use Prim.Native.Nat.{ℕ, ◌≤◌, ◌<◌}
 use lib.ListN.{length}
 use Rattle.theory.proofs.laws.StepTokens.{read_step}
 use Rattle.steps.specs.declared.step.Read.{Read}

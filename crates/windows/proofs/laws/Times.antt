@@ -3,7 +3,7 @@ use Prim.Native.Nat.{ℕ, suc, ◌+◌, ◌*◌, ◌%◌, ◌≤◌, ◌<◌}
 use mathlib.Core.Path.{◌≡◌, refl, sym, ap, ◌∙◌}
 use mathlib.Core.Bool.{Bool, true, false, cond}
 use mathlib.Core.List.{List, [], ◌∷◌, ◌++◌}
-use mathlib.Core.Option.{Option, none, some}
+use mathlib.Core.Option.{none, some}
 use lib.Dec.{eqb, leb, ltb}
 use lib.ListN.{length, drop, length-append}
 use native.Mathlib.Omega.{arith}
@@ -19,7 +19,7 @@ use Rattle.parsing.specs.Each.{Each, each_none, each_more}
 use Rattle.parsing.specs.Numbers.{Ascending}
 use Rattle.tables.specs.Room.{dated, group_room}
 use Rattle.tables.proofs.laws.Reading.{groups-got}
-use Rattle.windows.specs.Times.{times_of, times_in, days_in, Calendared, TimesRead}
+use Rattle.windows.specs.Times.{times_in, days_in, Calendared, TimesRead}
 
 -- a file that begins with a 0 has a calendar from byte 1 on
 first-zero : (bs : List ℕ) → limited 0 125 (0 ∷ bs) 0 ≡ got 0 1

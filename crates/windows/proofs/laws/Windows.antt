@@ -10,9 +10,8 @@ use Rattle.scope.specs.Calendar.{Period as Span, limited_in, period_count, windo
 use Rattle.scope.specs.Instance.{Times, groups_at, all_groups_at}
 use Rattle.scope.specs.declared.Refusal.{Refusal}
 use Rattle.number.specs.Answers.{refused_by}
-use Rattle.parsing.specs.Each.{Each}
 use Rattle.parsing.proofs.laws.Each.{each_at}
-use Rattle.parsing.proofs.laws.Parsing.{and_then-got, before, before-nil}
+use Rattle.parsing.proofs.laws.Parsing.{and_then-got, before}
 use Rattle.parsing.proofs.laws.Calendar.{CalendarRead, calendar-got, limited_in-got}
 use Rattle.tables.specs.Rows.{row_of, rows}
 use Rattle.table_lists.proofs.laws.Writing.{put_row, rows_more}
@@ -20,7 +19,7 @@ use Rattle.tables.proofs.laws.Laws.{length_rows}
 use Rattle.tables.proofs.laws.Reading.{groups-got}
 use Rattle.calendar.specs.declared.days.Period.{Period}
 use Rattle.calendar.specs.Rows.{day_row, blank_day, rows_after, calendar_rows}
-use Rattle.calendar.proofs.laws.Rows.{length-day_row, length-rows_after}
+use Rattle.calendar.proofs.laws.Rows.{length-day_row}
 use Rattle.windows.specs.declared.window.WindowRead.{WindowRead}
 use Rattle.windows.specs.declared.window.WindowRead.TheVariants.{Value, Refused}
 use Rattle.windows.specs.Answers.{said_window}

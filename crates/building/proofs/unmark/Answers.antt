@@ -1,0 +1,34 @@
+use Rattle.std.proofs.Common.{ap, length, arith}
+use Rattle.building.proofs.Building.{pass-start, pass_next, pass_marked, pass_end}
+use Rattle.building.proofs.unmark.Goals as goal
+
+pub loop-i-init : goal.loop-i-init
+loop-i-init c = pass-start c.args.words.now c.args.first c.args.end (omega arith)
+
+pub bounds-words-i : goal.bounds-words-i
+bounds-words-i c = omega (arith, ap length c.loop-i.invariant.same)
+
+pub bounds-words-i-then-w-ge2147483648 : goal.bounds-words-i-then-w-ge2147483648
+bounds-words-i-then-w-ge2147483648 c = omega (arith, ap length c.loop-i.invariant.same)
+
+pub returns-then-w-ge2147483648 : goal.returns-then-w-ge2147483648
+returns-then-w-ge2147483648 c =
+    let l = c.loop-i in
+    let a = c.args in
+    let whole =
+    pass_marked a.words.now l.words a.first a.end l.i l.invariant (omega arith) c.loop-i-test.true c.if-w-ge2147483648.true
+    in
+    record { value = whole.0; words_after = whole.1 }
+
+pub loop-i-preserved : goal.loop-i-preserved
+loop-i-preserved c =
+    let l = c.loop-i in
+    let a = c.args in
+    pass_next a.words.now l.words a.first a.end l.i l.invariant (omega arith) c.loop-i-test.true c.if-w-ge2147483648.false
+
+pub returns : goal.returns
+returns c =
+    let l = c.loop-i in
+    let a = c.args in
+    let whole = pass_end a.words.now l.words a.first a.end l.i l.invariant (omega arith) c.loop-i-test.false in
+    record { value = whole.0; words_after = whole.1 }

@@ -1,0 +1,10 @@
+-- `resource_uses::bit_of` meets its contract. By the test.
+use borrow.Author.Tests.{eq-eqb, ne_eqb}
+use borrow.Author.Rules.{rules}
+use Rattle.resource_uses.proofs.bit_of.Goals as goal
+
+pub returns-then-x-eq1 : goal.returns-then-x-eq1
+returns-then-x-eq1 c = rw (eq-eqb c.args.x 1 c.if-x-eq1.true) (search rules)
+
+pub returns-else-x-eq1 : goal.returns-else-x-eq1
+returns-else-x-eq1 c = rw (ne_eqb c.args.x 1 c.if-x-eq1.false) (search rules)

@@ -1,0 +1,5 @@
+use Rattle.sink.specs.Run.{then}
+use Rattle.sink.proofs.bytes.close_line.Goals as goal
+
+pub returns : goal.returns
+returns c = then c.put_byte-a.ensures c.put_byte.ensures

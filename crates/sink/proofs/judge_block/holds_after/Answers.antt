@@ -1,0 +1,7 @@
+use Rattle.sink.proofs.judge_block.holds_after.Goals as goal
+
+pub returns-then-holds : goal.returns-then-holds
+returns-then-holds c = rw c.if-holds.true
+
+pub returns : goal.returns
+returns c = rw c.if-holds.false c.literal_true-t.ensures

@@ -1,0 +1,10 @@
+-- `rows::first_row` meets its contract.
+-- Assumes nothing.
+use native.Mathlib.Omega.{arith}
+use Rattle.sizing.proofs.laws.Sums.{equal}
+use Rattle.sizing.specs.Rows.{first_row}
+use Rattle.sizing.proofs.rows.first_row.Goals as goal
+
+pub returns : goal.returns
+unfolding first_row
+returns c = equal (omega arith)

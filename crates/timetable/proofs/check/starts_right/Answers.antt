@@ -1,0 +1,15 @@
+use borrow.Author.Rules.{rules}
+use Rattle.timetable.proofs.laws.Right.{walking}
+use Rattle.timetable.proofs.check.starts_right.Goals as goal
+
+pub loop-i-init : goal.loop-i-init
+loop-i-init c = search (rules, walking)
+
+pub returns-then-not-start_right : goal.returns-then-not-start_right
+returns-then-not-start_right c = search (rules, walking)
+
+pub loop-i-preserved : goal.loop-i-preserved
+loop-i-preserved c = search (rules, walking)
+
+pub returns : goal.returns
+returns c = search (rules, walking)
