@@ -1,4 +1,6 @@
 // What is printed, with the first failure of a write: after that nothing more is written.
+ghost use Rattle.std.specs.Prelude.{◌≡◌, IsErr, IsOk};
+
 use std::io;
 
 #[derive(Drop)]
@@ -8,27 +10,38 @@ pub struct Output<'a, P: Print> {
 }
 
 impl<'a, P: Print> Output<'a, P> {
-    pub fn new(to: &'a P) -> Output<'a, P> {
+    // Nothing has failed yet.
+    pub fn new(to: &'a P) -> Output<'a, P>
+        ensures { IsOk result.written }
+    {
         Output {
             to,
             written: Ok(()),
         }
     }
 
-    pub fn put(&mut self, text: &[u8]) {
+    // The first failure stays.
+    pub fn put(&mut self, text: &[u8])
+        ensures { IsErr self.old.written → self.new.written ≡ self.old.written }
+    {
         if self.written.is_ok() {
             self.written = self.to.write_all(text);
         }
     }
 
-    pub fn put_number(&mut self, n: u64) {
+    // The same of a number.
+    pub fn put_number(&mut self, n: u64)
+        ensures { IsErr self.old.written → self.new.written ≡ self.old.written }
+    {
         if self.written.is_ok() {
             self.written = self.to.print(n);
         }
     }
 
     // Whether all was written.
-    pub fn end(self) -> io::Result<()> {
+    pub fn end(self) -> io::Result<()>
+        ensures { result ≡ self.entry.written }
+    {
         self.written
     }
 }

@@ -5,7 +5,7 @@
 mod support;
 
 use std::fs;
-use support::{command, file, folder, hex, run, stand_ins};
+use support::{command, file, folder, hex, run};
 
 /// Two periods of day 1 and one of day 3; two events of one resource; a group of time 3;
 /// windows of day 1 and of day 3.
@@ -131,7 +131,6 @@ fn what_breaks_a_calendar_is_told_in_words() {
 fn a_bad_calendar_is_told_of_the_instance() {
     let bad = file("bad", &hex("00 01 05 05"));
     let other = file("other", &[1, 1, 1, 1]);
-    let solvers = stand_ins("bad-calendar", &[("clasp", "exit 1")]);
     for words in [
         vec!["read", &bad],
         vec!["sizes", &bad, "3"],
@@ -145,7 +144,7 @@ fn a_bad_calendar_is_told_of_the_instance() {
         vec!["check", &bad, "3", &other],
         vec!["check", &bad, "none", &other],
         vec!["best", &bad, &other, &other],
-        vec!["solve", &bad, "--solver", &solvers],
+        vec!["solve", &bad],
         vec!["explain", &bad],
         vec!["show", &bad, &other],
         vec!["diff", &bad, &other, &other],
