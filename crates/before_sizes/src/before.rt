@@ -18,15 +18,12 @@ fn uses_size(times: u32, resources: u32, users: &[u16]) -> Size
     ensures { Within (resources * 384125) result × ((es : List Event) → Users users.now es → result ≡ uses_size times es (up_to resources)) }
 {
     let t = times as u64;
-    let most = resources as usize;
     let mut sum = nothing();
-    let mut i: usize = 0;
-    while i < most {
+    for i in 0..resources as usize {
         let at = (i + 1) * 1025;
         let n = users[at] as u64;
         let one = use_size(t, n);
         sum = plus(sum, one);
-        i = i + 1;
     }
     sum
 }
@@ -37,14 +34,11 @@ fn durations_size(times: u32, events: u32, durations: &[u8]) -> Size
     ensures { Within (events * 1225275) result × ((t : List ℕ) → result ≡ durations_size times (events_of durations.now t events)) }
 {
     let t = times as u64;
-    let most = events as usize;
     let mut sum = nothing();
-    let mut e: usize = 0;
-    while e < most {
+    for e in 0..events as usize {
         let d = durations[e] as u64;
         let one = list_size(0, d, d, false, t);
         sum = plus(sum, one);
-        e = e + 1;
     }
     sum
 }

@@ -1,5 +1,6 @@
-#![tactic(auto)]
 // The sizes of what stands before the constraints.
+#![tactic(auto)]
+
 mod before;
 
 pub use before::before_size;

@@ -1,6 +1,6 @@
 // The operation, with lent stores.
 ghost use Rattle.std.specs.Prelude.{◌≡◌, length, replicate};
-ghost use Rattle.scope.specs.Answers.{best_means};
+ghost use Rattle.scope.specs.Answers.{means};
 ghost use Rattle.scope.specs.Operations.{best_of};
 ghost use Rattle.directory.specs.Rows.{no_row};
 ghost use Rattle.claims.specs.Prepared.{lent};
@@ -9,7 +9,7 @@ use checker::check;
 use cost_bound::{claim_for, judge};
 use directory::Row;
 use model::evaluate;
-use scope::BestAnswer;
+use scope::{Objective, Refusal};
 
 // A model's cost w, with the number of steps that show that nothing costs less; or the refusals of decoding, then those of a
 // check at bound w - 1. What the stores hold does not matter; afterwards they are zero.
@@ -20,8 +20,8 @@ pub fn best(
     words: &mut [u32],
     rows: &mut [Row],
     marks: &mut [u8],
-) -> BestAnswer
-    ensures result_value { best_means result ≡ best_of file.now model.now proof.now
+) -> Result<(Objective, u64), Refusal>
+    ensures result_value { means result ≡ best_of file.now model.now proof.now
         (lent (length words.old) (length rows.old) (length marks.old)) }
     ensures words_after { words.new ≡ replicate (length words.old) 0 }
     ensures rows_after { rows.new ≡ replicate (length rows.old) no_row }

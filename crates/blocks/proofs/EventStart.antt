@@ -10,7 +10,6 @@ use Rattle.sink.specs.Run.{Ran}
 use Rattle.sink.specs.Lines.{Line, clause_line, lines}
 use Rattle.sink.specs.World.{World}
 use Rattle.gates.specs.Units as units
-use Rattle.gates.proofs.laws.Units as units_laws
 use Rattle.literals.specs.Variables.{base_of, literal_at}
 use Rattle.literals.specs.Numbered.{start_clauses}
 use Rattle.items.specs.Written.{Wrote}

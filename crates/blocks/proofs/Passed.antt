@@ -1,7 +1,7 @@
 -- Starts and uses in the modes that pass over hard clauses: nothing happens.
 use mathlib.Core.Path.{◌≡◌}
 use mathlib.Core.Bool.{true}
-use mathlib.Core.List.{List, [], ◌∷◌, ◌++◌, map, flat_map}
+use mathlib.Core.List.{List, [], ◌∷◌, map, flat_map}
 use Prim.Native.Nat.{ℕ, ◌+◌}
 use Rattle.scope.specs.Kinds.{up_to}
 use Rattle.scope.specs.Cnf.{Gate, Item, gate, hard, gates}

@@ -66,12 +66,11 @@ module _ (T : ℕ) (us : List ℕ) where
   unfolding use_gates
   uses_gates = gates-map (map (λ t. or (ys_at T us t)) (up_to T)) ∙ length-map (up_to T) (λ t. or (ys_at T us t)) ∙ length-up_to T
 
-  -- those of the users gathered in a list
-  pub resource_wrote : {f : Line → World → World} (v : ℕ) {words : List ℕ} {m : ℕ} {w w' : World}
-      → Holds words m us
-      → Ran f (lines v (map gate (use_gates T (take m words)))) w w'
+  -- those of all its events
+  pub resource_wrote : {f : Line → World → World} (v : ℕ) {w w' : World}
+      → Ran f (lines v (map gate (use_gates T us))) w w'
       → Wrote f v (map gate (use_gates T us)) w w' (v + T)
-  resource_wrote v h r = record { ran = rw h.front at r; next = omega (arith, uses_gates) }
+  resource_wrote v r = record { ran = r; next = omega (arith, uses_gates) }
 
 -- the items of the resources that are left, where f gives the users of each
 module _ (T : ℕ) (f : ℕ → List ℕ) (n : ℕ) where

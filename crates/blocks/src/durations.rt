@@ -24,13 +24,13 @@ pub fn write_durations(
     ensures { Wrote (step job model.now) v (all_numbered 0 (duration_lists times 1 (take events durations.now)) v)
         (world s text.old words.old) (world result.sink text.new words.new) result.next }
 {
+    // of fixed size: there is no heap
     let mut buf = [0u32; 125];
     let mut sink = s;
     let mut next = v;
     for e in 0..events {
         let n = literals::y_of_event(times, e + 1, &mut buf);
-        let i = e as usize;
-        let d = durations[i] as u32;
+        let d = durations[e as usize] as u32;
         let b = Bounds {
             lo: d,
             hi: d,

@@ -1,5 +1,6 @@
-#![tactic(auto)]
 // The blocks of the formula before its constraints: starts, uses, durations.
+#![tactic(auto)]
+
 mod durations;
 mod starts;
 mod uses;

@@ -1,36 +1,28 @@
-#![tactic(auto)]
 // The directory of a formula is built of its words, where each clause's last word is marked.
-ghost use Rattle.std.specs.Prelude.{◌≡◌, ◌++◌, ◌+◌, ◌≤◌, ◌<◌, min, length, take, drop};
+#![tactic(auto)]
+
+ghost use Rattle.std.specs.Prelude.{◌≡◌, ◌++◌, ◌+◌, ◌≤◌, ◌<◌, length, take, drop};
 ghost use Rattle.std.proofs.Math.Seq.{slice};
 ghost use Rattle.std.proofs.lemmas.List.Edits.{sets};
 ghost use Rattle.building.specs.Marked.{flat, parted, first_clause, rows_for, row_between};
 
-use directory::{Row, append, new_row};
+use directory::{Row, append};
 
-fn least(a: usize, b: usize) -> usize
-    ensures { result ≡ min a b }
-{
-    if a <= b {
-        return a;
-    }
-    b
-}
+// What a clause's last word is marked by.
+const MARK: u32 = 2147483648;
 
-// The words from first on are passed up to one that is marked by 2^31, whose mark is taken off. Where what follows it stands.
+// The words from first on are passed up to one that is marked, whose mark is taken off. Where what follows it stands.
 fn unmark(words: &mut [u32], first: usize, end: usize) -> usize
     requires { (first ≤ end) × (end ≤ length words.old) }
     ensures value { result ≡ first + length (first_clause (slice first end words.old)) }
     ensures words_after { words.new ≡ take first words.old ++ (first_clause (slice first end words.old) ++ drop result words.old) }
 {
-    let mut i = first;
-    while i < end {
+    for i in first..end {
         let w = words[i];
-        let next = i + 1;
-        if 2147483648 <= w {
-            words[i] = w - 2147483648;
-            return next;
+        if MARK <= w {
+            words[i] = w - MARK;
+            return i + 1;
         }
-        i = next;
     }
     end
 }
@@ -40,7 +32,7 @@ fn row_between(n: usize, first: usize, next: usize) -> Row
     requires { (n ≤ first) × (first < next) }
     ensures { result ≡ row_between n first next }
 {
-    new_row(n + 1, first, next - first)
+    Row::new(n + 1, first, next - first)
 }
 
 // The rows of the clauses in the first total words, where each clause's last word is marked by 2^31; the words are then as
@@ -50,7 +42,7 @@ pub fn build_directory(words: &mut [u32], rows: &mut [Row], total: usize) -> usi
     ensures words_after { words.new ≡ flat (parted (take total words.old)) ++ drop total words.old }
     ensures rows_after { rows.new ≡ sets rows.old 0 (rows_for 1 0 (parted (take total words.old))) }
 {
-    let end = least(total, words.len());
+    let end = total.min(words.len());
     let mut n = 0;
     let mut first = 0;
     while first < end {

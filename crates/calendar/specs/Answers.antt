@@ -1,21 +1,15 @@
 -- What the answers of this crate stand for: how many periods a day and a calendar have, and how many times a file.
-use Rattle.std.specs.Prelude.{ℕ, ◌+◌, List, length}
+use Rattle.std.specs.Prelude.{ℕ, ◌+◌, List, length, Result, Ok, Err}
 use Rattle.scope.specs.Parsed.{Parsed, got, refused}
 use Rattle.scope.specs.Calendar.{Period, period_count}
 use Rattle.scope.specs.Instance.{Times}
-use Rattle.scope.specs.declared.Refusal.{Refusal}
-use Rattle.number.specs.Answers.{refused_by}
-use Rattle.calendar.specs.declared.period.PeriodRead.{PeriodRead}
-use Rattle.calendar.specs.declared.period.PeriodRead.TheVariants.{Value, Refused}
+use Rattle.scope.specs.Answers.{refused_by}
+use Rattle.scope.specs.declared.refusal.Refusal.{Refusal}
 
--- a period
-abbrev pub said_period : PeriodRead → Parsed Period
-said_period (Value a b next) = got (record { start = a; end = b }) next
-said_period (Refused f) = refused_by f
-
-abbrev pub refusal_in : PeriodRead → Refusal
-refusal_in (Value a b next) = record { number = 0; value = 0 }
-refusal_in (Refused f) = f
+-- a period, by its start and end
+abbrev pub said_period : Result ((ℕ × ℕ) × ℕ) Refusal → Parsed Period
+said_period (Ok r) = got (record { start = r.0.0; end = r.0.1 }) r.1
+said_period (Err f) = refused_by f
 
 -- after n periods so many more
 unfoldable pub counted_on : ℕ → Parsed (List Period) → Parsed ℕ

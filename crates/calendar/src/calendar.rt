@@ -1,77 +1,60 @@
 // How many periods a calendar has, and where it ends.
 ghost use Rattle.std.specs.Prelude.{◌≡◌};
+ghost use Rattle.scope.specs.Answers.{said};
 ghost use Rattle.scope.specs.Calendar.{day_at, calendar_at};
 ghost use Rattle.scope.specs.Instance.{times_at};
-ghost use Rattle.number.specs.Answers.{said};
 ghost use Rattle.calendar.specs.Answers.{counted, totalled, times_counted};
 
-use crate::period::{PeriodRead, limited_in, period_at, refusal_in};
-use number::{Number, limited};
-use scope::Refusal;
-use scope::refusals::BAD_CALENDAR;
+use crate::period::{limited_in, period_at};
+use number::limited;
+use scope::{Parsed, Reason, Refusal};
 
 // A day: the answer has the number of its periods.
-pub fn day_at(s: &[u8], at: usize) -> Number
+pub fn day_at(s: &[u8], at: usize) -> Parsed<u32>
     ensures { said result ≡ counted (day_at s.now at) }
 {
-    let c = limited_in(s, at, at, 0, 24);
-    let Number::Value(count, start) = c else {
-        return c;
-    };
+    let (count, start) = limited_in(s, at, at, 0, 24)?;
     let mut next = start;
     let mut before: u32 = 0;
-    let mut i: u32 = 0;
-    while i < count {
-        let p = period_at(s, next, before);
-        let PeriodRead::Value(_, end, after) = p else {
-            return Number::Refused(refusal_in(p));
-        };
+    for i in 0..count {
+        let ((_, end), after) = period_at(s, next, before)?;
         before = end;
         next = after;
-        i = i + 1;
     }
-    Number::Value(count, next)
+    Ok((count, next))
 }
 
 // Seven days, then 22 at the file's first byte for no periods or more than 125; the answer has the number of all periods.
-fn calendar_at(s: &[u8], at: usize) -> Number
+fn calendar_at(s: &[u8], at: usize) -> Parsed<u32>
     ensures { said result ≡ totalled (calendar_at s.now at) }
 {
     let mut next = at;
     let mut total: u32 = 0;
-    let mut day: u32 = 0;
-    while day < 7 {
-        let c = day_at(s, next);
-        let Number::Value(count, after) = c else {
-            return c;
-        };
-        total = total + count;
+    for _day in 0..7u32 {
+        let (count, after) = day_at(s, next)?;
+        total += count;
         next = after;
-        day = day + 1;
     }
     let bad = Refusal {
-        number: BAD_CALENDAR,
+        reason: Reason::BadCalendar,
         value: 0,
     };
     if total < 1 {
-        return Number::Refused(bad);
+        return Err(bad);
     }
     if 125 < total {
-        return Number::Refused(bad);
+        return Err(bad);
     }
-    Number::Value(total, next)
+    Ok((total, next))
 }
 
 // The times of a file, given or counted in its calendar.
-pub fn times_at(s: &[u8]) -> Number
+pub fn times_at(s: &[u8]) -> Parsed<u32>
     ensures { said result ≡ times_counted (times_at s.now) }
 {
-    let t = limited(s, 0, 0, 125);
-    let Number::Value(times, next) = t else {
-        return t;
-    };
+    let (times, next) = limited(s, 0, 0, 125)?;
     if times == 0 {
         return calendar_at(s, next);
     }
-    Number::Value(times, next)
+    Ok((times, next))
 }

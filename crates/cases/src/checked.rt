@@ -1,88 +1,42 @@
 // Checking a proof, with stores that are not zero before it.
 ghost use Rattle.std.specs.Prelude.{◌≤◌, length};
 
-use crate::line_fields::{after, field, number_field};
+use crate::line_fields::{field, number_field};
 use crate::output::Output;
 use crate::put_refusal;
 use claims::claim::Claim;
 use directory::Row;
-use scope::CheckAnswer;
+use scope::Refusal;
 
-fn put_answer<P: Print>(out: &mut Output<P>, answer: CheckAnswer) {
+fn put_answer<P: Print>(out: &mut Output<P>, answer: Result<u64, Refusal>) {
     match answer {
-        CheckAnswer::NoTimetable(steps) => {
+        Ok(steps) => {
             out.put(b"no timetable ");
-            out.put_number(steps);
+            out.print(steps);
         }
-        CheckAnswer::Refused(f) => put_refusal(out, f),
+        Err(f) => put_refusal(out, f),
     }
 }
 
 // Whether the first n are 0, and no other.
-fn zero_words(words: &[u32], n: usize) -> bool {
-    for i in 0..words.len() {
-        if (i < n) != (words[i] == 0) {
+fn zero_first<T: PartialEq + Default + Drop>(s: &[T], n: usize) -> bool {
+    for i in 0..s.len() {
+        if (i < n) != (s[i] == T::default()) {
             return false;
         }
     }
     true
 }
 
-fn zero_bytes(bytes: &[u8], n: usize) -> bool {
-    for i in 0..bytes.len() {
-        if (i < n) != (bytes[i] == 0) {
-            return false;
-        }
-    }
-    true
-}
-
-fn put_zero<P: Print>(out: &mut Output<P>, words: bool, bytes: bool) {
-    if words && bytes {
+fn put_zero<P: Print>(out: &mut Output<P>, zero: bool) {
+    if zero {
         out.put(b", stores zero\n");
     } else {
         out.put(b", stores not zero\n");
     }
 }
 
-// The first of 1024 rows that are not zero are lent.
-fn check_rows(
-    file: &[u8],
-    claim: Claim,
-    proof: &[u8],
-    w: &mut [u32],
-    rows: usize,
-    b: &mut [u8],
-) -> CheckAnswer
-    requires { rows ≤ 1024 }
-{
-    let row = Row {
-        id: 255,
-        first: 255,
-        len: 255,
-        live: 255,
-    };
-    let mut d = [row; 1024];
-    checker::check(file, claim, proof, w, &mut d[..rows], b)
-}
-
-// The first words and bytes of some stores are lent, and so many rows.
-fn check_part(
-    file: &[u8],
-    claim: Claim,
-    proof: &[u8],
-    w: &mut [u32],
-    words: usize,
-    rows: usize,
-    b: &mut [u8],
-    bytes: usize,
-) -> CheckAnswer
-    requires { (words ≤ length w.old) × (rows ≤ 1024) × (bytes ≤ length b.old) }
-{
-    check_rows(file, claim, proof, &mut w[..words], rows, &mut b[..bytes])
-}
-
-// The answer for a claim and a proof, where so many words, rows and bytes are lent.
+// The answer for a claim and a proof, where so many words, rows and bytes are lent: the first of some that are not zero.
 fn put_claim<P: Print>(
     out: &mut Output<P>,
     file: &[u8],
@@ -94,26 +48,28 @@ fn put_claim<P: Print>(
 )
     requires { (words ≤ 2048) × (rows ≤ 1024) × (bytes ≤ 256) }
 {
+    let row = Row {
+        id: 255,
+        first: 255,
+        len: 255,
+        live: 255,
+    };
     let mut w = [4294967295; 2048];
+    let mut d = [row; 1024];
     let mut b = [255; 256];
-    put_answer(
-        out,
-        check_part(file, claim, proof, &mut w, words, rows, &mut b, bytes),
+    let answer = checker::check(
+        file,
+        claim,
+        proof,
+        &mut w[..words],
+        &mut d[..rows],
+        &mut b[..bytes],
     );
-    put_zero(out, zero_words(&w, words), zero_bytes(&b, bytes));
+    put_answer(out, answer);
+    put_zero(out, zero_first(&w, words) && zero_first(&b, bytes));
 }
 
-// A number of words, rows or bytes, up to the most that there are.
-fn at_most(n: u64, most: usize) -> usize
-    ensures { result ≤ most }
-{
-    if n < most as u64 {
-        return n as usize;
-    }
-    most
-}
-
-// A claim about a file, with the fields that follow: the proof, the words, rows and bytes that are lent.
+// A claim about a file, with the fields that follow: the proof, the words, rows and bytes that are lent, up to the most there are.
 fn claim_line<P: Print>(
     out: &mut Output<P>,
     text: &mut [u8],
@@ -125,22 +81,20 @@ fn claim_line<P: Print>(
     requires { (from ≤ to) × (to ≤ length text.old) × (at ≤ length text.old) }
     ensures { result ≤ length text.new }
 {
-    let n = field(text, at);
-    let end = at + n;
-    let next = after(text, at, n);
-    let w = number_field(text, next);
-    let d = number_field(text, w.next);
-    let b = number_field(text, d.next);
+    let f = field(text, at);
+    let (words, after_words) = number_field(text, f.next);
+    let (rows, after_rows) = number_field(text, after_words);
+    let (bytes, next) = number_field(text, after_rows);
     put_claim(
         out,
         &text[from..to],
         claim,
-        &text[at..end],
-        at_most(w.value, 2048),
-        at_most(d.value, 1024),
-        at_most(b.value, 256),
+        &text[at..f.end],
+        words.min(2048) as usize,
+        rows.min(1024) as usize,
+        bytes.min(256) as usize,
     );
-    b.next
+    next
 }
 
 // The file and the bound.
@@ -148,11 +102,9 @@ pub fn check_line<P: Print>(out: &mut Output<P>, text: &mut [u8], at: usize) -> 
     requires { at ≤ length text.old }
     ensures { result ≤ length text.new }
 {
-    let n = field(text, at);
-    let end = at + n;
-    let next = after(text, at, n);
-    let bound = number_field(text, next);
-    claim_line(out, text, at, end, Claim::Bound(bound.value), bound.next)
+    let f = field(text, at);
+    let (bound, next) = number_field(text, f.next);
+    claim_line(out, text, at, f.end, Claim::Bound(bound), next)
 }
 
 // The file, at any cost.
@@ -160,8 +112,6 @@ pub fn hard_line<P: Print>(out: &mut Output<P>, text: &mut [u8], at: usize) -> u
     requires { at ≤ length text.old }
     ensures { result ≤ length text.new }
 {
-    let n = field(text, at);
-    let end = at + n;
-    let next = after(text, at, n);
-    claim_line(out, text, at, end, Claim::AnyCost, next)
+    let f = field(text, at);
+    claim_line(out, text, at, f.end, Claim::AnyCost, f.next)
 }

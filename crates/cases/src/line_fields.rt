@@ -1,30 +1,22 @@
 // The fields of a line: bytes, each given by two hexadecimal digits.
-ghost use Rattle.std.specs.Prelude.{◌+◌, ◌*◌, ◌≤◌, length};
+ghost use Rattle.std.specs.Prelude.{◌+◌, ◌*◌, ◌<◌, ◌≤◌, IfSome, length};
 
-// A number that a field gives, and where the next field begins.
+// Where a field's bytes end, which begin where the field does, and where the next field begins.
 #[derive(Clone, Copy)]
-pub struct Given {
-    pub value: u64,
+pub struct Place {
+    pub end: usize,
     pub next: usize,
 }
 
-// A digit's value, or 16.
-fn digit(c: u8) -> u8
-    ensures { result ≤ 16 }
+// A digit's value.
+fn digit(c: u8) -> Option<u8>
+    ensures { IfSome result (λ d. d < 16) }
 {
-    if c < b'0' {
-        return 16;
+    match c {
+        b'0'..=b'9' => Some(c - b'0'),
+        b'a'..=b'f' => Some(c - b'a' + 10),
+        _ => None,
     }
-    if c <= b'9' {
-        return c - b'0';
-    }
-    if c < b'a' {
-        return 16;
-    }
-    if c <= b'f' {
-        return c - 87;
-    }
-    16
 }
 
 // So many places on, but not past the end.
@@ -32,10 +24,7 @@ pub fn past(at: usize, n: usize, len: usize) -> usize
     requires { at ≤ len }
     ensures { result ≤ len }
 {
-    if n <= len - at {
-        return at + n;
-    }
-    len
+    at + n.min(len - at)
 }
 
 // The first colon from a place on, or the end.
@@ -43,72 +32,60 @@ pub fn colon(text: &[u8], at: usize) -> usize
     requires { at ≤ length text.now }
     ensures { (at ≤ result) × (result ≤ length text.now) }
 {
-    let mut i = at;
-    while i < text.len() {
+    for i in at..text.len() {
         if text[i] == b':' {
             return i;
         }
-        i = i + 1;
     }
-    i
+    text.len()
 }
 
-// The field at a place: the bytes whose digits stand there are stored in their place; how many.
-pub fn field(text: &mut [u8], at: usize) -> usize
+// How many bytes the digits at a place give; they are stored from there on.
+fn bytes_at(text: &mut [u8], at: usize) -> usize
     requires { at ≤ length text.old }
     ensures { at + 2 * result ≤ length text.new }
 {
-    let mut n: usize = 0;
-    while 2 * n + 1 < text.len() - at {
+    let most = (text.len() - at) / 2;
+    for n in 0..most {
         let high = digit(text[at + 2 * n]);
         let low = digit(text[at + 2 * n + 1]);
-        if high == 16 {
+        let (Some(high), Some(low)) = (high, low) else {
             return n;
-        }
-        if low == 16 {
-            return n;
-        }
+        };
         text[at + n] = 16 * high + low;
-        n = n + 1;
     }
-    n
+    most
 }
 
-// Where the field after one of n bytes begins: one byte stands between them.
-pub fn after(text: &[u8], at: usize, n: usize) -> usize
-    requires { at + 2 * n ≤ length text.now }
-    ensures { result ≤ length text.now }
+// The field at a place: its bytes stand where their digits did, and one byte stands before the next field.
+pub fn field(text: &mut [u8], at: usize) -> Place
+    requires { at ≤ length text.old }
+    ensures { (at ≤ result.end) × (result.end ≤ length text.new) × (result.next ≤ length text.new) }
 {
-    past(at + 2 * n, 1, text.len())
-}
-
-// A number with one byte more.
-fn more(value: u64, byte: u8) -> u64
-    requires { value ≤ 72057594037927935 }
-{
-    256 * value + byte as u64
+    let n = bytes_at(text, at);
+    Place {
+        end: at + n,
+        next: past(at + 2 * n, 1, text.len()),
+    }
 }
 
 // The number that bytes give, the highest first.
 fn number(bytes: &[u8]) -> u64 {
     let mut value: u64 = 0;
-    for i in 0..bytes.len() {
+    for b in bytes {
         if 72057594037927935 < value {
             return value;
         }
-        value = more(value, bytes[i]);
+        value = 256 * value + u64::from(*b);
     }
     value
 }
 
-// The field at a place as a number.
-pub fn number_field(text: &mut [u8], at: usize) -> Given
+// The field at a place as a number, and where the next field begins.
+pub fn number_field(text: &mut [u8], at: usize) -> (u64, usize)
     requires { at ≤ length text.old }
-    ensures { result.next ≤ length text.new }
+    ensures { result.1 ≤ length text.new }
 {
-    let n = field(text, at);
-    let end = at + n;
-    let value = number(&text[at..end]);
-    let next = after(text, at, n);
-    Given { value, next }
+    let f = field(text, at);
+    (number(&text[at..f.end]), f.next)
 }

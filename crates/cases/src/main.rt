@@ -14,6 +14,7 @@ use input::read_full;
 use line_fields::{colon, past};
 use output::Output;
 use scope::Refusal;
+use std::fmt::Display;
 use std::io;
 
 // 65,536 zeros.
@@ -23,15 +24,17 @@ fn large_buffer() -> [u8; 65536]
     [0; 65536]
 }
 
-fn put_pair<P: Print>(out: &mut Output<P>, word: &[u8], a: u64, b: u64) {
+// Two numbers after a word.
+fn put_pair<P: Print, D: Display + Drop>(out: &mut Output<P>, word: &[u8], a: D, b: D) {
     out.put(word);
-    out.put_number(a);
+    out.print(a);
     out.put(b" ");
-    out.put_number(b);
+    out.print(b);
 }
 
 fn put_refusal<P: Print>(out: &mut Output<P>, f: Refusal) {
-    put_pair(out, b"refused ", f.number as u64, f.value);
+    out.put(b"refused ");
+    out.print(f);
 }
 
 // The operation that a letter stands for, on the fields from a place on; where the next line begins.
@@ -39,29 +42,19 @@ fn answer<P: Print>(out: &mut Output<P>, letter: u8, text: &mut [u8], at: usize)
     requires { at ≤ length text.old }
     ensures { result ≤ length text.new }
 {
-    if letter == b'r' {
-        return scored::read_line(out, text, at);
+    match letter {
+        b'r' => scored::read_line(out, text, at),
+        b's' => scored::score_line(out, text, at),
+        b'e' => scored::sheet_line(out, text, at),
+        b't' => scored::text_line(out, text, at),
+        b'd' => scored::decode_line(out, text, at),
+        b'c' => checked::check_line(out, text, at),
+        b'h' => checked::hard_line(out, text, at),
+        _ => {
+            out.put(b"no such operation\n");
+            text.len()
+        }
     }
-    if letter == b's' {
-        return scored::score_line(out, text, at);
-    }
-    if letter == b'e' {
-        return scored::sheet_line(out, text, at);
-    }
-    if letter == b't' {
-        return scored::text_line(out, text, at);
-    }
-    if letter == b'd' {
-        return scored::decode_line(out, text, at);
-    }
-    if letter == b'c' {
-        return checked::check_line(out, text, at);
-    }
-    if letter == b'h' {
-        return checked::hard_line(out, text, at);
-    }
-    out.put(b"no such operation\n");
-    text.len()
 }
 
 // The line at a place; where the next one begins.

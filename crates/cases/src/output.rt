@@ -1,6 +1,7 @@
 // What is printed, with the first failure of a write: after that nothing more is written.
 ghost use Rattle.std.specs.Prelude.{◌≡◌, IsErr, IsOk};
 
+use std::fmt::Display;
 use std::io;
 
 #[derive(Drop)]
@@ -29,12 +30,12 @@ impl<'a, P: Print> Output<'a, P> {
         }
     }
 
-    // The same of a number.
-    pub fn put_number(&mut self, n: u64)
+    // The same of what has a text, as a number or a refusal; bytes have none, so these are two.
+    pub fn print<D: Display + Drop>(&mut self, value: D)
         ensures { IsErr self.old.written → self.new.written ≡ self.old.written }
     {
         if self.written.is_ok() {
-            self.written = self.to.print(n);
+            self.written = self.to.print(value);
         }
     }
 

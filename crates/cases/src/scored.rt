@@ -3,26 +3,26 @@ mod decoded;
 
 ghost use Rattle.std.specs.Prelude.{◌≤◌, length};
 
-use crate::line_fields::{after, field};
+use crate::line_fields::field;
 use crate::output::Output;
 use crate::{large_buffer, put_pair, put_refusal};
 pub use decoded::decode_line;
 use instance::read_instance;
-use scope::{InstanceSize, ReadAnswer, ScoreAnswer, SheetAnswer};
+use scope::InstanceSize;
 use text_program::print_text;
 
 // The sizes of an accepted file: times, events, resources, groups, constraints.
 fn put_sizes<P: Print>(out: &mut Output<P>, z: InstanceSize) {
-    put_pair(out, b"accepted ", z.times as u64, z.events as u64);
-    put_pair(out, b" ", z.resources as u64, z.groups as u64);
+    put_pair(out, b"accepted ", z.times, z.events);
+    put_pair(out, b" ", z.resources, z.groups);
     out.put(b" ");
-    out.put_number(z.constraints as u64);
+    out.print(z.constraints);
 }
 
 fn put_read<P: Print>(out: &mut Output<P>, file: &[u8]) {
     match read_instance(file) {
-        ReadAnswer::Accepted(z) => put_sizes(out, z),
-        ReadAnswer::Refused(f) => put_refusal(out, f),
+        Ok(z) => put_sizes(out, z),
+        Err(f) => put_refusal(out, f),
     }
     out.put(b"\n");
 }
@@ -31,10 +31,9 @@ pub fn read_line<P: Print>(out: &mut Output<P>, text: &mut [u8], at: usize) -> u
     requires { at ≤ length text.old }
     ensures { result ≤ length text.new }
 {
-    let n = field(text, at);
-    let end = at + n;
-    put_read(out, &text[at..end]);
-    after(text, at, n)
+    let f = field(text, at);
+    put_read(out, &text[at..f.end]);
+    f.next
 }
 
 // What the text program prints, or how many bytes those are.
@@ -45,7 +44,7 @@ fn put_text<P: Print>(out: &mut Output<P>, file: &[u8]) {
         out.put(&text[..n]);
         return;
     }
-    out.put_number(n as u64);
+    out.print(n);
     out.put(b" bytes\n");
 }
 
@@ -53,18 +52,15 @@ pub fn text_line<P: Print>(out: &mut Output<P>, text: &mut [u8], at: usize) -> u
     requires { at ≤ length text.old }
     ensures { result ≤ length text.new }
 {
-    let n = field(text, at);
-    let end = at + n;
-    put_text(out, &text[at..end]);
-    after(text, at, n)
+    let f = field(text, at);
+    put_text(out, &text[at..f.end]);
+    f.next
 }
 
 fn put_score<P: Print>(out: &mut Output<P>, file: &[u8], table: &[u8]) {
     match sheet::score(file, table) {
-        ScoreAnswer::Scored(infeasibility, objective) => {
-            put_pair(out, b"scored ", infeasibility.0, objective.0)
-        }
-        ScoreAnswer::Refused(f) => put_refusal(out, f),
+        Ok((infeasibility, objective)) => put_pair(out, b"scored ", infeasibility.0, objective.0),
+        Err(f) => put_refusal(out, f),
     }
     out.put(b"\n");
 }
@@ -73,20 +69,17 @@ pub fn score_line<P: Print>(out: &mut Output<P>, text: &mut [u8], at: usize) -> 
     requires { at ≤ length text.old }
     ensures { result ≤ length text.new }
 {
-    let n = field(text, at);
-    let end = at + n;
-    let second = after(text, at, n);
-    let m = field(text, second);
-    let last = second + m;
-    put_score(out, &text[at..end], &text[second..last]);
-    after(text, second, m)
+    let file = field(text, at);
+    let table = field(text, file.next);
+    put_score(out, &text[at..file.end], &text[file.next..table.end]);
+    table.next
 }
 
 fn put_sheet<P: Print>(out: &mut Output<P>, file: &[u8], first: &[u8], second: &[u8]) {
     match sheet::same_sheet(file, first, second) {
-        SheetAnswer::Same => out.put(b"same"),
-        SheetAnswer::Different => out.put(b"different"),
-        SheetAnswer::Refused(f) => put_refusal(out, f),
+        Ok(true) => out.put(b"same"),
+        Ok(false) => out.put(b"different"),
+        Err(f) => put_refusal(out, f),
     }
     out.put(b"\n");
 }
@@ -95,14 +88,14 @@ pub fn sheet_line<P: Print>(out: &mut Output<P>, text: &mut [u8], at: usize) -> 
     requires { at ≤ length text.old }
     ensures { result ≤ length text.new }
 {
-    let n = field(text, at);
-    let end = at + n;
-    let a = after(text, at, n);
-    let k = field(text, a);
-    let first = a + k;
-    let b = after(text, a, k);
-    let m = field(text, b);
-    let second = b + m;
-    put_sheet(out, &text[at..end], &text[a..first], &text[b..second]);
-    after(text, b, m)
+    let file = field(text, at);
+    let first = field(text, file.next);
+    let second = field(text, first.next);
+    put_sheet(
+        out,
+        &text[at..file.end],
+        &text[file.next..first.end],
+        &text[first.next..second.end],
+    );
+    second.next
 }

@@ -164,28 +164,20 @@ rest-none : (T d : ℕ) (g : List ℕ) (near : ℕ) → rest_of T d g near T ≡
 unfolding from reached
 rest-none T d g near = let e : T - T ≡ 0 = omega arith in rw e
 
-indicator-one : {b : Bool} {k : ℕ} → Indicator b k → eqb k 1 ≡ b
-indicator-one {b} i = rw i.is (by b)
-  where
-    by : (b : Bool) → eqb (cond b 1 0) 1 ≡ b
-    by true = refl
-    by false = refl
-
 -- whether time t + 1 is in the group is told by member k of its row
-pub told : {n : ℕ} {row : List ℕ} {k t h : ℕ} → Passed n row k t → Indicator (starts_with (t + 1) (drop k row)) h → member (t + 1) row ≡ eqb h 1
-told p i = passed_here p ∙ sym (indicator-one i)
+pub told : {n : ℕ} {row : List ℕ} {k t : ℕ} {b : Bool} → Passed n row k t → b ≡ starts_with (t + 1) (drop k row) → member (t + 1) row ≡ b
+told p e = passed_here p ∙ sym e
 
 -- time t + 1 is passed
-pub left-next : (T d : ℕ) (g : List ℕ) (inside : ℕ) {y s v t after : ℕ} {w r : Walk} {members out stored : List ℕ}
+pub left-next : (T d : ℕ) (g : List ℕ) (i : Bool) {y s v t after : ℕ} {w r : Walk} {members out stored : List ℕ}
     → Left y s v (reached d g 0 (up_to T)) (rest_of T d g w.near t) w members out
     → t < T
     → after ≡ d - 1
-    → member (t + 1) g ≡ eqb inside 1
-    → Went y s (near_after after w.near (eqb inside 1)) (reach_at w.near (eqb inside 1) (t + 1)) w out r stored
+    → member (t + 1) g ≡ i
+    → Went y s (near_after after w.near i) (reach_at w.near i (t + 1)) w out r stored
     → w.members < length members
     → Left y s v (reached d g 0 (up_to T)) (rest_of T d g r.near (t + 1)) r (set members w.members (2 * r.last)) stored
-left-next T d g inside {y} {s} {t = t} {w = w} {r = r} {members = members} l h a m q k =
-    let i = eqb inside 1 in
+left-next T d g i {y} {s} {t = t} {w = w} {r = r} {members = members} l h a m q k =
     let e : rest_of T d g w.near t ≡ reach_at w.near i (t + 1) ++ rest_of T d g r.near (t + 1) =
     rw (q.near, a, ← m) (rest-step T d g w.near t h) in
     left_more l e q (rw (← q.last) at (literal_kept y s (t + 1) w.next w.last w.near i members w.members k))

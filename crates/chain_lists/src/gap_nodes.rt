@@ -6,7 +6,7 @@ ghost use Rattle.literals.specs.NodeWords.{node_words, nodes_words};
 ghost use Rattle.chain_lists.specs.Gap.{soon_gates, late_gates, either_inputs};
 
 use list_nodes::{store_neither, store_run, store_with};
-use number::monus;
+use literals::LAST;
 
 // P of the times 2 to `early`, from the variable after F on.
 pub fn store_too_soon(y: u32, early: u32, v: u32, at: usize, out: &mut [u32]) -> usize
@@ -14,13 +14,10 @@ pub fn store_too_soon(y: u32, early: u32, v: u32, at: usize, out: &mut [u32]) ->
     ensures holds { Holds out.new result (take at out.old ++ nodes_words (v + early) (soon_gates y early v)) }
     ensures upper_bound { result ≤ at + 4 * early }
 {
-    let mut o = v + early;
+    let first = v + early;
     let mut k = at;
-    let mut t: u32 = 2;
-    while t <= early {
-        k = store_with(y + t, v + (t - 1), 1, o, k, out);
-        o = o + 1;
-        t = t + 1;
+    for t in 2..early + 1 {
+        k = store_with(y + t, v + (t - 1), 1, first + (t - 2), k, out);
     }
     k
 }
@@ -40,11 +37,9 @@ pub fn store_too_late(
     ensures value { result ≡ at + 4 * late }
 {
     let mut k = at;
-    let mut t: u32 = 1;
-    while t <= late {
-        let f = v + monus(t + hi, lo);
+    for t in 1..late + 1 {
+        let f = v + (t + hi).saturating_sub(lo);
         k = store_neither(f, q - t, q + (t - 1), k, out);
-        t = t + 1;
     }
     k
 }
@@ -64,13 +59,13 @@ pub fn store_either_way(
     ensures holds { Holds out.new result (take at out.old ++ node_words (or (either_inputs times y early late v q)) (q + late)) }
     ensures value { result ≡ at + times + late + 2 }
 {
-    let soon = monus(early, 1);
+    let soon = early.saturating_sub(1);
     out[at] = times + late;
     let a = store_run(y + early + 1, times - early, at + 1, out);
     // F of time 1, where there is one
     let b = store_run(v, early - soon, a, out);
     let c = store_run(v + early, soon, b, out);
     let d = store_run(q, late, c, out);
-    out[d] = 2 * (q + late) + 1 + 2147483648;
+    out[d] = 2 * (q + late) + 1 + LAST;
     d + 1
 }

@@ -6,17 +6,13 @@ ghost use Rattle.literals.specs.NodeWords.{nodes_words};
 ghost use Rattle.chain_lists.specs.Gap.{next_to, stepping, more_gates, chain_gates};
 
 use list_nodes::{store_either, store_some};
-use number::monus;
 
 // The variable after x, or the one before it.
 fn next_to(x: u32, up: bool) -> u32
     requires { x < 1073741824 }
     ensures { result ≡ next_to up x }
 {
-    if up {
-        return x + 1;
-    }
-    monus(x, 1)
+    if up { x + 1 } else { x.saturating_sub(1) }
 }
 
 // The n ORs after the one with the output p; their variables begin with x and go up or down.
@@ -25,14 +21,11 @@ fn store_more(x: u32, up: bool, n: u32, p: u32, at: usize, out: &mut [u32]) -> u
     ensures holds { Holds out.new result (take at out.old ++ nodes_words (p + 1) (more_gates p (stepping up x n))) }
     ensures value { result ≡ at + 4 * n }
 {
-    let end = p + n;
     let mut y = x;
-    let mut q = p;
     let mut k = at;
-    while q < end {
+    for q in p..p + n {
         k = store_either(y, q, q + 1, k, out);
         y = next_to(y, up);
-        q = q + 1;
     }
     k
 }

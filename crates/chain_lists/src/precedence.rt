@@ -10,7 +10,6 @@ use crate::gap_nodes::{store_either_way, store_too_late, store_too_soon};
 use crate::or_chain::store_chain;
 use constraint::{Head, Precedence};
 use list_nodes::{Filled, store_run};
-use number::monus;
 
 // No group is named; its first node is the variable v.
 pub fn fill_precedence(f: Precedence, head: Head, v: u32, out: &mut [u32]) -> Filled
@@ -22,10 +21,10 @@ pub fn fill_precedence(f: Precedence, head: Head, v: u32, out: &mut [u32]) -> Fi
     let hi = f.hi;
     let y = literals::base(0, times, f.first);
     let z = literals::base(0, times, f.second);
-    let early = monus(times, lo + 1);
-    let late = monus(times, hi + 2);
+    let early = times.saturating_sub(lo + 1);
+    let late = times.saturating_sub(hi + 2);
     // the first variables of G and of Q, and the variable of O
-    let g = v + early + monus(early, 1);
+    let g = v + early + early.saturating_sub(1);
     let q = g + late;
     let o = q + late;
     let nodes = (o + 1 - v) as usize;

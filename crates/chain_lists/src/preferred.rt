@@ -1,5 +1,5 @@
 // Kind 3: the times that a subevent that starts outside the group can hold, each with whether one holds it.
-ghost use Rattle.std.specs.Prelude.{◌≡◌, [], ◌+◌, ◌-◌, ◌≤◌, eqb, length, get_or};
+ghost use Rattle.std.specs.Prelude.{◌≡◌, [], ◌+◌, ◌-◌, ◌≤◌, length, get_or};
 ghost use Rattle.scope.specs.Kinds.{preferred};
 ghost use Rattle.constraint.specs.Answers.{counts_in};
 ghost use Rattle.constraint.specs.Valid.{InRange};
@@ -13,7 +13,6 @@ use crate::carried::{Walk, carry, carry_or_start};
 use constraint::{Head, Preferred};
 use list_nodes::{Filled, store_words};
 use literals::member_is;
-use number::monus;
 
 // How many times after its start a subevent can hold: one less than the event's duration.
 fn times_after(durations: &[u8], event: u32) -> u32
@@ -21,17 +20,16 @@ fn times_after(durations: &[u8], event: u32) -> u32
     ensures { result ≡ get_or durations.now (event - 1) 0 - 1 }
 {
     let at = (event - 1) as usize;
-    let d = durations[at] as u32;
-    monus(d, 1)
+    u32::from(durations[at]).saturating_sub(1)
 }
 
-// One time more, in the group where `inside` is 1; from a time outside it so many of the next can be reached.
-fn pass(w: Walk, after: u32, y: u32, s: u32, t: u32, inside: usize, out: &mut [u32]) -> Walk
+// One time more, in the group where `inside` is true; from a time outside it so many of the next can be reached.
+fn pass(w: Walk, after: u32, y: u32, s: u32, t: u32, inside: bool, out: &mut [u32]) -> Walk
     requires { Room w y s t out.old }
-    ensures { Went y s (near_after after w.near (eqb inside 1)) (reach_at w.near (eqb inside 1) t) w out.old result out.new }
+    ensures { Went y s (near_after after w.near inside) (reach_at w.near inside t) w out.old result out.new }
 {
     if w.near == 0 {
-        if inside == 1 {
+        if inside {
             return w;
         }
         return Walk {
@@ -42,7 +40,7 @@ fn pass(w: Walk, after: u32, y: u32, s: u32, t: u32, inside: usize, out: &mut [u
             members: w.members + 1,
         };
     }
-    if inside == 1 {
+    if inside {
         return carry(w, y, s, t, out);
     }
     carry_or_start(w, after, y, s, t, out)
@@ -62,6 +60,7 @@ pub fn fill_preferred(
         × (v + length (list_in durations.now (λ r. []) groups.now head (preferred f.event f.group) 1).nodes ≤ 8000001)))) }
     ensures { Stored (num_of head) (list_in durations.now (λ r. []) groups.now head (preferred f.event f.group) 1) v out.new result }
 {
+    // of fixed size: there is no heap
     let mut members = [0u32; 125];
     let l = literals::numbering(head.times, head.events, head.resources);
     let times = head.times;
@@ -78,15 +77,14 @@ pub fn fill_preferred(
         members: 0,
     };
     let mut k: usize = 0;
-    let mut t: u32 = 0;
-    while t < times {
-        t = t + 1;
+    for passed in 0..times {
+        let t = passed + 1;
         let inside = member_is(groups, row, k, t);
         let n = w.members;
         w = pass(w, after, y, s, t, inside, out);
         // it stays where the time is a member
         members[n] = 2 * w.last;
-        k = k + inside;
+        k += usize::from(inside);
     }
     let end = store_words(&members, 0, w.members, w.at, out);
     Filled {

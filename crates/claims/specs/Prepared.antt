@@ -5,7 +5,9 @@ use Rattle.scope.specs.Parsed.{Answer, answered, refusal, with, provided}
 use Rattle.scope.specs.Instance.{parse}
 use Rattle.scope.specs.Formula.{words, variables, hard_of, bounded_variables, bounded_hard}
 use Rattle.scope.specs.Operations.{Lent, of_size, of_bound, formula_fits, check_of, check_hard_of}
-use Rattle.scope.specs.declared.Refusal.{Refusal}
+use Rattle.scope.specs.declared.refusal.Reason.{Reason}
+use Rattle.scope.specs.declared.refusal.Refusal.{Refusal}
+use Rattle.scope.specs.declared.FormulaSize.{FormulaSize}
 use Rattle.building.specs.Marked.{mark}
 use Rattle.claims.specs.declared.claim.Claim.{Claim}
 use Rattle.claims.specs.declared.prepare.Ready.{Ready}
@@ -25,10 +27,14 @@ unfoldable pub formula_for : List ℕ → Claim → Lent → Answer (ℕ × List
 formula_for file (Claim.Bound B) l = with (parse file) (λ i. of_bound i B (fitting (bounded_variables i B) (bounded_hard i B) l))
 formula_for file Claim.AnyCost l = with (parse file) (λ i. of_size i (fitting (variables i) (hard_of i) l))
 
--- what is told of it: how many words it has, and its last variable
-abbrev pub ready_of : Answer (ℕ × List (List ℕ)) → Ready
-ready_of (answered f) = Ready.Formula (words f.1) f.0
-ready_of (refusal k v) = Ready.Refused (record { number = k; value = v })
+-- what is told of a formula of a size
+abbrev pub sized_as : FormulaSize → Ready
+sized_as z = record { used = z.words; last = z.variables }
+
+-- what is told of it: how many words it has, and its last variable; or the refusal
+abbrev pub ready_of : Answer (ℕ × List (List ℕ)) → Answer Ready
+ready_of (answered f) = answered (record { used = words f.1; last = f.0 })
+ready_of (refusal k v) = refusal k v
 
 -- what it leaves in the words ws: its clauses from the start on, the last word of each marked; after a refusal they are as before
 abbrev pub words_with : Answer (ℕ × List (List ℕ)) → List ℕ → List ℕ
@@ -36,4 +42,4 @@ words_with (answered f) ws = flat_map mark f.1 ++ drop (words f.1) ws
 words_with (refusal k v) ws = ws
 
 abbrev pub too_short : Refusal
-too_short = record { number = 9; value = 0 }
+too_short = record { reason = Reason.TooShort; value = 0 }

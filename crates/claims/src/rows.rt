@@ -46,7 +46,7 @@ pub fn write_hard(
     s.at
 }
 
-// The rows of the tail's counter, from a variable on.
+// The rows of the tail's counter, from a variable on (no plainer as one function with the other, which differs in all that it passes).
 pub fn write_rows(
     words: &mut [u32],
     at: usize,

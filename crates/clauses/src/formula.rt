@@ -30,6 +30,7 @@ pub fn write_formula(
         (formula_lines (instance_of file.now durations.now resources.now groups.now head))
         (world s text.old words.old) (world result text.new words.new) }
 {
+    // of fixed size: there is no heap
     let mut users = [0u16; 102500];
     user_table::fill_users(resources, head.events, &mut users);
     let b = write_before(job, model, text, words, s, head, durations, &users);

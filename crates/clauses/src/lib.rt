@@ -1,5 +1,6 @@
-#![tactic(auto)]
 // The clauses of an instance's formula, in the order of document 01.
+#![tactic(auto)]
+
 mod before;
 mod formula;
 mod lists;

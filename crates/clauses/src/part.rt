@@ -37,8 +37,8 @@ pub fn write_constraint(
         × Before (part_base job.mode s.at) words.old words.new }
 {
     let base = sink::part_base(job, s);
-    let t = sink::lesser(base, text.len());
-    let w = sink::lesser(base, words.len());
+    let t = base.min(text.len());
+    let w = base.min(words.len());
     let z = sink::placed(s, s.at - base);
     let r = write_lists(
         job,

@@ -7,7 +7,7 @@ ghost use Rattle.sink.specs.World.{world, step};
 ghost use Rattle.clauses.specs.Walked.{Walkable, items_of};
 
 use crate::part::write_constraint;
-use constraint::{Head, Next, constraint_at};
+use constraint::{Head, constraint_at};
 use sink::{Job, Sink};
 
 // All constraints in file order, from the variable first on.
@@ -30,14 +30,14 @@ pub fn write_constraints(
         (lines first (items_of durations.now users.now groups.now head (constraints_in head file.now) first))
         (world s text.old words.old) (world result text.new words.new) }
 {
+    // of fixed size: there is no heap
     let mut store = [0u32; 34816];
     let mut z = s;
     let mut v = first;
     let mut next = head.start;
-    let mut i: u32 = 0;
-    while i < head.constraints {
+    for i in 0..head.constraints {
         let x = constraint_at(file, next, head, list);
-        let Next::Read(c, after) = x else {
+        let Ok((c, after)) = x else {
             return z;
         };
         let w = write_constraint(
@@ -46,7 +46,6 @@ pub fn write_constraints(
         z = w.sink;
         v = w.next;
         next = after;
-        i = i + 1;
     }
     z
 }

@@ -1,16 +1,16 @@
 -- What the answers of this crate stand for; a list stands in the store l.
-use Rattle.std.specs.Prelude.{ℕ, List}
+use Rattle.std.specs.Prelude.{ℕ, List, Result, Ok, Err}
 use Rattle.scope.specs.Parsed.{Parsed, got}
 use Rattle.scope.specs.Instance.{Counts}
 use Rattle.scope.specs.Kinds as kinds
-use Rattle.number.specs.Answers.{refused_by}
+use Rattle.scope.specs.Answers.{refused_by}
+use Rattle.scope.specs.declared.refusal.Refusal.{Refusal}
 use Rattle.number.specs.Lists.{leading}
 use Rattle.constraint.specs.declared.kinds.Kind.{Kind}
 use Rattle.constraint.specs.declared.kinds.Constraint.{Constraint}
 use Rattle.constraint.specs.declared.kinds.Head.{Head}
-use Rattle.constraint.specs.declared.kinds.Next.{Next}
 use Rattle.constraint.specs.declared.flat.FlatConstraint.{FlatConstraint}
-use Rattle.constraint.specs.declared.flat.FlatNext.{FlatNext}
+use Rattle.fields.specs.Kind.{number_of}
 use Rattle.fields.specs.Made.{kind_from}
 
 -- a kind with its fields
@@ -30,20 +30,20 @@ kind_of l (Kind.Precedence f) = kinds.precedence f.first f.second f.lo f.hi
 abbrev pub constraint_of : List ℕ → Constraint → kinds.Constraint
 constraint_of l c = record { weight = c.weight; kind = kind_of l c.kind }
 
-abbrev pub said_next : List ℕ → Next → Parsed kinds.Constraint
-said_next l (Next.Read c next) = got (constraint_of l c) next
-said_next l (Next.Refused f) = refused_by f
+abbrev pub said_next : List ℕ → Result (Constraint × ℕ) Refusal → Parsed kinds.Constraint
+said_next l (Ok r) = got (constraint_of l r.0) r.1
+said_next l (Err f) = refused_by f
 
 -- the kind of a constraint in plain numbers, and the constraint
 abbrev pub flat_kind : List ℕ → FlatConstraint → kinds.Kind
-flat_kind l c = kind_from c.kind c.fields (leading c.fields.list l)
+flat_kind l c = kind_from (number_of c.kind) c.fields (leading c.fields.list l)
 
 abbrev pub flat_of : List ℕ → FlatConstraint → kinds.Constraint
 flat_of l c = record { weight = c.weight; kind = flat_kind l c }
 
-abbrev pub said_flat_next : List ℕ → FlatNext → Parsed kinds.Constraint
-said_flat_next l (FlatNext.Read c next) = got (flat_of l c) next
-said_flat_next l (FlatNext.Refused f) = refused_by f
+abbrev pub said_flat_next : List ℕ → Result (FlatConstraint × ℕ) Refusal → Parsed kinds.Constraint
+said_flat_next l (Ok r) = got (flat_of l r.0) r.1
+said_flat_next l (Err f) = refused_by f
 
 -- how many things there are to refer to
 abbrev pub counts_in : Head → Counts

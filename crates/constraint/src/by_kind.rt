@@ -1,6 +1,7 @@
-// The kind that all its fields make, by its number.
+// The kind that all its fields make, by its name.
 ghost use Rattle.std.specs.Prelude.{◌≡◌, List, ℕ};
 ghost use Rattle.number.specs.Lists.{leading};
+ghost use Rattle.fields.specs.Kind.{number_of};
 ghost use Rattle.fields.specs.Made.{kind_from};
 ghost use Rattle.constraint.specs.Answers.{kind_of};
 
@@ -16,22 +17,23 @@ use crate::preferred::preferred_of;
 use crate::split::split_of;
 use crate::spread::spread_of;
 use crate::unavailable::unavailable_of;
-use fields::Flat;
+use fields::{Flat, KindName};
 
-pub fn kind_of(kind: u32, w: Flat) -> Kind
-    ensures { (l : List ℕ) → kind_of l result ≡ kind_from kind w (leading w.list l) }
+#[tactic(auto, unfolding(fields::specs::Made::kind_from))]
+pub fn kind_of(kind: KindName, w: Flat) -> Kind
+    ensures { (l : List ℕ) → kind_of l result ≡ kind_from (number_of kind) w (leading w.list l) }
 {
     match kind {
-        1 => clash_of(w),
-        2 => unavailable_of(w),
-        3 => preferred_of(w),
-        4 => split_of(w),
-        5 => spread_of(w),
-        6 => busy_of(w),
-        7 => cluster_of(w),
-        8 => idle_of(w),
-        9 => distribute_of(w),
-        10 => lengths_of(w),
-        _ => precedence_of(w),
+        KindName::Clash => clash_of(w),
+        KindName::Unavailable => unavailable_of(w),
+        KindName::Preferred => preferred_of(w),
+        KindName::Split => split_of(w),
+        KindName::Spread => spread_of(w),
+        KindName::Busy => busy_of(w),
+        KindName::Cluster => cluster_of(w),
+        KindName::Idle => idle_of(w),
+        KindName::Distribute => distribute_of(w),
+        KindName::Lengths => lengths_of(w),
+        KindName::Precedence => precedence_of(w),
     }
 }

@@ -1,6 +1,6 @@
 // The kinds of constraint with their fields. A list of events or of groups stands in a store beside, and the field has its
 // length. lo and hi are as written.
-ghost use Rattle.std.specs.Prelude.{◌≡◌, List, ℕ};
+ghost use Rattle.std.specs.Prelude.{◌≡◌, List, ℕ, false};
 ghost use Rattle.constraint.specs.Answers.{kind_of};
 ghost use Rattle.constraint.specs.Bounds.{low_of, high_of, free_of};
 
@@ -14,7 +14,6 @@ use crate::preferred::Preferred;
 use crate::split::Split;
 use crate::spread::Spread;
 use crate::unavailable::Unavailable;
-use scope::Refusal;
 
 #[derive(Clone, Copy)]
 pub enum Kind {
@@ -49,13 +48,6 @@ pub struct Head {
     pub start: usize,
 }
 
-// A constraint with the offset after it, or a refusal.
-#[derive(Clone, Copy)]
-pub enum Next {
-    Read(Constraint, usize),
-    Refused(Refusal),
-}
-
 // lo and hi as written, and whether a count of 0 is free of charge.
 #[derive(Clone, Copy)]
 pub struct Bounds {
@@ -64,66 +56,36 @@ pub struct Bounds {
     pub free: bool,
 }
 
+// Of a count that is charged for at 0 too.
+fn counted(lo: u32, hi: u32) -> Bounds
+    ensures { result ≡ record { lo = lo; hi = hi; free = false } }
+{
+    Bounds {
+        lo,
+        hi,
+        free: false,
+    }
+}
+
 // One table for all kinds, as the definitions have it: fixed for the kinds whose count has no lo and hi, kind 11 among them, whose
 // bounds are of a gap; in a busy limit a count of 0 is free.
 pub fn bounds_of(k: Kind) -> Bounds
     ensures { (l : List ℕ) → result ≡ record { lo = low_of (kind_of l k); hi = high_of (kind_of l k); free = free_of (kind_of l k) } }
 {
     match k {
-        Kind::Clash(_) => Bounds {
-            lo: 0,
-            hi: 1,
-            free: false,
-        },
-        Kind::Unavailable(_) => Bounds {
-            lo: 0,
-            hi: 0,
-            free: false,
-        },
-        Kind::Preferred(_) => Bounds {
-            lo: 0,
-            hi: 0,
-            free: false,
-        },
-        Kind::Split(f) => Bounds {
-            lo: f.lo,
-            hi: f.hi,
-            free: false,
-        },
-        Kind::Spread(f) => Bounds {
-            lo: f.lo,
-            hi: f.hi,
-            free: false,
-        },
-        Kind::Busy(f) => Bounds {
-            lo: f.lo,
-            hi: f.hi,
-            free: true,
-        },
-        Kind::Cluster(f) => Bounds {
-            lo: f.lo,
-            hi: f.hi,
-            free: false,
-        },
-        Kind::Idle(f) => Bounds {
-            lo: f.lo,
-            hi: f.hi,
-            free: false,
-        },
-        Kind::Distribute(f) => Bounds {
-            lo: f.lo,
-            hi: f.hi,
-            free: false,
-        },
-        Kind::Lengths(_) => Bounds {
-            lo: 0,
-            hi: 0,
-            free: false,
-        },
-        Kind::Precedence(_) => Bounds {
-            lo: 0,
-            hi: 0,
-            free: false,
-        },
+        Kind::Clash(_) => counted(0, 1),
+        Kind::Unavailable(_) | Kind::Preferred(_) => counted(0, 0),
+        Kind::Split(f) => counted(f.lo, f.hi),
+        Kind::Spread(f) => counted(f.lo, f.hi),
+        Kind::Busy(f) => {
+            let bounds = counted(f.lo, f.hi);
+            Bounds {
+                free: true,
+                ..bounds
+            }
+        }
+        Kind::Cluster(f) | Kind::Idle(f) => counted(f.lo, f.hi),
+        Kind::Distribute(f) => counted(f.lo, f.hi),
+        Kind::Lengths(_) | Kind::Precedence(_) => counted(0, 0),
     }
 }

@@ -1,6 +1,7 @@
-#![tactic(auto)]
 // The constraints of an instance. They stay in the file, and are decoded one at a time: into a flat struct of numbers, and into a
 // kind with its fields.
+#![tactic(auto)]
+
 mod busy;
 mod by_kind;
 mod clash;
@@ -21,8 +22,8 @@ mod unavailable;
 pub use busy::Busy;
 pub use clash::Clash;
 pub use distribute::Distribute;
-pub use flat::{FlatConstraint, FlatNext, flat_at};
-pub use kinds::{Bounds, Constraint, Head, Kind, Next, bounds_of};
+pub use flat::{FlatConstraint, flat_at};
+pub use kinds::{Bounds, Constraint, Head, Kind, bounds_of};
 pub use lengths::Lengths;
 pub use next::constraint_at;
 pub use over_groups::OverGroups;

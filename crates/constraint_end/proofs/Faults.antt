@@ -1,13 +1,13 @@
--- The checks at a constraint's end by one number for its fields come to what the definitions say.
+-- The checks at a constraint's end by one reason at most for its fields come to what the definitions say.
 use Prim.Native.Nat.{ℕ}
 use mathlib.Core.Path.{◌≡◌, refl}
 use mathlib.Core.Bool.{Bool, true, false}
-use lib.Dec.{leb, eqb}
+use lib.Dec.{leb}
 use Rattle.scope.specs.Parsed.{Parsed, got, unless}
 use Rattle.scope.specs.Kinds.{Kind, Constraint}
 use Rattle.scope.specs.Instance.{distinct, ordered, ended}
 use Rattle.constraint.specs.Bounds.{low_of, high_of}
-use Rattle.constraint_end.specs.End.{fault, end_of, ends_at}
+use Rattle.constraint_end.specs.End.{fault, faultless, end_of, ends_at}
 use Rattle.constraint_end.specs.Ends.{ends}
 
 pub ends_same : (at : ℕ) (k : Kind) (n weight end : ℕ)
@@ -17,7 +17,7 @@ ends_same at k n weight end = go (leb n 255) (distinct k) (ordered k) (leb (low_
   where
     -- whether the list is short, the events are two, the lengths or gaps in order, lo at most hi and at most n
     go : (a d o b c : Bool)
-        → ◌≡◌ {A = Parsed ℕ} (unless a 4 at (unless (eqb (fault d o) 0) (fault d o) at (unless b 5 at (unless c 5 at (got 0 end)))))
+        → ◌≡◌ {A = Parsed ℕ} (unless a 4 at (faultless (fault d o) at (unless b 5 at (unless c 5 at (got 0 end)))))
         (ends {A = Constraint} (unless a 4 at (unless d 19 at (unless o 5 at (unless b 5 at (unless c 5 at (got (record { weight = weight; kind = k }) end)))))))
     go false d o b c = refl
     go true false o b c = refl

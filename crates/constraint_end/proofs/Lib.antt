@@ -1,3 +1,2 @@
 pub mod laws
-mod FlatKinds
 mod Faults

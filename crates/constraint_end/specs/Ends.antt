@@ -1,11 +1,18 @@
 -- Where a list that was read ends, for a reader that keeps none of its members.
-use Rattle.std.specs.Prelude.{ℕ, List, leb, length}
+use Rattle.std.specs.Prelude.{ℕ, List, leb, length, Result, Ok, Err}
+use Rattle.scope.specs.Answers.{refused_by}
+use Rattle.scope.specs.declared.refusal.Refusal.{Refusal}
 use Rattle.scope.specs.Parsed.{Parsed, got, refused, and_then, unless, repeat}
 
 -- the end alone
 abbrev pub ends : {A : Type 0} → Parsed A → Parsed ℕ
 ends (got a end) = got 0 end
 ends (refused k v) = refused k v
+
+-- where what was read ends
+abbrev pub said_end : Result ℕ Refusal → Parsed ℕ
+said_end (Ok end) = got 0 end
+said_end (Err f) = refused_by f
 
 -- the end; of a refusal 0
 abbrev pub end_of : {A : Type 0} → Parsed A → ℕ

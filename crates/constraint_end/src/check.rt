@@ -1,46 +1,35 @@
 // The checks at a constraint's end.
 ghost use Rattle.std.specs.Prelude.{◌≡◌};
-ghost use Rattle.number.specs.Answers.{said};
 ghost use Rattle.constraint_end.specs.End.{ends_at};
-ghost use Rattle.constraint_end.specs.Ends.{ends};
+ghost use Rattle.constraint_end.specs.Ends.{ends, said_end};
 ghost use Rattle.constraint_end.specs.Ready.{Ready, checked_by, by_counts};
 
 use crate::by_kind::list_length;
 use crate::end::{End, end_of};
-use constraint::{FlatNext, Head, flat_at};
-use number::Number;
-use scope::Refusal;
-use scope::refusals::{BAD_BOUNDS, LIST_TOO_LONG};
+use constraint::{Head, flat_at};
+use scope::{Reason, Refusal};
 
 // A constraint whose kind stands at an offset and whose counted list has n members: where it ends.
-fn ended(at: usize, e: End, n: u32, end: usize) -> Number
-    ensures { said result ≡ ends_at at e n end }
+fn ended(at: usize, e: End, n: u32, end: usize) -> Result<usize, Refusal>
+    ensures { said_end result ≡ ends_at at e n end }
 {
-    let long = Refusal {
-        number: LIST_TOO_LONG,
-        value: at as u64,
-    };
-    let wrong = Refusal {
-        number: e.fault,
-        value: at as u64,
-    };
-    let bad = Refusal {
-        number: BAD_BOUNDS,
-        value: at as u64,
-    };
+    let value = at as u64;
     if 255 < n {
-        return Number::Refused(long);
+        return Err(Refusal {
+            reason: Reason::ListTooLong,
+            value,
+        });
     }
-    if e.fault != 0 {
-        return Number::Refused(wrong);
+    if let Some(reason) = e.fault {
+        return Err(Refusal { reason, value });
     }
-    if e.hi < e.lo {
-        return Number::Refused(bad);
+    if e.hi < e.lo || n < e.lo {
+        return Err(Refusal {
+            reason: Reason::BadBounds,
+            value,
+        });
     }
-    if e.lo <= n {
-        return Number::Value(0, end);
-    }
-    Number::Refused(bad)
+    Ok(end)
 }
 
 // Where the constraint at an offset ends, checked.
@@ -51,16 +40,12 @@ pub fn checked_at(
     loads: &[u32],
     groups: &[u8],
     list: &mut [u16],
-) -> Number
+) -> Result<usize, Refusal>
     requires { Ready loads.now groups.now list.old head }
-    ensures { said result ≡ ends (checked_by (by_counts loads.now) groups.now head s.now at) }
+    ensures { said_end result ≡ ends (checked_by (by_counts loads.now) groups.now head s.now at) }
 {
-    match flat_at(s, at, head, list) {
-        FlatNext::Read(c, end) => {
-            let n = list_length(c.kind, c.fields, head, loads, groups, list);
-            let e = end_of(c.kind, c.fields);
-            ended(at, e, n, end)
-        }
-        FlatNext::Refused(f) => Number::Refused(f),
-    }
+    let (c, end) = flat_at(s, at, head, list)?;
+    let n = list_length(c.kind, c.fields, head, loads, groups, list);
+    let e = end_of(c.kind, c.fields);
+    ended(at, e, n, end)
 }

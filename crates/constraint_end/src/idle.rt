@@ -5,7 +5,6 @@ ghost use Rattle.number.specs.Lists.{leading};
 ghost use Rattle.constraint_end.specs.Inner.{GroupIn, inner_rows};
 
 use crate::group::group_size;
-use number::monus;
 
 pub fn length_of_idle(groups: &[u8], list: &[u16], count: u32) -> u32
     requires count_in_bounds { count ≤ length list.now }
@@ -13,14 +12,10 @@ pub fn length_of_idle(groups: &[u8], list: &[u16], count: u32) -> u32
     requires each { Each (GroupIn groups.now) (leading count list.now) }
     ensures { result ≡ inner_rows groups.now (leading count list.now) }
 {
-    let most = count as usize;
     let mut sum: u32 = 0;
-    let mut i: usize = 0;
-    while i < most {
-        let h = list[i] as u32;
-        let size = group_size(groups, h);
-        sum = sum + monus(size, 2);
-        i = i + 1;
+    for i in 0..count as usize {
+        let size = group_size(groups, u32::from(list[i]));
+        sum += size.saturating_sub(2);
     }
     sum
 }

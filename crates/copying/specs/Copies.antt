@@ -1,9 +1,14 @@
 -- The literals of a clause, copied from a proof into the words.
-use Rattle.std.specs.Prelude.{true, false, cond, List, ℕ, suc, ◌+◌, eqb, leb, length, set}
+use Rattle.std.specs.Prelude.{Bool, true, false, cond, List, ℕ, suc, ◌+◌, eqb, leb, length, set}
 use Rattle.scope.specs.Parsed.{Parsed, got, refused}
 use Rattle.scope.specs.Number.{number}
-use Rattle.copying.specs.declared.literals.Copying.{Copying}
 use Rattle.reader.specs.Loop.{while_more}
+
+-- literals that are being copied: whether it goes on, where the next one stands, and the word that it goes to
+pub record Copying : Type 0 where
+  pub more : Bool
+  pub at : ℕ
+  pub to : ℕ
 
 -- Literals are copied up to a 0, as far as there are words: at an offset, into the words from one on, and after a number
 abbrev pub copying : ℕ → ℕ → Copying

@@ -1,11 +1,12 @@
-#![tactic(auto)]
 // A decoded cost against bounds: the claim that is to be checked, and what the check makes of the cost.
+#![tactic(auto)]
+
 ghost use Rattle.std.specs.Prelude.{◌≡◌, leb};
 ghost use Rattle.cost_bound.specs.Claimed.{claim_for, shown_for, judged};
 
 use claims::claim::Claim;
 use evaluation::Evaluation;
-use scope::{BestAnswer, CheckAnswer, Objective};
+use scope::{Objective, Refusal};
 
 // A bound above all that are allowed: a check of it looks at no proof and clears the stores.
 const NO_BOUND: u64 = 18446744073709551615;
@@ -22,38 +23,32 @@ pub fn claim_for(e: Evaluation) -> Claim
     ensures { result ≡ claim_for e }
 {
     match e {
-        Evaluation::Holds(_, cost) => {
+        Ok((_, cost)) => {
             if within(cost, 0) {
                 return Claim::Bound(NO_BOUND);
             }
             let below = cost.0 - 1;
             Claim::Bound(below)
         }
-        Evaluation::Refused(_) => Claim::Bound(NO_BOUND),
+        Err(_) => Claim::Bound(NO_BOUND),
     }
 }
 
 // A cost that a proof was wanted for.
-fn shown_for(cost: Objective, c: CheckAnswer) -> BestAnswer
+fn shown_for(cost: Objective, c: Result<u64, Refusal>) -> Result<(Objective, u64), Refusal>
     ensures { result ≡ shown_for cost c }
 {
-    match c {
-        CheckAnswer::NoTimetable(steps) => BestAnswer::Best(cost, steps),
-        CheckAnswer::Refused(f) => BestAnswer::Refused(f),
-    }
+    let steps = c?;
+    Ok((cost, steps))
 }
 
 // The decoder's refusal, else the check's; a cost of 0 has neither.
-pub fn judge(e: Evaluation, c: CheckAnswer) -> BestAnswer
+pub fn judge(e: Evaluation, c: Result<u64, Refusal>) -> Result<(Objective, u64), Refusal>
     ensures { result ≡ judged e c }
 {
-    match e {
-        Evaluation::Holds(_, cost) => {
-            if within(cost, 0) {
-                return BestAnswer::Best(cost, 0);
-            }
-            shown_for(cost, c)
-        }
-        Evaluation::Refused(f) => BestAnswer::Refused(f),
+    let (_, cost) = e?;
+    if within(cost, 0) {
+        return Ok((cost, 0));
     }
+    shown_for(cost, c)
 }

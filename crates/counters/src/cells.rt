@@ -31,6 +31,7 @@ fn write_cell(
     ensures { Ran (step job model.now) (lines (first + j) (gate (cell_at x w prev j) ∷ []))
         (world s text.old words.old) (world result text.new words.new) }
 {
+    // of fixed size: there is no heap
     let mut block = [0u32; 11];
     let n = cell_words(&mut block, 0, x, w, prev, first, j);
     sink::emit(job, model, text, words, s, &block[..n])
@@ -80,31 +81,19 @@ pub fn write_row(
 {
     let at = s.at;
     let n = cols as usize;
-    let mode = job.mode;
-    match mode {
+    match job.mode {
         Mode::Measure => {
-            let size = row_size(job.top, x, w, prev, first, cols);
-            if size != 0 {
+            if let Some(size) = row_size(job.top, x, w, prev, first, cols) {
                 return sink::passed(s, size);
             }
         }
         Mode::Text => {
-            if room(at, 139 * n, text.len()) {
-                if w == 1 {
-                    if spellable(job.top, x, prev, first, cols) {
-                        return sink::placed(
-                            s,
-                            row_text(text, at, job.top as u32, x, prev, first, cols),
-                        );
-                    }
-                }
+            if room(s, 139 * n, text.len()) && w == 1 && spellable(job.top, x, prev, first, cols) {
+                return sink::placed(s, row_text(text, at, job.top as u32, x, prev, first, cols));
             }
         }
-        Mode::SoftText => {
-            return s;
-        }
         Mode::Words => {
-            if room(at, 11 * n, words.len()) {
+            if room(s, 11 * n, words.len()) {
                 return sink::placed(s, row_words(words, at, x, w, prev, first, cols));
             }
         }
@@ -113,7 +102,7 @@ pub fn write_row(
                 return sink::passed(s, row_clauses(w, prev, cols));
             }
         }
-        Mode::Tail => {
+        Mode::SoftText | Mode::Tail => {
             return s;
         }
     }
@@ -141,8 +130,8 @@ pub fn write_counter(
     let mut z = s;
     let mut prev = 0;
     let mut next = first;
-    for i in 0..lits.len() {
-        z = write_row(job, model, text, words, z, lits[i], 1, prev, next, cols);
+    for l in lits {
+        z = write_row(job, model, text, words, z, *l, 1, prev, next, cols);
         prev = next;
         next += cols;
     }

@@ -1,3 +1,4 @@
-#![tactic(auto)]
 // Counters: their cells and rows as clauses, by mode.
+#![tactic(auto)]
+
 pub mod cells;

@@ -1,5 +1,6 @@
-#![tactic(auto)]
 // Counted lists: a counter and the units of its bounds.
+#![tactic(auto)]
+
 ghost use Rattle.std.specs.Prelude.{◌≡◌, true, false, ◌+◌, ◌-◌, ◌*◌, ◌≤◌, ◌<◌, length};
 ghost use Rattle.scope.specs.Formula.{high_units, short_units, count_into};
 ghost use Rattle.sink.specs.Run.{Ran};
@@ -196,7 +197,7 @@ pub fn write_count(
     ensures { Ran (step job model.now) (lines first (count_into cols weight (rule_of b) lits.now first))
         (world s text.old words.old) (world result text.new words.new) }
 {
-    if lits.len() == 0 {
+    if lits.is_empty() {
         return s;
     }
     let n = lits.len() as u32;

@@ -1,5 +1,6 @@
-#![tactic(auto)]
 // What an evaluation of a model leaves with a caller in C.
+#![tactic(auto)]
+
 ghost use Rattle.std.specs.Prelude.{◌≡◌};
 ghost use Rattle.calls.specs.Call.{call};
 ghost use Rattle.decode_call.specs.Leaves.{leaves_evaluation};
@@ -12,11 +13,11 @@ pub fn leave_evaluation(answer: Evaluation, objective: &mut u64, value: &mut u64
     ensures { call result value.new objective.new ≡ leaves_evaluation answer objective.old }
 {
     match answer {
-        Evaluation::Refused(f) => refuse(f, value),
-        Evaluation::Holds(bytes, cost) => {
+        Ok((bytes, cost)) => {
             *objective = cost.0;
             *value = bytes as u64;
             0
         }
+        Err(f) => refuse(f, value),
     }
 }

@@ -1,5 +1,6 @@
-#![tactic(auto)]
 // Decoding a model: the part of its bytes that holds Y and S, with its cost. proofs/laws/Demand.antt shows demand 2 of the answers.
+#![tactic(auto)]
+
 ghost use Rattle.std.specs.Prelude.{◌≡◌};
 ghost use Rattle.scope.specs.Operations.{decode_of};
 ghost use Rattle.scope.specs.Answers.{decode_means};
@@ -7,13 +8,13 @@ ghost use Rattle.decoding.specs.Given.{part_given};
 
 use evaluation::{answer_of, part_of};
 use model::evaluate;
-use scope::DecodeAnswer;
+use scope::{Objective, Refusal};
 
 // What decoding gives: the part of the model that holds Y and S, with its cost; or an empty part, with the refusal.
 #[derive(Clone, Copy)]
 pub struct Decoding<'a> {
     pub part: &'a [u8],
-    pub answer: DecodeAnswer,
+    pub answer: Result<Objective, Refusal>,
 }
 
 // The part of the model that holds Y and S with the cost, or refusals 1 to 6, 8, 10, 11, 13, 19 and 22.

@@ -1,3 +1,4 @@
-#![tactic(auto)]
 // An id to delete is passed, with the row that was found for it. specs/ says what comes next.
+#![tactic(auto)]
+
 pub mod ids;

@@ -12,7 +12,7 @@ use constraint::{Clash, Head};
 fn over_one(n: u16) -> u32
     ensures { (result ≡ n - 1) × (result ≤ 65535) }
 {
-    if n < 1 { 0 } else { (n - 1) as u32 }
+    u32::from(n.saturating_sub(1))
 }
 
 // What n counts are above 1, from an offset on.
@@ -20,12 +20,9 @@ fn above_one(counts: &[u16], base: usize, n: usize) -> u32
     requires { (base + n ≤ length counts.now) × (n ≤ 125) }
     ensures { result ≡ total (λ t. get_or counts.now (base + (t - 1)) 0 - 1) (up_to n) }
 {
-    let mut sum: u32 = 0;
-    let mut i: usize = 0;
-    while i < n {
-        let at = base + i;
-        sum = sum + over_one(counts[at]);
-        i = i + 1;
+    let mut sum = 0;
+    for i in 0..n {
+        sum += over_one(counts[base + i]);
     }
     sum
 }

@@ -19,21 +19,18 @@ use constraint::{Head, OverGroups};
 fn positive(count: u32) -> u32
     ensures { (result ≡ cond (ltb 0 count) 1 0) × (result ≤ 1) }
 {
-    if 0 < count { 1 } else { 0 }
+    u32::from(0 < count)
 }
 
-// How many of the first n groups of a list have a byte 1.
+// How many of the first n groups of a list have a byte 1. The list stands in a store of fixed size, so its length stands beside it.
 fn groups_used(bytes: &[u8], base: usize, groups: &[u8], list: &[u16], n: usize) -> u32
     requires { GroupsListed bytes.now base groups.now list.now n }
     ensures { result ≡ total (λ g. cond (any (marks bytes.now base (row_at groups.now (g - 1)))) 1 0) (leading n list.now) }
 {
-    let mut sum: u32 = 0;
-    let mut k: usize = 0;
-    while k < n {
+    let mut sum = 0;
+    for k in 0..n {
         let g = list[k] as usize - 1;
-        let count = ones_in(bytes, base, groups, g);
-        sum = sum + positive(count);
-        k = k + 1;
+        sum += positive(ones_in(bytes, base, groups, g));
     }
     sum
 }

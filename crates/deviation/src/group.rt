@@ -13,14 +13,10 @@ pub fn ones_in(bytes: &[u8], base: usize, groups: &[u8], g: usize) -> u32
     requires { RowIn groups.now g × Inside bytes.now base (row_at groups.now g) }
     ensures { (result ≡ trues (marks bytes.now base (row_at groups.now g))) × (result ≤ 125) }
 {
-    let n = row_len(groups, g);
-    let mut count: u32 = 0;
-    let mut k: usize = 0;
-    while k < n {
+    let mut count = 0;
+    for k in 0..row_len(groups, g) {
         let t = row_member(groups, g, k) as usize;
-        let at = base + (t - 1);
-        count = count + bit_of(bytes[at]);
-        k = k + 1;
+        count += bit_of(bytes[base + (t - 1)]);
     }
     count
 }

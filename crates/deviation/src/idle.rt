@@ -23,34 +23,27 @@ fn idle_in(bytes: &[u8], base: usize, groups: &[u8], g: usize) -> u32
     requires { RowIn groups.now g × Inside bytes.now base (row_at groups.now g) }
     ensures { (result ≡ (kept_after (marks bytes.now base (row_at groups.now g))).idle) × (result ≤ 125) }
 {
-    let n = row_len(groups, g);
     let mut kept = Kept {
         idle: 0,
         since: 0,
         seen: false,
     };
-    let mut k: usize = 0;
-    while k < n {
+    for k in 0..row_len(groups, g) {
         let t = row_member(groups, g, k) as usize;
-        let at = base + (t - 1);
-        let used = bytes[at] == 1;
-        kept = step(kept, used);
-        k = k + 1;
+        kept = step(kept, bytes[base + (t - 1)] == 1);
     }
     kept.idle as u32
 }
 
-// The idle times of the first n groups of a list.
+// The idle times of the first n groups of a list. It stands in a store of fixed size, so its length stands beside it.
 fn groups_idle(bytes: &[u8], base: usize, groups: &[u8], list: &[u16], n: usize) -> u32
     requires { GroupsListed bytes.now base groups.now list.now n }
     ensures { result ≡ total (λ g. (kept_after (marks bytes.now base (row_at groups.now (g - 1)))).idle) (leading n list.now) }
 {
-    let mut sum: u32 = 0;
-    let mut k: usize = 0;
-    while k < n {
+    let mut sum = 0;
+    for k in 0..n {
         let g = list[k] as usize - 1;
-        sum = sum + idle_in(bytes, base, groups, g);
-        k = k + 1;
+        sum += idle_in(bytes, base, groups, g);
     }
     sum
 }

@@ -1,6 +1,7 @@
-#![tactic(auto)]
 // The deviation of a constraint of each kind, by counts over the bytes of a timetable (Y and S) and over two tables of its own:
 // how often each resource is used at each time, and whether it is (X).
+#![tactic(auto)]
+
 mod busy;
 mod by_kind;
 mod charge;

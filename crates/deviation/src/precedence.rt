@@ -11,35 +11,30 @@ ghost use Rattle.deviation.specs.Charge.{BytesIn, precedence_charge};
 use crate::rows::row_of;
 use constraint::{Head, Precedence};
 
-// The first time that an event takes, 0 if it takes none.
+// The first time that an event takes, 0 if it takes none, as the definitions say it.
 fn first_taken(bytes: &[u8], event: u32, head: Head) -> usize
     requires { BytesIn (counts_in head) bytes.now × OneOf head.events event }
     ensures { result ≡ first_time head.times (taken_in head.times bytes.now) event }
 {
     let base = row_of(event, head.times);
-    let n = head.times as usize;
-    let mut i: usize = 0;
-    while i < n {
+    for i in 0..head.times as usize {
         if bytes[base + i] == 1 {
             return i + 1;
         }
-        i = i + 1;
     }
     0
 }
 
-// The last time that an event takes, over all its subevents, 0 if it takes none.
+// The last time that an event takes, over all its subevents, 0 if it takes none, as the definitions say it.
 fn last_taken(bytes: &[u8], event: u32, head: Head) -> usize
     requires { BytesIn (counts_in head) bytes.now × OneOf head.events event }
     ensures { (result ≡ last_time head.times (taken_in head.times bytes.now) event) × (result ≤ 125) }
 {
     let base = row_of(event, head.times);
-    let mut left = head.times as usize;
-    while 0 < left {
-        if bytes[base + (left - 1)] == 1 {
-            return left;
+    for t in (0..head.times as usize).rev() {
+        if bytes[base + t] == 1 {
+            return t + 1;
         }
-        left = left - 1;
     }
     0
 }

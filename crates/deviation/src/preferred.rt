@@ -17,12 +17,9 @@ fn flag_outside(groups: &[u8], g: usize, flags: &mut [u8])
     requires { RowIn groups.now g × Flaggable (row_at groups.now g) flags.old }
     ensures { Flagged (outside_of (row_at groups.now g)) flags.new }
 {
-    let n = row_len(groups, g);
-    let mut k: usize = 0;
-    while k < n {
+    for k in 0..row_len(groups, g) {
         let t = row_member(groups, g, k) as usize;
         flags[t] = 0;
-        k = k + 1;
     }
 }
 
@@ -47,16 +44,14 @@ fn count_held(bytes: &[u8], takes: usize, starts: usize, n: usize, flags: &[u8])
     requires { (takes + n ≤ length bytes.now) × ((starts + n ≤ length bytes.now) × ((n ≤ 125) × (length flags.now ≡ 126))) }
     ensures { (such : ℕ → Bool) → Flagged such flags.now → result ≡ times_held_at n bytes.now takes starts such }
 {
-    let mut count: u32 = 0;
-    let mut held: u32 = 0;
-    let mut i: usize = 0;
-    while i < n {
+    let mut count = 0;
+    let mut held = 0;
+    for i in 0..n {
         let taken = bytes[takes + i] == 1;
         let start = bytes[starts + i] == 1;
-        i = i + 1;
-        let flag = flags[i] as u32;
+        let flag = u32::from(flags[i + 1]);
         held = held_at(taken, start, flag, held);
-        count = count + held;
+        count += held;
     }
     count
 }
@@ -66,6 +61,7 @@ pub fn of_preferred(f: Preferred, head: Head, bytes: &[u8], groups: &[u8]) -> u3
     ensures { result ≡ preferred_charge (head.events * head.times) head.times bytes.now groups.now f.event f.group }
 {
     let g = (f.group - 1) as usize;
+    // of fixed size: there is no heap
     let mut flags = [1u8; 126];
     flag_outside(groups, g, &mut flags);
     let takes = row_of(f.event, head.times);

@@ -15,8 +15,8 @@ use crate::group::ones_in;
 use crate::rows::starts_of;
 use constraint::{Head, Spread};
 
-// The bytes 1 of the first n events of a list, at the times of a group. The bytes of event 1 begin at base, those of the next
-// so many times after it.
+// The bytes 1 of the first n events of a list, at the times of a group. The list stands in a store of fixed size, so its length
+// stands beside it. The bytes of event 1 begin at base, those of the next so many times after it.
 fn ones_of_events(
     bytes: &[u8],
     base: usize,
@@ -29,13 +29,10 @@ fn ones_of_events(
     requires { EventsListed bytes.now base times groups.now g list.now n }
     ensures { result ≡ total (λ e. trues (marks bytes.now (base + (e - 1) * times) (row_at groups.now g))) (leading n list.now) }
 {
-    let mut sum: u32 = 0;
-    let mut k: usize = 0;
-    while k < n {
+    let mut sum = 0;
+    for k in 0..n {
         let e = list[k] as usize;
-        let from = base + (e - 1) * times;
-        sum = sum + ones_in(bytes, from, groups, g);
-        k = k + 1;
+        sum += ones_in(bytes, base + (e - 1) * times, groups, g);
     }
     sum
 }

@@ -71,11 +71,9 @@ fn count_wanted(bytes: &[u8], takes: usize, starts: usize, n: usize, wanted: Wan
     ensures { result ≡ subevents_at n bytes.now takes starts (is_wanted wanted) }
 {
     let mut w = Runs { count: 0, run: 0 };
-    let mut left = n;
-    while 0 < left {
-        left = left - 1;
-        let taken = bytes[takes + left] == 1;
-        let start = bytes[starts + left] == 1;
+    for i in (0..n).rev() {
+        let taken = bytes[takes + i] == 1;
+        let start = bytes[starts + i] == 1;
         w = pass(w, taken, start, wanted);
     }
     w.count

@@ -10,7 +10,6 @@ use Rattle.scope.specs.Text.{digits, decimal, space}
 use Rattle.digits.proofs.laws.Decimal.{digits-some, digits-small, digits_more}
 use Rattle.digits.specs.Spelled.{four_bytes, Spelt}
 use Rattle.digits.proofs.Spelling.{all-four, first-four}
-use Rattle.digits.specs.declared.spelled.Spelled.{Spelled}
 
 -- a number from 10 ^ k on has more than k digits
 digits-least : (k f n : ℕ) → k ≤ f → 10 ^ k ≤ n → k < length (digits f n)
@@ -86,58 +85,57 @@ early (x ∷ y ∷ []) a b d e ys h = refl
 early (x ∷ y ∷ z ∷ []) a b d e ys h = refl
 early (x ∷ y ∷ z ∷ u ∷ xs) a b d e ys h = refl
 
-module _ {n : Spelled} (s : Spelt n.value n) (h : 1000 ≤ n.value) where
-  long : n.len ≡ length (front n.value) + 4
-  long = s.size ∙ ap length (in_two n.value h) ∙ front_length n.value (n.value % 10)
+module _ {v x y n : ℕ} (s : Spelt v x y n) (h : 1000 ≤ v) where
+  long : n ≡ length (front v) + 4
+  long = s.size ∙ ap length (in_two v h) ∙ front_length v (v % 10)
 
-  back_now : four_bytes n.last ≡ back n.value (n.value % 10)
+  back_now : four_bytes y ≡ back v (v % 10)
   back_now =
-      s.last (omega (arith, long)) ∙ ap (drop (n.len - 4)) (in_two n.value h)
-      ∙ drop_at (front n.value) (back n.value (n.value % 10)) (n.len - 4) (omega (arith, long))
+      s.last (omega (arith, long)) ∙ ap (drop (n - 4)) (in_two v h)
+      ∙ drop_at (front v) (back v (v % 10)) (n - 4) (omega (arith, long))
 
   -- the last digit by its byte, and room for one more
-  pub last_digit : n.last / 65536 % 256 ≡ 48 + n.value % 10
+  pub last_digit : y / 65536 % 256 ≡ 48 + v % 10
   last_digit = ap (λ (xs : List ℕ). get_or xs 2 0) back_now
 
-  pub last_byte : n.last / 16777216 % 256 ≡ 32
+  pub last_byte : y / 16777216 % 256 ≡ 32
   last_byte = ap (λ (xs : List ℕ). get_or xs 3 0) back_now
 
-  module _ (m : n.value + 1 < 10000000) (g : n.value % 10 < 9) where
+  module _ (m : v + 1 < 10000000) (g : v % 10 < 9) where
     -- what is said of the number after it, by its first four bytes
-    next_spelt : (f : ℕ) → four_bytes f ≡ take 4 (front n.value ++ back n.value (n.value % 10 + 1))
-        → Spelt (n.value + 1) (record { value = n.value + 1; first = f; last = n.last + 65536; len = n.len })
+    next_spelt : (f : ℕ) → four_bytes f ≡ take 4 (front v ++ back v (v % 10 + 1))
+        → Spelt (v + 1) f (y + 65536) n
     next_spelt f q =
-        let e : decimal (n.value + 1) ++ space ≡ front n.value ++ back n.value (n.value % 10 + 1) = in-two-next n.value h g in
-        let l : four_bytes (n.last + 65536) ≡ back n.value (n.value % 10 + 1) = third-more n.last _ _ _ _ (48 + (n.value % 10 + 1)) back_now (omega arith) (omega arith) in
+        let e : decimal (v + 1) ++ space ≡ front v ++ back v (v % 10 + 1) = in-two-next v h g in
+        let l : four_bytes (y + 65536) ≡ back v (v % 10 + 1) = third-more y _ _ _ _ (48 + (v % 10 + 1)) back_now (omega arith) (omega arith) in
         record {
-          value = refl;
           small = m;
-          size = long ∙ sym (ap length e ∙ front_length n.value (n.value % 10 + 1));
+          size = long ∙ sym (ap length e ∙ front_length v (v % 10 + 1));
           least = s.least;
           most = s.most;
-          first = all-four n.len f (omega (arith, long)) ∙ q ∙ ap (take 4) (sym e);
+          first = all-four n f (omega (arith, long)) ∙ q ∙ ap (take 4) (sym e);
           last = λ _.
-              l ∙ sym (drop_at (front n.value) (back n.value (n.value % 10 + 1)) (n.len - 4) (omega (arith, long)))
-              ∙ ap (drop (n.len - 4)) (sym e);
+              l ∙ sym (drop_at (front v) (back v (v % 10 + 1)) (n - 4) (omega (arith, long)))
+              ∙ ap (drop (n - 4)) (sym e);
         }
 
-    pub next_long : 10000 ≤ n.value → Spelt (n.value + 1) (record { value = n.value + 1; first = n.first; last = n.last + 65536; len = n.len })
+    pub next_long : 10000 ≤ v → Spelt (v + 1) x (y + 65536) n
     next_long k =
-        let f : 1 < length (front n.value) = digits-least 1 16 (n.value / 10 / 10 / 10) (omega arith) (omega arith) in
-        next_spelt n.first (first-four s (omega (arith, long)) ∙ ap (take 4) (in_two n.value h) ∙ early (front n.value) _ _ _ _ _ f)
+        let f : 1 < length (front v) = digits-least 1 16 (v / 10 / 10 / 10) (omega arith) (omega arith) in
+        next_spelt x (first-four s (omega (arith, long)) ∙ ap (take 4) (in_two v h) ∙ early (front v) _ _ _ _ _ f)
 
     -- a number of four digits
-    module _ (k : n.value < 10000) where
-      one_front : front n.value ≡ (48 + n.value / 10 / 10 / 10 % 10) ∷ []
-      one_front = digits-small 16 (n.value / 10 / 10 / 10) (omega arith)
+    module _ (k : v < 10000) where
+      one_front : front v ≡ (48 + v / 10 / 10 / 10 % 10) ∷ []
+      one_front = digits-small 16 (v / 10 / 10 / 10) (omega arith)
 
-      four_now : four_bytes n.first ≡ (48 + n.value / 10 / 10 / 10 % 10) ∷ (48 + n.value / 10 / 10 % 10) ∷ (48 + n.value / 10 % 10) ∷ (48 + n.value % 10) ∷ []
-      four_now = first-four s (omega (arith, long)) ∙ ap (take 4) (in_two n.value h ∙ ap (λ (xs : List ℕ). xs ++ back n.value (n.value % 10)) one_front)
+      four_now : four_bytes x ≡ (48 + v / 10 / 10 / 10 % 10) ∷ (48 + v / 10 / 10 % 10) ∷ (48 + v / 10 % 10) ∷ (48 + v % 10) ∷ []
+      four_now = first-four s (omega (arith, long)) ∙ ap (take 4) (in_two v h ∙ ap (λ (xs : List ℕ). xs ++ back v (v % 10)) one_front)
 
-      pub next_four : Spelt (n.value + 1) (record { value = n.value + 1; first = n.first + 16777216; last = n.last + 65536; len = n.len })
+      pub next_four : Spelt (v + 1) (x + 16777216) (y + 65536) n
       next_four =
-          next_spelt (n.first + 16777216)
-          (fourth-more n.first _ _ _ _ (48 + (n.value % 10 + 1)) four_now (omega arith) (omega arith) ∙ ap (λ (xs : List ℕ). take 4 (xs ++ back n.value (n.value % 10 + 1))) (sym one_front))
+          next_spelt (x + 16777216)
+          (fourth-more x _ _ _ _ (48 + (v % 10 + 1)) four_now (omega arith) (omega arith) ∙ ap (λ (xs : List ℕ). take 4 (xs ++ back v (v % 10 + 1))) (sym one_front))
 
-      pub first_byte : n.first / 16777216 % 256 ≡ 48 + n.value % 10
+      pub first_byte : x / 16777216 % 256 ≡ 48 + v % 10
       first_byte = ap (λ (xs : List ℕ). get_or xs 3 0) four_now

@@ -1,5 +1,5 @@
 -- The bytes of numbers of up to seven digits, and what storing them leaves.
-use mathlib.Core.Path.{◌≡◌, refl, ap, sym, subst, ◌∙◌}
+use mathlib.Core.Path.{◌≡◌, refl, ap, sym, ◌∙◌}
 use mathlib.Core.List.{List, [], ◌∷◌, ◌++◌}
 use Prim.Native.Nat.{ℕ, suc, ◌+◌, ◌-◌, ◌*◌, ◌/◌, ◌%◌, ◌^◌, ◌≤◌, ◌<◌}
 use native.Mathlib.Omega.{arith}
@@ -13,7 +13,6 @@ use Rattle.digits.proofs.laws.Store.{ran-sets}
 use Rattle.digits.specs.Decimal.{last_digits}
 use Rattle.digits.proofs.laws.Decimal.{digits_last, digits-length, digits-small, digits_more}
 use Rattle.digits.specs.Spelled.{four_bytes, Spelt}
-use Rattle.digits.specs.declared.spelled.Spelled.{Spelled}
 use Rattle.digits.proofs.Overlap.{overlap}
 
 pub four-sum : (a b c d : ℕ) → a < 256 → b < 256 → c < 256 → d < 256 → four_bytes (a + 256 * b + 65536 * c + 16777216 * d) ≡ a ∷ b ∷ c ∷ d ∷ []
@@ -63,9 +62,8 @@ pub all-four : (n f : ℕ) → 4 ≤ n → take n (four_bytes f) ≡ four_bytes 
 all-four n f h = take_all n (four_bytes f) h
 
 pub spelt : (v n f l : ℕ) (xs : List ℕ) → v < 10000000 → decimal v ++ space ≡ xs → n ≡ length xs → 4 ≤ n → n ≤ 8 → four_bytes f ≡ take 4 xs → four_bytes l ≡ drop (n - 4) xs
-    → Spelt v (record { value = v; first = f; last = l; len = n })
+    → Spelt v f l n
 spelt v n f l xs m e s a b p q = record {
-  value = refl;
   small = m;
   size = rw e s;
   least = omega arith;
@@ -76,9 +74,8 @@ spelt v n f l xs m e s a b p q = record {
 
 -- where they are two or three, all stand in the first four bytes
 pub spelt-short : (v n f : ℕ) (xs : List ℕ) → v < 10000000 → decimal v ++ space ≡ xs → n ≡ length xs → 2 ≤ n → n < 4 → take n (four_bytes f) ≡ take 4 xs
-    → Spelt v (record { value = v; first = f; last = 0; len = n })
+    → Spelt v f 0 n
 spelt-short v n f xs m e s a b p = record {
-  value = refl;
   small = m;
   size = rw e s;
   least = a;
@@ -87,49 +84,46 @@ spelt-short v n f xs m e s a b p = record {
   last = λ (h : 4 ≤ n). absurd (omega arith);
 }
 
-pub spelt-own : {n : Spelled} {v : ℕ} → Spelt v n → Spelt n.value n
-spelt-own {n} s = subst (λ (x : ℕ). Spelt x n) (sym s.value) s
-
-pub first-four : {n : Spelled} {v : ℕ} → Spelt v n → 4 ≤ n.len → four_bytes n.first ≡ take 4 (decimal v ++ space)
-first-four {n} s h = sym (all-four n.len n.first h) ∙ s.first
+pub first-four : {v x y n : ℕ} → Spelt v x y n → 4 ≤ n → four_bytes x ≡ take 4 (decimal v ++ space)
+first-four {v} {x} {y} {n} s h = sym (all-four n x h) ∙ s.first
 
 -- the two stores of a number leave its digits and a space
-pub spelt-ran : {n : Spelled} {v : ℕ} (a : ℕ) (t : List ℕ) {t₁ t₂ : List ℕ} → Spelt v n → 4 ≤ n.len → a + 8 ≤ 9223372036854775807
-    → t₁ ≡ sets t a (four_bytes n.first) → t₂ ≡ sets t₁ (a + n.len - 4) (four_bytes n.last)
-    → Ran put (decimal v ++ space) (out a t) (out (a + n.len) t₂)
-spelt-ran {n} {v} a t {t₁} {t₂} s b h p q =
+pub spelt-ran : {v x y n : ℕ} (a : ℕ) (t : List ℕ) {t₁ t₂ : List ℕ} → Spelt v x y n → 4 ≤ n → a + 8 ≤ 9223372036854775807
+    → t₁ ≡ sets t a (four_bytes x) → t₂ ≡ sets t₁ (a + n - 4) (four_bytes y)
+    → Ran put (decimal v ++ space) (out a t) (out (a + n) t₂)
+spelt-ran {v} {x} {y} {n} a t {t₁} {t₂} s b h p q =
     let xs : List ℕ = decimal v ++ space in
-    let i : ℕ = n.len - 4 in
-    let e : a + n.len - 4 ≡ a + i = omega arith in
+    let i : ℕ = n - 4 in
+    let e : a + n - 4 ≡ a + i = omega arith in
     let start : t₁ ≡ sets t a (take 4 xs) = p ∙ ap (sets t a) (first-four s b) in
     let all : t₂ ≡ sets t a xs =
-    q ∙ ap (sets t₁ (a + n.len - 4)) (s.last b) ∙ ap (λ (k : ℕ). sets t₁ k (drop i xs)) e
+    q ∙ ap (sets t₁ (a + n - 4)) (s.last b) ∙ ap (λ (k : ℕ). sets t₁ k (drop i xs)) e
     ∙ ap (λ (l : List ℕ). sets l (a + i) (drop i xs)) start ∙ overlap i 4 xs t a (omega (arith, s.most)) in
-    rw all (ran-sets xs t a (a + n.len) (omega (arith, s.size, s.most)) (ap (λ (m : ℕ). a + m) s.size))
+    rw all (ran-sets xs t a (a + n) (omega (arith, s.size, s.most)) (ap (λ (m : ℕ). a + m) s.size))
 
 -- the first two of two or more elements
 first_two : (m a b : ℕ) (ys : List ℕ) → take 2 (take (suc (suc m)) (a ∷ b ∷ ys)) ≡ a ∷ b ∷ []
 first_two m a b ys = refl
 
 -- the three stores of a number of one or two digits
-pub short-ran : {n : Spelled} {v : ℕ} (a : ℕ) (t : List ℕ) → Spelt v n → n.len < 4 → a + 8 ≤ 9223372036854775807
-    → Ran put (decimal v ++ space) (out a t) (out (a + n.len) (set (set (set t a (n.first % 256)) (a + 1) (n.first / 256 % 256)) (a + n.len - 1) 32))
-short-ran {n} {v} a t s b h =
+pub short-ran : {v x y n : ℕ} (a : ℕ) (t : List ℕ) → Spelt v x y n → n < 4 → a + 8 ≤ 9223372036854775807
+    → Ran put (decimal v ++ space) (out a t) (out (a + n) (set (set (set t a (x % 256)) (a + 1) (x / 256 % 256)) (a + n - 1) 32))
+short-ran {v} {x} {y} {n} a t s b h =
     let xs : List ℕ = decimal v ++ space in
-    let i : ℕ = n.len - 1 in
-    let m : ℕ = n.len - 2 in
-    let f : ℕ = n.first in
-    let l : n.len ≡ suc (suc m) = omega (arith, s.least) in
+    let i : ℕ = n - 1 in
+    let m : ℕ = n - 2 in
+    let f : ℕ = x in
+    let l : n ≡ suc (suc m) = omega (arith, s.least) in
     let whole : take 4 xs ≡ xs = take_all 4 xs (omega (arith, s.size)) in
     let two : take 2 xs ≡ f % 256 ∷ f / 256 % 256 ∷ [] =
     ap (take 2) (sym whole ∙ sym s.first ∙ ap (λ (k : ℕ). take k (four_bytes f)) l) ∙ first_two m (f % 256) (f / 256 % 256) (f / 65536 % 256 ∷ f / 16777216 % 256 ∷ []) in
     let long : length xs ≡ length (decimal v) + 1 = length-append (decimal v) space in
     let end : drop i xs ≡ 32 ∷ [] = drop_at (decimal v) space i (omega (arith, s.size, s.least, long)) in
-    let e : a + n.len - 1 ≡ a + i = omega (arith, s.least) in
-    let all : set (set (set t a (f % 256)) (a + 1) (f / 256 % 256)) (a + n.len - 1) 32 ≡ sets t a xs =
+    let e : a + n - 1 ≡ a + i = omega (arith, s.least) in
+    let all : set (set (set t a (f % 256)) (a + 1) (f / 256 % 256)) (a + n - 1) 32 ≡ sets t a xs =
     ap (λ (k : ℕ). set (set (set t a (f % 256)) (a + 1) (f / 256 % 256)) k 32) e
     ∙ ap (λ (k : ℕ). set (set (set t a (f % 256)) k (f / 256 % 256)) (a + i) 32) (add-one a)
     ∙ ap (λ (ys : List ℕ). sets (sets t a ys) (a + i) (32 ∷ [])) (sym two)
     ∙ ap (sets (sets t a (take 2 xs)) (a + i)) (sym end)
     ∙ overlap i 2 xs t a (omega arith) in
-    rw all (ran-sets xs t a (a + n.len) (omega (arith, s.size, s.most)) (ap (λ (k : ℕ). a + k) s.size))
+    rw all (ran-sets xs t a (a + n) (omega (arith, s.size, s.most)) (ap (λ (k : ℕ). a + k) s.size))

@@ -1,6 +1,7 @@
-#![tactic(auto)]
 // Decimal numbers and literals in a lent output, in two forms: with a test for each byte, and without, where there is room.
-ghost use Rattle.std.specs.Prelude.{◌≡◌, [], ◌∷◌, ◌+◌, ◌-◌, ◌%◌, ◌≤◌, ◌<◌, length};
+#![tactic(auto)]
+
+ghost use Rattle.std.specs.Prelude.{◌≡◌, true, [], ◌∷◌, ◌+◌, ◌-◌, ◌%◌, ◌≤◌, ◌<◌, length};
 ghost use Rattle.std.proofs.lemmas.List.Edits.{sets};
 ghost use Rattle.scope.specs.Text.{digits, decimal, literal_text};
 ghost use Rattle.digits.specs.Run.{Ran};
@@ -15,24 +16,35 @@ use spelled::{put_spelled_literal, spell};
 pub fn advance(at: usize, n: usize) -> usize
     ensures { result ≡ further at n }
 {
-    if 9223372036854775807 <= at {
-        return 9223372036854775807;
-    }
-    if 9223372036854775807 - at <= n {
-        return 9223372036854775807;
-    }
-    at + n
+    at.saturating_add(n).min(9223372036854775807)
 }
 
-// One byte, where there is room; the position counts it either way.
-pub fn put_byte(text: &mut [u8], at: usize, b: u8) -> usize
-    ensures { Ran put (b ∷ []) (out at text.old) (out result text.new) }
+// Whether n bytes or words from a place on are within an output's length.
+pub fn room(at: usize, n: usize, len: usize) -> bool
+    ensures { result ≡ true → at + n ≤ len }
 {
-    if at < text.len() {
-        text[at] = b;
-        return advance(at, 1);
+    at <= len && n <= len - at
+}
+
+// One byte or word, where there is room; the position counts it either way.
+pub fn put<T: Copy>(output: &mut [T], at: usize, x: T) -> usize
+    ensures { Ran put (x ∷ []) (out at output.old) (out result output.new) }
+{
+    if at < output.len() {
+        output[at] = x;
     }
     advance(at, 1)
+}
+
+// Some bytes or words, with a test for each.
+pub fn put_all<T: Copy>(output: &mut [T], at: usize, xs: &[T]) -> usize
+    ensures { Ran put xs.now (out at output.old) (out result output.new) }
+{
+    let mut p = at;
+    for x in xs {
+        p = put(output, p, *x);
+    }
+    p
 }
 
 fn digit(n: u64) -> u8
@@ -46,13 +58,13 @@ fn put_number(text: &mut [u8], at: usize, n: u64, k: usize) -> usize
     ensures { Ran put (digits k n) (out at text.old) (out result text.new) }
 {
     if k == 0 {
-        return put_byte(text, at, digit(n));
+        return put(text, at, digit(n));
     }
     if n < 10 {
-        return put_byte(text, at, digit(n));
+        return put(text, at, digit(n));
     }
     let mid = put_number(text, at, n / 10, k - 1);
-    put_byte(text, mid, digit(n))
+    put(text, mid, digit(n))
 }
 
 // A literal with its sign, and a space.
@@ -60,46 +72,22 @@ fn put_literal(text: &mut [u8], at: usize, l: u32) -> usize
     ensures { Ran put (literal_text l) (out at text.old) (out result text.new) }
 {
     if l % 2 == 1 {
-        let a = put_byte(text, at, 45);
+        let a = put(text, at, 45);
         let b = put_number(text, a, (l / 2) as u64, 19);
-        return put_byte(text, b, 32);
+        return put(text, b, 32);
     }
     let c = put_number(text, at, (l / 2) as u64, 19);
-    put_byte(text, c, 32)
+    put(text, c, 32)
 }
 
-// How many digits a number has, by comparisons.
+// How many digits a number has.
 fn count_digits(v: u32) -> usize
     ensures { result ≡ length (decimal v) }
 {
     if v < 10 {
         return 1;
     }
-    if v < 100 {
-        return 2;
-    }
-    if v < 1000 {
-        return 3;
-    }
-    if v < 10000 {
-        return 4;
-    }
-    if v < 100000 {
-        return 5;
-    }
-    if v < 1000000 {
-        return 6;
-    }
-    if v < 10000000 {
-        return 7;
-    }
-    if v < 100000000 {
-        return 8;
-    }
-    if v < 1000000000 {
-        return 9;
-    }
-    10
+    v.ilog10() as usize + 1
 }
 
 // The last digits of v from at up to end, written backwards, two in each turn.
@@ -111,7 +99,7 @@ fn fill_digits(text: &mut [u8], at: usize, end: usize, v: u32)
     let mut x = v;
     while at + 1 < i {
         let r = x % 100;
-        x = x / 100;
+        x /= 100;
         i -= 2;
         text[i + 1] = 48 + (r % 10) as u8;
         text[i] = 48 + (r / 10) as u8;
@@ -153,12 +141,8 @@ pub fn fast_literal(text: &mut [u8], at: usize, l: u32) -> usize
 pub fn write_number(text: &mut [u8], at: usize, n: u64) -> usize
     ensures { Ran put (decimal n) (out at text.old) (out result text.new) }
 {
-    if n < 4294967296 {
-        if at < text.len() {
-            if 10 <= text.len() - at {
-                return fast_number(text, at, n as u32);
-            }
-        }
+    if n < 4294967296 && room(at, 10, text.len()) {
+        return fast_number(text, at, n as u32);
     }
     put_number(text, at, n, 19)
 }
@@ -167,10 +151,8 @@ pub fn write_number(text: &mut [u8], at: usize, n: u64) -> usize
 pub fn write_literal(text: &mut [u8], at: usize, l: u32) -> usize
     ensures { Ran put (literal_text l) (out at text.old) (out result text.new) }
 {
-    if at < text.len() {
-        if 12 <= text.len() - at {
-            return fast_literal(text, at, l);
-        }
+    if room(at, 12, text.len()) {
+        return fast_literal(text, at, l);
     }
     put_literal(text, at, l)
 }

@@ -7,14 +7,15 @@ ghost use Rattle.digits.specs.Store.{out, put};
 ghost use Rattle.digits.specs.Decimal.{last_digits};
 ghost use Rattle.digits.specs.Spelled.{four_bytes, Spelt};
 
-// A number, and its digits with a space after them: their first four bytes and their last four, which may be some of the
-// first, the lowest byte of each first, and how many they are. Where they are two or three, all stand in the first.
+// A number below ten million, and its digits with a space after them: their first four bytes and their last four, which may be
+// some of the first, the lowest byte of each first, and how many they are. Where they are two or three, all stand in the first.
 #[derive(Clone, Copy)]
 pub struct Spelled {
     pub value: u32,
     pub first: u32,
     pub last: u32,
     pub len: usize,
+    pub ghost spelt: { Spelt value first last len },
 }
 
 // Four bytes as one number.
@@ -37,7 +38,7 @@ fn four_digits(u: u32) -> u32
 // The bytes of a number of one or two digits.
 fn spell_short(v: u32) -> Spelled
     requires { v < 100 }
-    ensures { Spelt v result }
+    ensures { result.value ≡ v }
 {
     if v < 10 {
         let first = four(48 + v, 32, 0, 0);
@@ -60,7 +61,7 @@ fn spell_short(v: u32) -> Spelled
 // A number's bytes.
 pub fn spell(v: u32) -> Spelled
     requires { v < 10000000 }
-    ensures { Spelt v result }
+    ensures { result.value ≡ v }
 {
     if v < 100 {
         return spell_short(v);
@@ -110,8 +111,8 @@ pub fn spell(v: u32) -> Spelled
 // The number after one: mostly only its last digit is another. That digit stands in the third of the last four bytes, and in a
 // number of four digits in the fourth of the first four too.
 pub fn following(n: Spelled) -> Spelled
-    requires { Spelt n.value n × (n.value + 1 < 10000000) }
-    ensures { Spelt (n.value + 1) result }
+    requires { n.value + 1 < 10000000 }
+    ensures { result.value ≡ n.value + 1 }
 {
     let value = n.value + 1;
     if n.value < 1000 {
@@ -150,7 +151,7 @@ fn put_four(text: &mut [u8], at: usize, b: u32)
 
 // A number of one or two digits and a space.
 fn put_short(text: &mut [u8], at: usize, n: Spelled) -> usize
-    requires { Spelt n.value n × (n.len < 4) × (at + 8 ≤ length text.old) }
+    requires { (n.len < 4) × (at + 8 ≤ length text.old) }
     ensures ran { Ran put (decimal n.value ++ space) (out at text.old) (out result text.new) }
     ensures upper_bound { result ≤ at + 8 }
 {
@@ -163,7 +164,7 @@ fn put_short(text: &mut [u8], at: usize, n: Spelled) -> usize
 
 // A number and a space, where there is room.
 pub fn put_spelled(text: &mut [u8], at: usize, n: Spelled) -> usize
-    requires { Spelt n.value n × (at + 8 ≤ length text.old) }
+    requires { at + 8 ≤ length text.old }
     ensures ran { Ran put (decimal n.value ++ space) (out at text.old) (out result text.new) }
     ensures upper_bound { result ≤ at + 8 }
 {
@@ -178,7 +179,7 @@ pub fn put_spelled(text: &mut [u8], at: usize, n: Spelled) -> usize
 
 // A literal of the number, where there is room. A sign is written in any case, and a digit over it where it is not wanted.
 pub fn put_spelled_literal(text: &mut [u8], at: usize, l: u32, n: Spelled) -> usize
-    requires { Spelt (l / 2) n × (at + 9 ≤ length text.old) }
+    requires { (n.value ≡ l / 2) × (at + 9 ≤ length text.old) }
     ensures ran { Ran put (literal_text l) (out at text.old) (out result text.new) }
     ensures upper_bound { result ≤ at + 9 }
 {

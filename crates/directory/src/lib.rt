@@ -1,7 +1,8 @@
-#![tactic(auto)]
 // The directory: a row for each clause, in ascending order of their ids. The code of other crates makes rows and looks into them
 // by the functions here alone, but for the program cases, which lends rows of its own; definitions and laws name a row's parts.
-ghost use Rattle.std.specs.Prelude.{◌≡◌, ◌%◌, length, set, replicate};
+#![tactic(auto)]
+
+ghost use Rattle.std.specs.Prelude.{◌≡◌, ◌%◌, length, replicate, set};
 ghost use Rattle.directory.specs.Rows.{no_row, new_row, first_word, is_dead};
 ghost use Rattle.directory.specs.Directory.{with_dead};
 
@@ -25,65 +26,63 @@ fn low(x: usize) -> u32
     (x % BLOCK) as u32
 }
 
-fn wide(x: u32) -> usize
-    ensures { result ≡ x }
-{
-    x as usize
-}
-
-// A row of a clause that is live.
-pub fn new_row(id: usize, first: usize, len: usize) -> Row
-    ensures { result ≡ new_row id first len }
-{
-    Row {
-        id: low(id),
-        first: low(first),
-        len: low(len),
-        live: low(1 + first / BLOCK),
+impl Row {
+    // A row of a clause that is live.
+    #[tactic(auto, unfolding(crate::specs::Rows::new_row))]
+    pub fn new(id: usize, first: usize, len: usize) -> Row
+        ensures { result ≡ new_row id first len }
+    {
+        Row {
+            id: low(id),
+            first: low(first),
+            len: low(len),
+            live: low(1 + first / BLOCK),
+        }
     }
-}
 
-// The row of no clause.
-pub fn no_row() -> Row
-    ensures { result ≡ no_row }
-{
-    Row {
-        id: 0,
-        first: 0,
-        len: 0,
-        live: 0,
+    // The row of no clause.
+    pub fn none() -> Row
+        ensures { result ≡ no_row }
+    {
+        Row {
+            id: 0,
+            first: 0,
+            len: 0,
+            live: 0,
+        }
     }
-}
 
-// The id of a row's clause.
-pub fn id_of(row: Row) -> usize
-    ensures { result ≡ row.id }
-{
-    wide(row.id)
-}
-
-// The first word of a row's clause.
-pub fn first_word(row: Row) -> usize
-    ensures { result ≡ first_word row }
-{
-    if row.live == 0 {
-        return wide(row.first);
+    // The id of its clause.
+    pub fn id(self) -> usize
+        ensures { result ≡ self.id }
+    {
+        self.id as usize
     }
-    (wide(row.live) - 1) * BLOCK + wide(row.first)
-}
 
-// How many words it has.
-pub fn word_count(row: Row) -> usize
-    ensures { result ≡ row.len }
-{
-    wide(row.len)
-}
+    // The first word of its clause.
+    #[tactic(auto, unfolding(crate::specs::Rows::first_word))]
+    pub fn first_word(self) -> usize
+        ensures { result ≡ first_word self }
+    {
+        if self.live == 0 {
+            return self.first as usize;
+        }
+        (self.live as usize - 1) * BLOCK + self.first as usize
+    }
 
-// Whether it was deleted, or there is none.
-pub fn is_dead(row: Row) -> bool
-    ensures { result ≡ is_dead row }
-{
-    row.live == 0
+    // How many words its clause has.
+    pub fn word_count(self) -> usize
+        ensures { result ≡ self.len }
+    {
+        self.len as usize
+    }
+
+    // Whether it was deleted, or there is none.
+    pub fn is_dead(self) -> bool
+        ensures { result ≡ is_dead self }
+    {
+        self.live == 0
+    }
 }
 
 // The row i is no longer live.
@@ -97,6 +96,7 @@ pub fn mark_dead(rows: &mut [Row], i: usize)
 }
 
 // A row after the first n, if there is room.
+// How many rows are in use stands beside them: a caller in C lends them, and there is no heap.
 pub fn append(rows: &mut [Row], n: usize, row: Row)
     ensures { rows.new ≡ set rows.old n row }
 {
@@ -106,19 +106,9 @@ pub fn append(rows: &mut [Row], n: usize, row: Row)
     rows[n] = row;
 }
 
-// Every row is 0.
-pub fn clear_rows(rows: &mut [Row])
+// Every row is that of no clause.
+pub fn clear(rows: &mut [Row])
     ensures { rows.new ≡ replicate (length rows.old) no_row }
 {
-    let none = Row {
-        id: 0,
-        first: 0,
-        len: 0,
-        live: 0,
-    };
-    let mut i = 0;
-    while i < rows.len() {
-        rows[i] = none;
-        i += 1;
-    }
+    rows.fill(Row::none());
 }

@@ -3,7 +3,7 @@ ghost use Rattle.std.specs.Prelude.{◌≡◌};
 ghost use Rattle.calls.specs.Call.{call};
 ghost use Rattle.operation_calls.specs.Operations.{check_hard_call};
 
-use calls::leave_steps;
+use calls::leave_number;
 use checker::check;
 use claims::claim::Claim;
 use directory::Row;
@@ -24,5 +24,5 @@ pub extern "C" fn timetable_check_hard(
 {
     let claim = Claim::AnyCost;
     let answer = check(file, claim, proof, words, rows, marks);
-    leave_steps(answer, value)
+    leave_number(answer, value)
 }

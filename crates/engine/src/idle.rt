@@ -5,16 +5,11 @@ ghost use Rattle.scope.specs.Idle.{fitted, idle_step_of};
 use idle_step::step;
 use scope::Kept;
 
-const LARGEST: u64 = 4294967295;
-
 // A number in 32 bits, or the largest that fits.
 fn fitted(n: u64) -> u32
     ensures { result ≡ fitted n }
 {
-    if n > LARGEST {
-        return LARGEST as u32;
-    }
-    n as u32
+    n.min(u64::from(u32::MAX)) as u32
 }
 
 // What is kept after one member more, from what was kept before it and whether it has X. No value is refused.
@@ -31,15 +26,12 @@ pub extern "C" fn timetable_idle_step(
     ensures { (next_idle.new, next_since.new, next_seen.new) ≡ idle_step_of idle since seen used }
 {
     let kept = Kept {
-        idle: idle as u64,
-        since: since as u64,
+        idle: u64::from(idle),
+        since: u64::from(since),
         seen: seen != 0,
     };
     let next = step(kept, used != 0);
     *next_idle = fitted(next.idle);
     *next_since = fitted(next.since);
-    *next_seen = 0;
-    if next.seen {
-        *next_seen = 1;
-    }
+    *next_seen = u32::from(next.seen);
 }

@@ -1,10 +1,11 @@
-#![tactic(auto)]
 // The engine's operations as C functions, which include/timetable.h declares.
 //
 // Each but the idle step, which refuses nothing, answers 0 if it is accepted, and else the number of the first refusal in document
 // 01's order. Its contract is one equation: what the call leaves (the number returned, *value and every other output) is what the
 // crates calls and operation_calls say of the operation's answer by the definitions. An input is lent as `&`, so it keeps every
 // byte. None asks anything of its caller but good pointers. proofs/Demand1.antt has the twelve equations together.
+#![tactic(auto)]
+
 mod best_model;
 mod check_hard;
 mod idle;
@@ -17,7 +18,7 @@ ghost use Rattle.calls.specs.Outputs.{amounts, formula_size, instance_size, leav
 ghost use Rattle.operation_calls.specs.Operations.{check_call, decode_call, text_call};
 
 pub use best_model::timetable_best;
-use calls::{leave_length, leave_sameness, leave_steps, leave_written};
+use calls::{leave_length, leave_number, leave_sameness};
 pub use check_hard::timetable_check_hard;
 use checker::check;
 use claims::claim::Claim;
@@ -118,7 +119,7 @@ pub extern "C" fn timetable_text(file: &[u8], out: &mut [u8], value: &mut u64) -
     ensures { call result value.new out.new ≡ text_call file.now out.old }
 {
     let answer = text(file, out);
-    leave_written(answer, value)
+    leave_number(answer, value)
 }
 
 // How many bytes of a model, from its first, are the timetable, in *value, and its cost; or 1 to 6, 8, 10, 11, 13, 19, 22.
@@ -153,5 +154,5 @@ pub extern "C" fn timetable_check(
 {
     let claim = Claim::Bound(bound);
     let answer = check(file, claim, proof, words, rows, marks);
-    leave_steps(answer, value)
+    leave_number(answer, value)
 }

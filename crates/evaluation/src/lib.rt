@@ -1,17 +1,13 @@
-#![tactic(auto)]
 // What is told of an evaluated model, and the part and the answer that decoding makes of it.
+#![tactic(auto)]
+
 ghost use Rattle.std.specs.Prelude.{◌≡◌};
 ghost use Rattle.evaluation.specs.Evaluated.{judged_of, part_of, answer_of};
 
-use scope::refusals::CLAUSE_FALSE;
-use scope::{DecodeAnswer, Objective, Refusal};
+use scope::{Objective, Reason, Refusal};
 
 // How many bytes of the model hold Y and S, with the weight of the soft clauses that it falsifies; or a refusal.
-#[derive(Clone, Copy)]
-pub enum Evaluation {
-    Holds(usize, Objective),
-    Refused(Refusal),
-}
+pub type Evaluation = Result<(usize, Objective), Refusal>;
 
 // 13 with the id of a false clause; where there is none, the id being 0, the length of the part and the weight.
 pub fn judge(bad: usize, lost: u64, part: usize) -> Evaluation
@@ -19,12 +15,11 @@ pub fn judge(bad: usize, lost: u64, part: usize) -> Evaluation
 {
     if bad == 0 {
         let cost = Objective(lost);
-        return Evaluation::Holds(part, cost);
+        return Ok((part, cost));
     }
-    let value = bad as u64;
-    Evaluation::Refused(Refusal {
-        number: CLAUSE_FALSE,
-        value,
+    Err(Refusal {
+        reason: Reason::ClauseFalse,
+        value: bad as u64,
     })
 }
 
@@ -33,22 +28,15 @@ pub fn part_of<'a>(model: &'a [u8], e: Evaluation) -> &'a [u8]
     ensures { result.now ≡ part_of e model.now }
 {
     match e {
-        Evaluation::Holds(n, _) => {
-            if model.len() < n {
-                return model;
-            }
-            &model[..n]
-        }
-        Evaluation::Refused(_) => &model[..0],
+        Ok((n, _)) => &model[..n.min(model.len())],
+        Err(_) => &model[..0],
     }
 }
 
 // The cost, or the refusal.
-pub fn answer_of(e: Evaluation) -> DecodeAnswer
+pub fn answer_of(e: Evaluation) -> Result<Objective, Refusal>
     ensures { result ≡ answer_of e }
 {
-    match e {
-        Evaluation::Holds(_, cost) => DecodeAnswer::Decoded(cost),
-        Evaluation::Refused(f) => DecodeAnswer::Refused(f),
-    }
+    let (_, cost) = e?;
+    Ok(cost)
 }

@@ -1,3 +1,4 @@
 pub mod laws
+pub mod KindNumbers
 pub mod Rows
 mod Left

@@ -1,14 +1,13 @@
 -- The numbers of a constraint's fields, read one after another.
-use Rattle.std.specs.Prelude.{ℕ, ◌-◌, ◌≡◌, Bool, cond, List, [], ◌∷◌, length}
+use Rattle.std.specs.Prelude.{ℕ, ◌-◌, ◌≡◌, Bool, cond, List, [], ◌∷◌, length, Result}
 use Rattle.scope.specs.Parsed.{Parsed, and_then}
 use Rattle.scope.specs.Kinds.{Kind}
 use Rattle.scope.specs.Instance.{Fields, a_reference, a_list, a_number, the_kind, fields_read}
-use Rattle.number.specs.declared.Number.{Number}
-use Rattle.number.specs.Answers.{said}
+use Rattle.scope.specs.Answers.{said}
+use Rattle.scope.specs.declared.refusal.Refusal.{Refusal}
 use Rattle.number.specs.Lists.{leading}
 use Rattle.fields.specs.declared.table.Totals.{Totals}
 use Rattle.fields.specs.declared.flat.Flat.{Flat}
-use Rattle.fields.specs.declared.read.FlatRead.{FlatRead}
 use Rattle.fields.specs.Made.{kind_from}
 use Rattle.fields.specs.Answers.{said_flat}
 use Rattle.fields.specs.Table.{Field, to_one, to_many, within, count_of, fields_from}
@@ -51,14 +50,14 @@ unfoldable pub left_after : ℕ → Totals → ℕ → Flat → List ℕ → Lis
 left_after i n k w l s at = fields_read (left_in (fields_from n k i (count_of k - i)) k w l) s at
 
 -- a field that was read at an offset, with the store before and after: the other fields go on from its number
-pub record FieldRead (f : Field) (l l' s : List ℕ) (at : ℕ) (x : Number) : Type 0 where
+pub record FieldRead (f : Field) (l l' s : List ℕ) (at : ℕ) (x : Result (ℕ × ℕ) Refusal) : Type 0 where
   pub eq : (fs : List Field) (k : ℕ) (w : Flat)
       → fields_read (left_in (f ∷ fs) k w l) s at
       ≡ and_then (said x) (λ v next. fields_read (left_in fs k (put_of f v w) l') s next)
 
 -- one without a list, and those after the second: whatever the store holds
-pub record NumberRead (f : Field) (s : List ℕ) (at : ℕ) (x : Number) : Type 0 where
+pub record NumberRead (f : Field) (s : List ℕ) (at : ℕ) (x : Result (ℕ × ℕ) Refusal) : Type 0 where
   pub each : (l : List ℕ) → FieldRead f l l s at x
 
-pub record BoundsRead (k : ℕ) (n : Totals) (w : Flat) (s : List ℕ) (at : ℕ) (x : FlatRead) : Type 0 where
+pub record BoundsRead (k : ℕ) (n : Totals) (w : Flat) (s : List ℕ) (at : ℕ) (x : Result (Flat × ℕ) Refusal) : Type 0 where
   pub eq : (l : List ℕ) → said_flat k l x ≡ left_after 2 n k w l s at

@@ -1,3 +1,4 @@
+pub mod Kind
 pub mod Made
 pub mod Answers
 pub mod Table

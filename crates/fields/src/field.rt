@@ -2,53 +2,52 @@
 // called from one place, so that the compiler leaves no call and keeps the numbers in registers.
 ghost use Rattle.std.specs.Prelude.{◌≡◌, ◌≤◌, ◌<◌, length};
 ghost use Rattle.fields.specs.Flat.{FieldRead, NumberRead};
+ghost use Rattle.fields.specs.Kind.{number_of};
 ghost use Rattle.fields.specs.Table.{first_of, second_of, third_of};
 
+use crate::kind::KindName;
 use crate::list::list_at;
 use crate::table::{Totals, things_of};
-use number::{Number, limited, reference};
+use number::{limited, reference};
+use scope::Parsed;
 
 // The first: a spread's events, else a reference.
-pub fn first_at(s: &[u8], at: usize, kind: u32, t: Totals, list: &mut [u16]) -> Number
+pub fn first_at(s: &[u8], at: usize, kind: KindName, t: Totals, list: &mut [u16]) -> Parsed<u32>
     requires list_len { length list.old ≡ 2048 }
     requires events_bound { t.events ≤ 2048 }
-    ensures { FieldRead (first_of t kind) list.old list.new s.now at result }
+    ensures { FieldRead (first_of t (number_of kind)) list.old list.new s.now at result }
 {
-    if kind == 5 {
-        return list_at(s, at, t.events, list);
+    match kind {
+        KindName::Spread => list_at(s, at, t.events, list),
+        _ => {
+            let n = things_of(kind, t);
+            reference(s, at, 0, n)
+        }
     }
-    let n = things_of(kind, t);
-    reference(s, at, 0, n)
 }
 
 // The second: an event in kind 11, a length in 9 and 10, the groups in 7 and 8, a bound in 4, else a group.
-pub fn second_at(s: &[u8], at: usize, kind: u32, t: Totals, list: &mut [u16]) -> Number
+pub fn second_at(s: &[u8], at: usize, kind: KindName, t: Totals, list: &mut [u16]) -> Parsed<u32>
     requires list_len { length list.old ≡ 2048 }
     requires groups_bound { t.groups ≤ 2048 }
-    ensures { FieldRead (second_of t kind) list.old list.new s.now at result }
+    ensures { FieldRead (second_of t (number_of kind)) list.old list.new s.now at result }
 {
-    if 8 < kind {
-        if kind == 11 {
-            return reference(s, at, 0, t.events);
-        }
-        return limited(s, at, 1, t.times);
+    match kind {
+        KindName::Precedence => reference(s, at, 0, t.events),
+        KindName::Distribute | KindName::Lengths => limited(s, at, 1, t.times),
+        KindName::Cluster | KindName::Idle => list_at(s, at, t.groups, list),
+        KindName::Split => limited(s, at, 0, 255),
+        _ => reference(s, at, 0, t.groups),
     }
-    if 6 < kind {
-        return list_at(s, at, t.groups, list);
-    }
-    if kind == 4 {
-        return limited(s, at, 0, 255);
-    }
-    reference(s, at, 0, t.groups)
 }
 
 // The third of kinds 10 and 11: the longest length, a gap's lo.
-pub fn third_at(s: &[u8], at: usize, kind: u32, t: Totals) -> Number
-    requires { 9 < kind }
-    ensures { NumberRead (third_of t kind) s.now at result }
+pub fn third_at(s: &[u8], at: usize, kind: KindName, t: Totals) -> Parsed<u32>
+    requires { 9 < number_of kind }
+    ensures { NumberRead (third_of t (number_of kind)) s.now at result }
 {
-    if kind == 10 {
-        return limited(s, at, 1, t.times);
+    match kind {
+        KindName::Lengths => limited(s, at, 1, t.times),
+        _ => limited(s, at, 0, 124),
     }
-    limited(s, at, 0, 124)
 }

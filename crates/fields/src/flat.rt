@@ -26,17 +26,12 @@ pub fn push(w: Flat, v: u32) -> Flat
 }
 
 // With one more number, or with the length of a list.
+#[tactic(auto, unfolding(crate::specs::Flat::put_or))]
 pub fn put(w: Flat, listed: bool, v: u32) -> Flat
     ensures { result ≡ put_or listed v w }
 {
     if listed {
-        return Flat {
-            a: w.a,
-            b: w.b,
-            c: w.c,
-            d: w.d,
-            list: v,
-        };
+        return Flat { list: v, ..w };
     }
     push(w, v)
 }

@@ -7,8 +7,7 @@ ghost use Rattle.sink.specs.World.{world, step};
 ghost use Rattle.counters.specs.Literals.{Literal};
 ghost use Rattle.gates.specs.Units.{start_clauses};
 
-use super::LAST;
-use sink::{Job, Sink};
+use sink::{Job, LAST, Sink};
 
 // Kind 6's variable: o is the AND of c1 and not cj.
 pub fn write_short(

@@ -6,8 +6,7 @@ ghost use Rattle.sink.specs.World.{world, step, tail_row};
 ghost use Rattle.counters.specs.Literals.{Literal};
 ghost use Rattle.gates.specs.Units.{unit_line};
 
-use super::LAST;
-use sink::{Job, Mode, Sink};
+use sink::{Job, LAST, Mode, Sink};
 
 // A soft unit's row in the tail's counter.
 fn write_tail(
@@ -36,8 +35,7 @@ fn write_tail(
     }
     let k = Job {
         mode: Mode::Words,
-        top: job.top,
-        cols,
+        ..job
     };
     let r = counters::cells::write_row(
         k,
@@ -52,11 +50,9 @@ fn write_tail(
         cols,
     );
     Sink {
-        at: r.at,
-        bad: r.bad,
-        lost: r.lost,
         prev: first,
         row: first + cols,
+        ..r
     }
 }
 
@@ -74,26 +70,24 @@ fn write_soft(
     ensures { Ran (step job model.now) (soft_line weight l ∷ [])
         (world s text.old words.old) (world result text.new words.new) }
 {
-    let mode = job.mode;
-    match mode {
+    match job.mode {
         Mode::Measure => {
             let k = Job {
                 mode: Mode::Measure,
                 top: weight as u64,
-                cols: job.cols,
+                ..job
             };
             sink::emit(k, model, text, words, s, &[l + LAST])
         }
-        Mode::Text => s,
         Mode::SoftText => {
             let k = Job {
                 mode: Mode::Text,
                 top: weight as u64,
-                cols: job.cols,
+                ..job
             };
             sink::emit(k, model, text, words, s, &[l + LAST])
         }
-        Mode::Words => s,
+        Mode::Text | Mode::Words => s,
         Mode::Evaluate => sink::judge::charge(model, s, weight, l),
         Mode::Tail => write_tail(job, model, text, words, s, weight, l),
     }

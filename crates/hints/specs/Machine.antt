@@ -1,6 +1,7 @@
 -- The machine that judges a proof: what each turn makes of it.
-use Rattle.std.specs.Prelude.{cond, List, ℕ, zero, suc, ◌+◌, ◌/◌, ◌%◌, eqb}
+use Rattle.std.specs.Prelude.{Bool, true, false, cond, List, ℕ, zero, suc, ◌+◌, ◌/◌, ◌%◌, eqb}
 use Rattle.scope.specs.Parsed.{Parsed, got, refused}
+use Rattle.scope.specs.declared.refusal.Reason.{Reason}
 use Rattle.theory.specs.Marked.{Standing, falsified, one_open, other, standing}
 use Rattle.directory.specs.declared.Row.{Row}
 use Rattle.marks.specs.Marks.{marks_of, put_mark}
@@ -9,6 +10,7 @@ use Rattle.directory.specs.Rows.{row_clause}
 use Rattle.trail.specs.Recorded.{recorded, recorded_at}
 use Rattle.hints.specs.declared.machine.Phase.{Phase}
 use Rattle.hints.specs.declared.machine.Phase.TheVariants.{Next, Walk, Followed, Keep, Wipe, Delete, Proved, Refused}
+use Rattle.hints.specs.declared.machine.Turn.{Turn}
 use Rattle.hints.specs.declared.machine.Machine.{Machine}
 
 -- no id is wanted
@@ -27,9 +29,9 @@ onward p over (suc id) next n = record { phase = p; at = next; want = suc id; se
 -- a hint was judged, where an id was read before next
 unfoldable pub walked : ℕ → Standing → ℕ → ℕ → ℕ → Machine
 walked k falsified zero next n = followed next n
-walked k falsified (suc id) next n = stopped (Refused 16) next
-walked k (one_open l) id next n = onward Walk (Refused 16) id next (recorded_at k n)
-walked k other id next n = stopped (Refused 16) next
+walked k falsified (suc id) next n = stopped (Refused Reason.BadHint) next
+walked k (one_open l) id next n = onward Walk (Refused Reason.BadHint) id next (recorded_at k n)
+walked k other id next n = stopped (Refused Reason.BadHint) next
 
 unfoldable pub walked_trail : Standing → ℕ → List ℕ → List ℕ
 walked_trail falsified n tr = tr
@@ -41,17 +43,25 @@ walked_marks falsified ms = ms
 walked_marks (one_open l) ms = put_mark ms (l / 2) (1 + l % 2)
 walked_marks other ms = ms
 
--- the turn that a machine waits for: a clause is looked at (0); one is deleted (1); one is kept (2); one is judged (3);
--- a step is read (4); none is left (5)
-abbrev pub turn_of : Phase → ℕ
-turn_of Next = 4
-turn_of Walk = 0
-turn_of Followed = 3
-turn_of Keep = 2
-turn_of Wipe = 0
-turn_of Delete = 1
-turn_of Proved = 5
-turn_of (Refused k) = 5
+-- the turn that a machine waits for
+abbrev pub turn_of : Phase → Turn
+turn_of Next = Turn.Read
+turn_of Walk = Turn.Look
+turn_of Followed = Turn.Judge
+turn_of Keep = Turn.Keep
+turn_of Wipe = Turn.Look
+turn_of Delete = Turn.Delete
+turn_of Proved = Turn.End
+turn_of (Refused k) = Turn.End
+
+-- whether it is one with the row of an id
+abbrev pub with_row : Turn → Bool
+with_row Turn.Look = true
+with_row Turn.Delete = true
+with_row Turn.Keep = false
+with_row Turn.Judge = false
+with_row Turn.Read = false
+with_row Turn.End = false
 
 -- One turn with the row of the id that was wanted: by the phase, where an id was read before next and the trail has room for k
 abbrev pub turned_on : ℕ → Phase → Machine → Standing → ℕ → ℕ → Machine
@@ -90,7 +100,7 @@ stands_by ms c = standing (marks_of ms) falsified c
 
 -- by the number that was read at the machine's place
 abbrev pub read_on : ℕ → Machine → List ℕ → List ℕ → Parsed ℕ → Machine
-read_on k m c ms (refused j v) = stopped (Refused 14) m.at
+read_on k m c ms (refused j v) = stopped (Refused Reason.BadStep) m.at
 read_on k m c ms (got id next) = turned_on k m.phase m (stands_by ms c) id next
 
 abbrev pub read_marks : Phase → List ℕ → List ℕ → Parsed ℕ → List ℕ
@@ -103,7 +113,7 @@ read_trail m c ms tr (got id next) = turned_trail m.phase (stands_by ms c) m.set
 
 -- 15 where the row is not live
 unfoldable pub advanced : Parsed ℕ → ℕ → Machine → Row → List ℕ → List ℕ → Machine
-advanced x k m row ws ms = cond (eqb row.live 0) (stopped (Refused 15) m.at) (read_on k m (row_clause row ws) ms x)
+advanced x k m row ws ms = cond (eqb row.live 0) (stopped (Refused Reason.NotLive) m.at) (read_on k m (row_clause row ws) ms x)
 
 unfoldable pub advanced_marks : Parsed ℕ → Machine → Row → List ℕ → List ℕ → List ℕ
 advanced_marks x m row ws ms = cond (eqb row.live 0) ms (read_marks m.phase (row_clause row ws) ms x)

@@ -1,17 +1,15 @@
 // The machine that judges a proof, id by id. It never sees the directory: it names the id that it wants, and is handed the
 // row that was found and the number that was read where it stands in the proof.
 ghost use Rattle.std.specs.Prelude.{◌≡◌, length};
+ghost use Rattle.scope.specs.Answers.{said};
 ghost use Rattle.theory.specs.Marked.{standing, falsified};
 ghost use Rattle.marks.specs.Marks.{marks_of};
 ghost use Rattle.directory.specs.Rows.{row_clause};
-ghost use Rattle.number.specs.Answers.{said};
 ghost use Rattle.hints.specs.Machine.{turn_of, stopped, onward, walked, walked_marks, walked_trail, advanced, advanced_marks, advanced_trail};
 
-use directory::{Row, first_word, is_dead, word_count};
+use directory::Row;
 use marks::put_mark;
-use number::Number;
-use reader::wide;
-use scope::refusals::{BAD_HINT, BAD_STEP, NOT_LIVE};
+use scope::{Parsed, Reason};
 use standing::{Standing, standing_of, wipe_clause};
 use trail::record_literal;
 
@@ -32,25 +30,30 @@ pub enum Phase {
     Delete,
     // The empty clause was added, and nothing follows.
     Proved,
-    // A refusal, with its number.
-    Refused(u8),
+    // A refusal.
+    Refused(Reason),
 }
 
-// The turns of a check: a clause is looked at; one is deleted; one is kept; one is judged; a step is read; none is left.
-pub const LOOK: u8 = 0;
-
-pub const DELETE: u8 = 1;
-
-pub const KEEP: u8 = 2;
-
-pub const JUDGE: u8 = 3;
-
-pub const READ: u8 = 4;
-
-pub const END: u8 = 5;
+// The turns of a check.
+#[derive(Clone, Copy, PartialEq, Eq)]
+pub enum Turn {
+    // A clause is looked at.
+    Look,
+    // One is deleted.
+    Delete,
+    // One is kept.
+    Keep,
+    // One is judged.
+    Judge,
+    // A step is read.
+    Read,
+    // None is left.
+    End,
+}
 
 // A phase, where the next number of the proof stands, the id that is wanted, and how many literals the trail of the step at hand
-// holds: those that its hints set true; the largest number where it has no room for them.
+// holds: those that its hints set true; the largest number where it has no room for them (no plainer as an Option: one
+// test against the trail's length is for both).
 #[derive(Clone, Copy)]
 pub struct Machine {
     pub phase: Phase,
@@ -60,19 +63,16 @@ pub struct Machine {
 }
 
 // The turn that a machine waits for.
-pub fn turn_of(m: Machine) -> u8
+pub fn turn_of(m: Machine) -> Turn
     ensures { result ≡ turn_of m.phase }
 {
-    let phase = m.phase;
-    match phase {
-        Phase::Walk => LOOK,
-        Phase::Wipe => LOOK,
-        Phase::Delete => DELETE,
-        Phase::Keep => KEEP,
-        Phase::Followed => JUDGE,
-        Phase::Next => READ,
-        Phase::Proved => END,
-        Phase::Refused(_) => END,
+    match m.phase {
+        Phase::Walk | Phase::Wipe => Turn::Look,
+        Phase::Delete => Turn::Delete,
+        Phase::Keep => Turn::Keep,
+        Phase::Followed => Turn::Judge,
+        Phase::Next => Turn::Read,
+        Phase::Proved | Phase::Refused(_) => Turn::End,
     }
 }
 
@@ -98,7 +98,7 @@ pub fn step_on(phase: Phase, over: Phase, id: u32, next: usize, set: usize) -> M
     Machine {
         phase,
         at: next,
-        want: wide(id),
+        want: id as usize,
         set,
     }
 }
@@ -117,7 +117,7 @@ fn take_hint(
     ensures marks_after { marks.new ≡ walked_marks (standing (marks_of marks.old) falsified (row_clause row words.now)) marks.old }
     ensures trail_after { trail.new ≡ walked_trail (standing (marks_of marks.old) falsified (row_clause row words.now)) set trail.old }
 {
-    let s = standing_of(marks, words, first_word(row), word_count(row));
+    let s = standing_of(marks, words, row.first_word(), row.word_count());
     match s {
         Standing::Falsified => {
             if id == 0 {
@@ -128,16 +128,14 @@ fn take_hint(
                     set,
                 };
             }
-            stop(Phase::Refused(BAD_HINT), next)
+            stop(Phase::Refused(Reason::BadHint), next)
         }
         Standing::OneOpen(l) => {
-            let v = wide(l / 2);
-            let mark = (1 + l % 2) as u8;
-            put_mark(marks, v, mark);
+            put_mark(marks, (l / 2) as usize, (1 + l % 2) as u8);
             let more = record_literal(trail, set, l);
-            step_on(Phase::Walk, Phase::Refused(BAD_HINT), id, next, more)
+            step_on(Phase::Walk, Phase::Refused(Reason::BadHint), id, next, more)
         }
-        Standing::Other => stop(Phase::Refused(BAD_HINT), next),
+        Standing::Other => stop(Phase::Refused(Reason::BadHint), next),
     }
 }
 
@@ -146,7 +144,7 @@ fn take_hint(
 pub fn advance(
     m: Machine,
     row: Row,
-    t: Number,
+    t: Parsed<u32>,
     words: &[u32],
     marks: &mut [u8],
     trail: &mut [u32],
@@ -156,24 +154,18 @@ pub fn advance(
     ensures trail_after { trail.new ≡ advanced_trail (said t) m row words.now marks.old trail.old }
 {
     let at = m.at;
-    if is_dead(row) {
-        return stop(Phase::Refused(NOT_LIVE), at);
+    if row.is_dead() {
+        return stop(Phase::Refused(Reason::NotLive), at);
     }
-    let Number::Value(id, next) = t else {
-        return stop(Phase::Refused(BAD_STEP), at);
+    let Ok((id, next)) = t else {
+        return stop(Phase::Refused(Reason::BadStep), at);
     };
-    let phase = m.phase;
-    match phase {
+    match m.phase {
         Phase::Walk => take_hint(row, id, next, m.set, words, marks, trail),
         Phase::Wipe => {
-            wipe_clause(marks, words, first_word(row), word_count(row));
+            wipe_clause(marks, words, row.first_word(), row.word_count());
             step_on(Phase::Wipe, Phase::Next, id, next, 0)
         }
-        Phase::Delete => m,
-        Phase::Next => m,
-        Phase::Followed => m,
-        Phase::Keep => m,
-        Phase::Proved => m,
-        Phase::Refused(_) => m,
+        _ => m,
     }
 }

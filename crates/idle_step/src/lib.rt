@@ -1,6 +1,7 @@
-#![tactic(auto)]
 // A walk over a group's members counts the idle times, which are members without X between members with X. It is nothing but this
 // step.
+#![tactic(auto)]
+
 ghost use Rattle.std.specs.Prelude.{◌≡◌, ◌≤◌};
 ghost use Rattle.scope.specs.Idle.{idle_step};
 

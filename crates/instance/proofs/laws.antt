@@ -2,6 +2,5 @@
 pub mod Ready
 pub mod File
 pub mod Start
-pub mod Sequence
 pub mod Checked
 pub mod Laws

@@ -1,5 +1,5 @@
 -- The numbers up to n that are left after i of them, as a loop's turns take them.
-use Rattle.std.specs.Prelude.{◌≡◌, refl, ℕ, zero, suc, ◌-◌, length}
+use Rattle.std.specs.Prelude.{◌≡◌, refl, ℕ, zero, suc, length}
 use Rattle.std.proofs.Common.{ap}
 use Rattle.scope.specs.Kinds.{from, up_to}
 

@@ -1,6 +1,7 @@
-#![tactic(auto)]
 // Items that a writer ran, and the writer of a counted list by its bounds as written.
-ghost use Rattle.std.specs.Prelude.{◌≡◌, ◌+◌, ◌-◌, ◌*◌, ◌≤◌, ◌<◌, min, length};
+#![tactic(auto)]
+
+ghost use Rattle.std.specs.Prelude.{◌≡◌, ◌+◌, ◌-◌, ◌*◌, ◌≤◌, ◌<◌, length};
 ghost use Rattle.scope.specs.Formula.{columns as columns_of};
 ghost use Rattle.sink.specs.World.{world, step};
 ghost use Rattle.counters.specs.Literals.{Literals};
@@ -17,39 +18,18 @@ pub struct Written {
     pub next: u32,
 }
 
-fn lesser(a: u32, b: u32) -> u32
-    ensures { result ≡ min a b }
-{
-    if a < b {
-        return a;
-    }
-    b
-}
-
 // How many columns the counter of n literals has.
 fn columns(weight: u32, hi: u32, n: u32) -> u32
     ensures { result ≡ columns_of weight hi n }
 {
-    if weight == 0 {
-        if hi < n {
-            return hi + 1;
-        }
-        return n;
-    }
-    n
+    if weight == 0 && hi < n { hi + 1 } else { n }
 }
 
 // How many variables kind 6's low part has.
 fn shorts(free: bool, lo: u32) -> u32
     ensures { result ≡ shorts_of free lo }
 {
-    if free {
-        if lo == 0 {
-            return 0;
-        }
-        return lo - 1;
-    }
-    0
+    if free { lo.saturating_sub(1) } else { 0 }
 }
 
 // A counted list, from the variable v on; hi is lowered to its length.
@@ -69,7 +49,7 @@ pub fn write_counted(
         (world s text.old words.old) (world result.sink text.new words.new) result.next }
 {
     let n = lits.len() as u32;
-    let hi = lesser(b.hi, n);
+    let hi = b.hi.min(n);
     let low = Bounds {
         lo: b.lo,
         hi,

@@ -1,2 +1,2 @@
-#![tactic(auto)]
 // Lemmas that know nothing of timetables: Booleans, lists. All of it stands in specs/.
+#![tactic(auto)]

@@ -1,5 +1,6 @@
-#![tactic(auto)]
 // Whether lent stores are long enough for a formula.
+#![tactic(auto)]
+
 ghost use Rattle.std.specs.Prelude.{◌≡◌};
 ghost use Rattle.lent.specs.Room.{lent, size_fits};
 
@@ -9,11 +10,5 @@ use scope::FormulaSize;
 pub fn fits(z: FormulaSize, words: usize, rows: usize, bytes: usize) -> bool
     ensures { result ≡ size_fits z (lent words rows bytes) }
 {
-    if (words as u64) < z.words {
-        return false;
-    }
-    if (rows as u64) < z.clauses {
-        return false;
-    }
-    z.variables <= bytes as u64
+    z.words <= words as u64 && z.clauses <= rows as u64 && z.variables <= bytes as u64
 }

@@ -1,5 +1,6 @@
-#![tactic(auto)]
 // The limits of a bound (7) and of the variables of a formula (8).
+#![tactic(auto)]
+
 ghost use Rattle.std.specs.Prelude.{◌≡◌, leb};
 ghost use Rattle.scope.specs.Formula.{most_bound, most_variables};
 

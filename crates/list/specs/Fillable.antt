@@ -1,5 +1,5 @@
 -- What is given where a list is filled, and what it says of each kind.
-use Rattle.std.specs.Prelude.{ℕ, ◌+◌, ◌-◌, ◌≤◌, ◌≡◌, List, length}
+use Rattle.std.specs.Prelude.{ℕ, ◌+◌, ◌≤◌, ◌≡◌, List, length}
 use Rattle.scope.specs.Kinds.{Kind}
 use Rattle.constraint.specs.declared.kinds.Head.{Head}
 use Rattle.user_table.specs.Filled.{users_at}

@@ -47,15 +47,6 @@ pub fn lists(kind: Kind, times: u32) -> u32
 {
     match kind {
         Kind::Clash(_) => times,
-        Kind::Unavailable(_) => 1,
-        Kind::Preferred(_) => 1,
-        Kind::Split(_) => 1,
-        Kind::Spread(_) => 1,
-        Kind::Busy(_) => 1,
-        Kind::Cluster(_) => 1,
-        Kind::Idle(_) => 1,
-        Kind::Distribute(_) => 1,
-        Kind::Lengths(_) => 1,
-        Kind::Precedence(_) => 1,
+        _ => 1,
     }
 }

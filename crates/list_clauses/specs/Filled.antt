@@ -1,5 +1,5 @@
 -- The words of nodes and members in a store: they are read as the gates of the nodes, and written as their items.
-use Rattle.std.specs.Prelude.{◌≡◌, List, ℕ, ◌+◌, ◌-◌, ◌≤◌, length, take}
+use Rattle.std.specs.Prelude.{◌≡◌, List, ℕ, ◌+◌, ◌≤◌, length, take}
 use Rattle.scope.specs.Cnf.{Gate}
 use Rattle.parsing.specs.Each.{Each}
 use Rattle.literals.specs.NodeWords.{nodes_words, IsNode}

@@ -1,4 +1,5 @@
-#![tactic(auto)]
 // A list of nodes and members that stands in a store of words, whatever its kind.
+#![tactic(auto)]
+
 pub mod list;
 pub mod nodes;

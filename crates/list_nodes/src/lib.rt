@@ -1,5 +1,6 @@
-#![tactic(auto)]
 // What a filled list has, and its nodes: each a head word with the number of its inputs, then its long clause.
+#![tactic(auto)]
+
 mod filled;
 mod node;
 mod run;

@@ -6,6 +6,7 @@ ghost use Rattle.literals.specs.Variables.{literal_at, GroupIn};
 ghost use Rattle.literals.specs.Words.{Holds};
 ghost use Rattle.literals.specs.NodeWords.{node_words};
 
+use literals::LAST;
 use tables::row_len;
 
 // The OR with the output o of the literals of the row after a base at the times of a group.
@@ -18,7 +19,7 @@ pub fn store_group(groups: &[u8], g: u32, base: u32, o: u32, at: usize, out: &mu
     let n = row_len(groups, row);
     out[at] = n as u32;
     let last = literals::group_times(groups, g, base, at + 1, out);
-    out[last] = 2 * o + 1 + 2147483648;
+    out[last] = 2 * o + 1 + LAST;
     last + 1
 }
 
@@ -28,14 +29,9 @@ pub fn store_words(row: &[u32], from: usize, to: usize, at: usize, out: &mut [u3
     ensures holds { Holds out.new result (take at out.old ++ drop from (take to row.now)) }
     ensures value { result ≡ at + (to - from) }
 {
-    let mut k = from;
-    let mut n = at;
-    while k < to {
-        out[n] = row[k];
-        n = n + 1;
-        k = k + 1;
-    }
-    n
+    let end = at + (to - from);
+    out[at..end].copy_from_slice(&row[from..to]);
+    end
 }
 
 // The OR with the output o of the words of a row from one place up to another.
@@ -46,7 +42,7 @@ pub fn store_or(row: &[u32], from: usize, to: usize, o: u32, at: usize, out: &mu
 {
     out[at] = (to - from) as u32;
     let last = store_words(row, from, to, at + 1, out);
-    out[last] = 2 * o + 1 + 2147483648;
+    out[last] = 2 * o + 1 + LAST;
     last + 1
 }
 
@@ -60,7 +56,7 @@ pub fn store_idling(x: u32, v: u32, at: usize, out: &mut [u32]) -> usize
     out[at + 1] = x;
     out[at + 2] = 2 * v + 1;
     out[at + 3] = 2 * (v + 1) + 1;
-    out[at + 4] = 2 * (v + 2) + 2147483648;
+    out[at + 4] = 2 * (v + 2) + LAST;
     at + 5
 }
 
@@ -73,11 +69,11 @@ fn store_two(x: u32, y: u32, l: u32, at: usize, out: &mut [u32]) -> usize
     out[at] = 2;
     out[at + 1] = 2 * x;
     out[at + 2] = 2 * y;
-    out[at + 3] = l + 2147483648;
+    out[at + 3] = l + LAST;
     at + 4
 }
 
-// The OR with the output o of two variables.
+// The OR with the output o of two variables. This and the next stay two functions, since each promises a node of its own.
 pub fn store_either(x: u32, y: u32, o: u32, at: usize, out: &mut [u32]) -> usize
     requires { (at + 4 ≤ length out.old) × ((x < 1073741824) × ((y < 1073741824) × (o < 1073741824))) }
     ensures holds { Holds out.new result (take at out.old ++ node_words (or (pos x ∷ pos y ∷ [])) o) }

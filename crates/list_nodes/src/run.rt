@@ -5,21 +5,18 @@ ghost use Rattle.literals.specs.Outputs.{every};
 ghost use Rattle.literals.specs.Words.{Holds};
 ghost use Rattle.literals.specs.NodeWords.{node_words};
 
+use literals::LAST;
+
 // The negated literals of n variables from the first on.
 fn negated(first: u32, n: usize, at: usize, out: &mut [u32]) -> usize
     requires { (at + n ≤ length out.old) × (first + n < 1073741824) }
     ensures holds { Holds out.new result (take at out.old ++ map opp (every 1 first n)) }
     ensures value { result ≡ at + n }
 {
-    let end = at + n;
-    let mut x = first;
-    let mut k = at;
-    while k < end {
-        out[k] = 2 * x + 1;
-        x = x + 1;
-        k = k + 1;
+    for k in 0..n {
+        out[at + k] = 2 * (first + k as u32) + 1;
     }
-    k
+    at + n
 }
 
 // The literals of n variables from the first on, as they are.
@@ -39,7 +36,7 @@ pub fn store_all(first: u32, n: usize, o: u32, at: usize, out: &mut [u32]) -> us
 {
     out[at] = n as u32;
     let last = negated(first, n, at + 1, out);
-    out[last] = 2 * o + 2147483648;
+    out[last] = 2 * o + LAST;
     last + 1
 }
 
@@ -51,7 +48,7 @@ pub fn store_some(first: u32, n: u32, o: u32, at: usize, out: &mut [u32]) -> usi
 {
     out[at] = n;
     let last = store_run(first, n, at + 1, out);
-    out[last] = 2 * o + 1 + 2147483648;
+    out[last] = 2 * o + 1 + LAST;
     last + 1
 }
 
@@ -64,7 +61,7 @@ pub fn store_none(first: u32, n: usize, q: u32, at: usize, out: &mut [u32]) -> u
     out[at] = n as u32 + 1;
     let last = negated(first, n, at + 1, out);
     out[last] = 2 * q;
-    out[last + 1] = 2 * (q + 1) + 1 + 2147483648;
+    out[last + 1] = 2 * (q + 1) + 1 + LAST;
     last + 2
 }
 
@@ -77,7 +74,7 @@ pub fn store_with(x: u32, first: u32, n: usize, o: u32, at: usize, out: &mut [u3
     out[at] = n as u32 + 1;
     out[at + 1] = 2 * x + 1;
     let end = negated(first, n, at + 2, out);
-    out[end] = 2 * o + 2147483648;
+    out[end] = 2 * o + LAST;
     end + 1
 }
 
@@ -91,6 +88,6 @@ pub fn store_until(x: u32, first: u32, n: usize, o: u32, at: usize, out: &mut [u
     out[at + 1] = 2 * x + 1;
     let last = negated(first, n, at + 2, out);
     out[last] = 2 * (first + n as u32);
-    out[last + 1] = 2 * o + 2147483648;
+    out[last + 1] = 2 * o + LAST;
     last + 2
 }

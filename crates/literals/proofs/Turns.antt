@@ -6,11 +6,8 @@ use native.Mathlib.Omega.{arith}
 use native.Mathlib.Numerals.{add-one}
 use native.Mathlib.Nat.{add-zero}
 use lib.ListN.{length, get_or, take, set, length-append}
-use lib.Seq.{take-suc, take_all, get_or-take, length-take-le}
+use lib.Seq.{take-suc, take_all, length-take-le}
 use Rattle.scope.specs.Kinds.{from}
-use Rattle.parsing.specs.Each.{Each}
-use Rattle.parsing.proofs.laws.Each.{each_at}
-use Rattle.literals.specs.Variables.{Within}
 use Rattle.literals.specs.Outputs.{every}
 use Rattle.literals.proofs.laws.Outputs.{every-both}
 use Rattle.literals.specs.Words.{Holds}
@@ -57,6 +54,9 @@ pub flattened-none : (f : ℕ → List ℕ) (l words : List ℕ) → Flattened f
 unfolding flat_map
 flattened-none f l words = record { holds = holds-none words }
 
+pub flattened_all : {f : ℕ → List ℕ} {l words : List ℕ} {n k : ℕ} → Flattened f l words n k → length l ≤ k → Holds words n (flat_map f l)
+flattened_all {l = l} {k = k} h i = rw (take_all k l i) at h.holds
+
 flat_append : (f : ℕ → List ℕ) (xs : List ℕ) (x : ℕ) → flat_map f (xs ++ (x ∷ [])) ≡ flat_map f xs ++ f x
 unfolding flat_map
 flat_append f [] x = append-nil (f x)
@@ -89,11 +89,6 @@ pub next-time : (f : ℕ → ℕ) (words : List ℕ) (n t x : ℕ)
     → Holds (set words n x) (n + 1) (map f (from 1 (n + 1)))
 next-time f words n t x h e l v =
     holds_as (rw (v, ← e, times_more n) (sym (map-append f (from 1 n) ((n + 1) ∷ [])))) (holds_more h x l)
-
--- member k of the first n members of a list is within what they all are
-pub within-at : (m : ℕ) (l : List ℕ) (n k : ℕ) → Each (Within m) (take n l) → k < n → n ≤ length l → Within m (get_or l k 0)
-within-at m l n k e h i =
-    rw (get_or-take n l k 0 h) at (each_at k 0 e (rw (length-take-le n l i) h))
 
 -- the next of gates' outputs, after words that stay
 pub next-output : (before : List ℕ) (step first k n v : ℕ) (words : List ℕ)

@@ -9,12 +9,9 @@ pub fn outputs(first: u32, step: u32, n: usize, at: usize, out: &mut [u32]) -> u
     ensures { Holds out.new result (take at out.old ++ every step first n) }
 {
     let mut v = first;
-    let mut k: usize = 0;
-    while k < n {
-        let p = at + k;
-        out[p] = 2 * v;
-        v = v + step;
-        k = k + 1;
+    for k in 0..n {
+        out[at + k] = 2 * v;
+        v += step;
     }
     at + n
 }

@@ -1,10 +1,10 @@
 // The literals of a row of variables at all times and at the times of a group, and whether a time is a member of one. Groups count
 // from 1.
-ghost use Rattle.std.specs.Prelude.{◌+◌, ◌-◌, ◌*◌, ◌≤◌, ◌<◌, ◌++◌, map, length, take, drop};
+ghost use Rattle.std.specs.Prelude.{◌≡◌, ◌+◌, ◌-◌, ◌*◌, ◌≤◌, ◌<◌, ◌++◌, map, length, take, drop};
 ghost use Rattle.scope.specs.Kinds.{up_to};
 ghost use Rattle.tables.specs.Rows.{row_at, RowIn};
 ghost use Rattle.literals.specs.Variables.{literal_at, y_at, in_block, Block, Within, GroupIn};
-ghost use Rattle.literals.specs.Words.{Holds, Indicator, starts_with};
+ghost use Rattle.literals.specs.Words.{Holds, starts_with};
 
 use crate::variable::{base, literal};
 use tables::{row_len, row_member};
@@ -15,14 +15,10 @@ fn all_times(base: u32, times: u32, out: &mut [u32]) -> usize
     ensures { Holds out.new result (map (literal_at base) (up_to times)) }
 {
     let most = times as usize;
-    let mut n: usize = 0;
-    let mut t: u32 = 0;
-    while n < most {
-        t = t + 1;
-        out[n] = literal(base, t);
-        n = n + 1;
+    for n in 0..most {
+        out[n] = literal(base, n as u32 + 1);
     }
-    n
+    most
 }
 
 // The literals of the row after a base at the times of a group, after n words that stay.
@@ -32,29 +28,21 @@ pub fn group_times(groups: &[u8], g: u32, base: u32, n: usize, out: &mut [u32]) 
 {
     let row = (g - 1) as usize;
     let size = row_len(groups, row);
-    let mut k: usize = 0;
-    while k < size {
-        let t = row_member(groups, row, k) as u32;
-        let l = literal(base, t);
-        let at = n + k;
-        out[at] = l;
-        k = k + 1;
+    for k in 0..size {
+        out[n + k] = literal(base, u32::from(row_member(groups, row, k)));
     }
     n + size
 }
 
-// 1 where member k of a row of the table, from 0, is t, else 0.
-pub fn member_is(groups: &[u8], row: usize, k: usize, t: u32) -> usize
+// Whether member k of a row of the table, from 0, is t.
+pub fn member_is(groups: &[u8], row: usize, k: usize, t: u32) -> bool
     requires { RowIn groups.now row }
-    ensures { Indicator (starts_with t (drop k (row_at groups.now row))) result }
+    ensures { result ≡ starts_with t (drop k (row_at groups.now row)) }
 {
     if row_len(groups, row) <= k {
-        return 0;
+        return false;
     }
-    if row_member(groups, row, k) as u32 == t {
-        return 1;
-    }
-    0
+    u32::from(row_member(groups, row, k)) == t
 }
 
 // Y of an event at all times.

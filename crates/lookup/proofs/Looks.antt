@@ -12,7 +12,7 @@ use Rattle.lookup.proofs.Search.{Bounded, starts-bounded, Narrowed, met, failed,
 
 module _ (cap : ℕ) (p : Probe) (row : Row) (id : ℕ) (b : Bounded cap p) (m : p.lo < p.hi) where
   -- only the first look is a guess
-  no_guess : (r : Probe) → Narrowed p row id r → r.guess ≡ 0
+  no_guess : (r : Probe) → Narrowed p row id r → r.guess ≡ false
   no_guess r (met e q) = rw q refl
   no_guess r (failed g q) = rw q refl
   no_guess r (missed w n q) = rw q refl
@@ -27,17 +27,17 @@ module _ (cap : ℕ) (p : Probe) (row : Row) (id : ℕ) (b : Bounded cap p) (m :
   no_wider r (below g w e q) = rw q (omega (arith, (b.inside m).1))
 
   -- at most half of the rows are left, or one more
-  halved : p.guess ≡ 0 → (r : Probe) → Narrowed p row id r → r.hi - r.lo ≤ (p.hi - p.lo + 1) / 2
+  halved : p.guess ≡ false → (r : Probe) → Narrowed p row id r → r.hi - r.lo ≤ (p.hi - p.lo + 1) / 2
   halved z r (met e q) = rw q (omega arith)
-  halved z r (failed g q) = absurd (omega arith)
+  halved z r (failed g q) = absurd (cc)
   halved z r (missed w n q) = rw q (omega arith)
   halved z r (above g w e q) = let i = b.middle m z in rw q (omega arith)
   halved z r (below g w e q) = let i = b.middle m z in rw q (omega arith)
 
   -- one row that is left is looked at last
-  last : p.guess ≡ 0 → p.hi - p.lo < 2 → (r : Probe) → Narrowed p row id r → r.hi ≤ r.lo
+  last : p.guess ≡ false → p.hi - p.lo < 2 → (r : Probe) → Narrowed p row id r → r.hi ≤ r.lo
   last z k r (met e q) = rw q (omega arith)
-  last z k r (failed g q) = absurd (omega arith)
+  last z k r (failed g q) = absurd (cc)
   last z k r (missed w n q) = rw q (omega arith)
   last z k r (above g w e q) = absurd (omega arith)
   last z k r (below g w e q) = absurd (omega arith)
@@ -56,7 +56,7 @@ module _ (R : ℕ → Row) (id cap : ℕ) where
   after p = narrowed p (R p.at) id
 
   -- a search of at most 2^k rows after the guess
-  halving_ends : (k : ℕ) (p : Probe) → Bounded cap p → p.guess ≡ 0 → p.hi - p.lo ≤ power_of_two k → Over (seek (suc k) R id p)
+  halving_ends : (k : ℕ) (p : Probe) → Bounded cap p → p.guess ≡ false → p.hi - p.lo ≤ power_of_two k → Over (seek (suc k) R id p)
   unfolding seek
   halving_ends zero p b z h = go (ltb p.lo p.hi) refl
     where
@@ -67,7 +67,7 @@ module _ (R : ℕ → Row) (id cap : ℕ) where
       go false t = record { over = ltb-false p.lo p.hi t }
   halving_ends (suc k) p b z h = go (halving_ends k (after p)) (ltb p.lo p.hi) refl
     where
-      go : (Bounded cap (after p) → (after p).guess ≡ 0 → (after p).hi - (after p).lo ≤ power_of_two k → Over (seek (suc k) R id (after p)))
+      go : (Bounded cap (after p) → (after p).guess ≡ false → (after p).hi - (after p).lo ≤ power_of_two k → Over (seek (suc k) R id (after p)))
           → (t : Bool) → ltb p.lo p.hi ≡ t → Over (cond t (seek (suc k) R id (after p)) p)
       go ih true t =
           let l = ltb-true p.lo p.hi t in

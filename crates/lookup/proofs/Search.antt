@@ -4,7 +4,7 @@ use mathlib.Core.Bool.{Bool, true, false, cond}
 use mathlib.Core.List.{List}
 use Prim.Native.Nat.{ℕ, zero, suc, ◌<◌, ◌≤◌, ◌+◌, ◌-◌, ◌/◌, min}
 use native.Mathlib.Omega.{arith}
-use borrow.Author.Tests.{ltb-true, ltb-false, eqb-true, eqb-false, eq-eqb, ne_eqb, lt-ltb, le-ltb, leb-true, leb-false, le-leb, lt-leb}
+use borrow.Author.Tests.{ltb-true, ltb-false, eqb-true, eqb-false, lt-ltb, le-ltb, leb-true, leb-false}
 use lib.Dec.{ltb, leb, eqb}
 use lib.ListN.{length}
 use Rattle.directory.specs.declared.Row.{Row}
@@ -19,11 +19,11 @@ use Rattle.lookup.specs.Lookup.{look_up}
 -- the place that is looked at next lies between the bounds, in the middle if it is no guess, and these within the directory's cap rows
 pub record Bounded (cap : ℕ) (p : Probe) : Type 0 where
   pub inside : p.lo < p.hi → (p.lo ≤ p.at) × (p.at < p.hi)
-  pub middle : p.lo < p.hi → p.guess ≡ 0 → p.at ≡ p.lo + (p.hi - p.lo) / 2
+  pub middle : p.lo < p.hi → p.guess ≡ false → p.at ≡ p.lo + (p.hi - p.lo) / 2
   pub high : p.hi ≤ cap
 
 pub starts-bounded : (cap n id : ℕ) → n ≤ cap → Bounded cap (started n id)
-starts-bounded cap n id h = record { inside = λ l. (omega arith, omega arith); middle = λ l z. absurd (omega arith); high = h }
+starts-bounded cap n id h = record { inside = λ l. (omega arith, omega arith); middle = λ l z. absurd (cc); high = h }
 
 halving-bounded : (cap lo hi : ℕ) (row : Row) → hi ≤ cap → Bounded cap (halving lo hi row)
 halving-bounded cap lo hi row k = record { inside = λ m. (omega arith, omega arith); middle = λ m z. refl; high = k }
@@ -31,73 +31,41 @@ halving-bounded cap lo hi row k = record { inside = λ m. (omega arith, omega ar
 -- the outcomes of a look
 pub data Narrowed (s : Probe) (row : Row) (id : ℕ) (p : Probe) : Type 0 where
   met : row.id ≡ id → p ≡ ended s row → Narrowed s row id p
-  failed : 0 < s.guess → p ≡ halving s.lo s.hi s.hit → Narrowed s row id p
+  failed : s.guess ≡ true → p ≡ halving s.lo s.hi s.hit → Narrowed s row id p
   missed : s.hi - s.lo < 2 → (row.id ≡ id → ⊥) → p ≡ ended s s.hit → Narrowed s row id p
-  above : s.guess ≤ 0 → 2 ≤ s.hi - s.lo → row.id ≤ id → p ≡ halving s.at s.hi s.hit → Narrowed s row id p
-  below : s.guess ≤ 0 → 2 ≤ s.hi - s.lo → id < row.id → p ≡ halving s.lo s.at s.hit → Narrowed s row id p
+  above : s.guess ≡ false → 2 ≤ s.hi - s.lo → row.id ≤ id → p ≡ halving s.at s.hi s.hit → Narrowed s row id p
+  below : s.guess ≡ false → 2 ≤ s.hi - s.lo → id < row.id → p ≡ halving s.lo s.at s.hit → Narrowed s row id p
 
 pub narrows : (s : Probe) (row : Row) (id : ℕ) → Narrowed s row id (narrowed s row id)
 unfolding narrowed
-narrows s row id = go (ltb 0 s.guess) refl (eqb row.id id) refl (ltb (s.hi - s.lo) 2) refl (leb row.id id) refl
+narrows s row id = go s.guess refl (eqb row.id id) refl (ltb (s.hi - s.lo) 2) refl (leb row.id id) refl
   where
-    go : (g : Bool) → ltb 0 s.guess ≡ g → (t : Bool) → eqb row.id id ≡ t → (w : Bool) → ltb (s.hi - s.lo) 2 ≡ w
+    go : (g : Bool) → s.guess ≡ g → (t : Bool) → eqb row.id id ≡ t → (w : Bool) → ltb (s.hi - s.lo) 2 ≡ w
         → (u : Bool) → leb row.id id ≡ u
         → Narrowed s row id (cond g (cond t (ended s row) (halving s.lo s.hi s.hit))
         (cond w (cond t (ended s row) (ended s s.hit))
         (cond u (halving s.at s.hi s.hit) (halving s.lo s.at s.hit))))
     go true d true t w v u e = met (eqb-true row.id id t) refl
-    go true d false t w v u e = failed (ltb-true 0 s.guess d) refl
+    go true d false t w v u e = failed d refl
     go false d true t true v u e = met (eqb-true row.id id t) refl
     go false d false t true v u e = missed (ltb-true (s.hi - s.lo) 2 v) (eqb-false row.id id t) refl
     go false d t e false v true u =
-        above (ltb-false 0 s.guess d) (ltb-false (s.hi - s.lo) 2 v) (leb-true row.id id u) refl
+        above d (ltb-false (s.hi - s.lo) 2 v) (leb-true row.id id u) refl
     go false d t e false v false u =
-        below (ltb-false 0 s.guess d) (ltb-false (s.hi - s.lo) 2 v) (leb-false row.id id u) refl
-
--- what `narrow` answers, by its tests
-module _ (s : Probe) (row : Row) (id : ℕ) {seen : ℕ} {r : Probe} (e : seen ≡ row.id) where
-  pub look_guessed : 0 < s.guess → seen ≡ id → r ≡ ended s row → r ≡ narrowed s row id
-  unfolding narrowed
-  look_guessed g h q = rw (lt-ltb 0 s.guess g, eq-eqb row.id id (sym e ∙ h)) q
-
-  pub look_failed : 0 < s.guess → (seen ≡ id → ⊥) → r ≡ halving s.lo s.hi s.hit → r ≡ narrowed s row id
-  unfolding narrowed
-  look_failed g n q = rw (lt-ltb 0 s.guess g, ne_eqb row.id id (λ h. n (e ∙ h))) q
-
-  pub look_met : s.guess ≤ 0 → s.hi - s.lo < 2 → seen ≡ id → r ≡ ended s row → r ≡ narrowed s row id
-  unfolding narrowed
-  look_met g w h q = rw (le-ltb 0 s.guess g, lt-ltb (s.hi - s.lo) 2 w, eq-eqb row.id id (sym e ∙ h)) q
-
-  pub look_missed : s.guess ≤ 0 → s.hi - s.lo < 2 → (seen ≡ id → ⊥) → r ≡ ended s s.hit → r ≡ narrowed s row id
-  unfolding narrowed
-  look_missed g w n q = rw (le-ltb 0 s.guess g, lt-ltb (s.hi - s.lo) 2 w, ne_eqb row.id id (λ h. n (e ∙ h))) q
-
-  pub look_above : s.guess ≤ 0 → 2 ≤ s.hi - s.lo → seen ≤ id → r ≡ halving s.at s.hi s.hit → r ≡ narrowed s row id
-  unfolding narrowed
-  look_above g w h q =
-      let k : row.id ≤ id = omega arith in
-      rw (le-ltb 0 s.guess g, le-ltb (s.hi - s.lo) 2 w, le-leb row.id id k) q
-
-  pub look_below : s.guess ≤ 0 → 2 ≤ s.hi - s.lo → id < seen → r ≡ halving s.lo s.at s.hit → r ≡ narrowed s row id
-  unfolding narrowed
-  look_below g w h q =
-      let k : id < row.id = omega arith in
-      rw (le-ltb 0 s.guess g, le-ltb (s.hi - s.lo) 2 w, lt-leb row.id id k) q
-
-pub ruleset looks = (look_guessed, look_failed, look_met, look_missed, look_above, look_below)
+        below d (ltb-false (s.hi - s.lo) 2 v) (leb-false row.id id u) refl
 
 -- how many looks a search may still take
 abbrev pub ahead : Probe → ℕ
-ahead p = p.hi - p.lo + p.guess
+ahead p = p.hi - p.lo + cond p.guess 1 0
 
 -- a look
 module _ (cap : ℕ) (p : Probe) (row : Row) (id : ℕ) (b : Bounded cap p) (m : p.lo < p.hi) where
   pub nearer : (r : Probe) → Narrowed p row id r → ahead r < ahead p
   nearer r (met e q) = rw q (omega arith)
-  nearer r (failed g q) = rw q (omega arith)
+  nearer r (failed g q) = rw (q, g) (omega arith)
   nearer r (missed w n q) = rw q (omega arith)
-  nearer r (above g w e q) = rw q (omega (arith, b.middle m (omega arith)))
-  nearer r (below g w e q) = rw q (omega (arith, b.middle m (omega arith)))
+  nearer r (above g w e q) = rw q (omega (arith, b.middle m g))
+  nearer r (below g w e q) = rw q (omega (arith, b.middle m g))
 
   pub bounded : (r : Probe) → Narrowed p row id r → Bounded cap r
   bounded r (met e q) = rw q (record { inside = λ m. absurd (omega arith); middle = λ m z. absurd (omega arith); high = b.high })

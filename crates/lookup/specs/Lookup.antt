@@ -1,5 +1,5 @@
 -- How a directory is searched for an id, and what is found.
-use Rattle.std.specs.Prelude.{cond, List, ℕ, zero, suc, ◌+◌, ◌-◌, ◌/◌, min, eqb, leb, ltb, length}
+use Rattle.std.specs.Prelude.{true, false, cond, List, ℕ, zero, suc, ◌+◌, ◌-◌, ◌/◌, min, eqb, leb, ltb, length}
 use Rattle.directory.specs.declared.Row.{Row}
 use Rattle.directory.specs.Rows.{no_row}
 use Rattle.directory.specs.Directory.{rows_of}
@@ -7,21 +7,21 @@ use Rattle.lookup.specs.declared.Probe.{Probe}
 
 -- A search of n rows for an id. The first look is at row id − 1, which has the id where no id was left out, or at the last row
 abbrev pub started : ℕ → ℕ → Probe
-started n id = record { lo = 0; hi = n; at = min n id - 1; hit = no_row; guess = 1 }
+started n id = record { lo = 0; hi = n; at = min n id - 1; hit = no_row; guess = true }
 
 -- a search of lo to hi whose next look is in the middle
 abbrev pub halving : ℕ → ℕ → Row → Probe
-halving lo hi hit = record { lo = lo; hi = hi; at = lo + (hi - lo) / 2; hit = hit; guess = 0 }
+halving lo hi hit = record { lo = lo; hi = hi; at = lo + (hi - lo) / 2; hit = hit; guess = false }
 
 -- a search that is over, with a row
 abbrev pub ended : Probe → Row → Probe
-ended s hit = record { lo = s.hi; hi = s.hi; at = s.at; hit = hit; guess = 0 }
+ended s hit = record { lo = s.hi; hi = s.hi; at = s.at; hit = hit; guess = false }
 
 -- the search after a look at a row: a guess is right or fails; the last row that is left is the wanted one or not; the wanted row is
 -- this one or after it, or it stands before it
 unfoldable pub narrowed : Probe → Row → ℕ → Probe
 narrowed s row id =
-    cond (ltb 0 s.guess) (cond (eqb row.id id) (ended s row) (halving s.lo s.hi s.hit))
+    cond s.guess (cond (eqb row.id id) (ended s row) (halving s.lo s.hi s.hit))
     (cond (ltb (s.hi - s.lo) 2) (cond (eqb row.id id) (ended s row) (ended s s.hit))
     (cond (leb row.id id) (halving s.at s.hi s.hit) (halving s.lo s.at s.hit)))
 

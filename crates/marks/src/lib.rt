@@ -1,6 +1,7 @@
-#![tactic(auto)]
 // The marks of variables: one byte for each, variable v at byte v - 1. A mark past the bytes is open, and is not set.
-ghost use Rattle.std.specs.Prelude.{◌≡◌, length, replicate};
+#![tactic(auto)]
+
+ghost use Rattle.std.specs.Prelude.{◌≡◌};
 ghost use Rattle.marks.specs.Marks.{marks_of, put_mark};
 
 // The mark of a variable.
@@ -29,15 +30,4 @@ pub fn put_mark(marks: &mut [u8], v: usize, mark: u8)
         return;
     }
     marks[i] = mark;
-}
-
-// Every byte is 0.
-pub fn clear_bytes(bytes: &mut [u8])
-    ensures { bytes.new ≡ replicate (length bytes.old) 0 }
-{
-    let mut i = 0;
-    while i < bytes.len() {
-        bytes[i] = 0;
-        i += 1;
-    }
 }

@@ -6,11 +6,11 @@ ghost use Rattle.instance.specs.Stores.{Stores};
 ghost use Rattle.sizes.specs.Measured.{SizedBy};
 ghost use Rattle.model.specs.Answers.{EvaluatedAs};
 
-use crate::size::{Form, form_of};
+use crate::size::form_of;
 use crate::truth::truth_of;
 use constraint::Head;
 use evaluation::{Evaluation, judge};
-use sizes::{Measured, measure};
+use sizes::measure;
 use sizing::Size;
 
 // How many bytes hold Y and S.
@@ -36,15 +36,10 @@ pub fn evaluate_read(
     requires { SizedBy file.now durations.now resources.now groups.now head size × Stores file.now durations.now resources.now groups.now list.old }
     ensures { EvaluatedAs file.now model.now result }
 {
-    let form = form_of(model, size.variables);
-    match form {
-        Form::Right => {
-            let s = truth_of(file, model, head, size, durations, resources, groups, list);
-            let part = part_size(head);
-            judge(s.bad, s.lost, part)
-        }
-        Form::Refused(f) => Evaluation::Refused(f),
-    }
+    form_of(model, size.variables)?;
+    let s = truth_of(file, model, head, size, durations, resources, groups, list);
+    let part = part_size(head);
+    judge(s.bad, s.lost, part)
 }
 
 // The evaluation, with a table for the groups that has the rows that the file may need.
@@ -55,13 +50,8 @@ fn evaluate_in(file: &[u8], model: &[u8], groups: &mut [u8]) -> Evaluation
     let mut durations = tables::durations();
     let mut resources = tables::resource_rows();
     let mut list = tables::list();
-    let m = measure(file, &mut durations, &mut resources, groups, &mut list);
-    match m {
-        Measured::Sized(head, size) => evaluate_read(
-            file, model, head, size, &durations, &resources, groups, &mut list,
-        ),
-        Measured::Refused(f) => Evaluation::Refused(f),
-    }
+    let (head, size) = measure(file, &mut durations, &mut resources, groups, &mut list)?;
+    evaluate_read(file, model, head, size, &durations, &resources, groups, &mut list)
 }
 
 // The length of the part with Y and S and the falsified soft weight, or refusals 1 to 6, 8, 10, 11, 13, 19 and 22. One run over the
@@ -71,10 +61,5 @@ fn evaluate_in(file: &[u8], model: &[u8], groups: &mut [u8]) -> Evaluation
 pub fn evaluate(file: &[u8], model: &[u8]) -> Evaluation
     ensures { EvaluatedAs file.now model.now result }
 {
-    if tables::dated(file) {
-        let mut groups = tables::window_rows();
-        return evaluate_in(file, model, &mut groups);
-    }
-    let mut groups = tables::group_rows();
-    evaluate_in(file, model, &mut groups)
+    tables::with_groups(file, |groups| evaluate_in(file, model, groups))
 }

@@ -6,8 +6,8 @@ ghost use Rattle.scope.specs.Cnf.{bit, opp, clause, clauses, pairs};
 fn some_true(model: &[u8], lits: &[u32]) -> bool
     ensures { result ≡ clause (bit model.now) lits.now }
 {
-    for i in 0..lits.len() {
-        if sink::judge::literal_true(model, lits[i]) {
+    for l in lits {
+        if sink::judge::literal_true(model, *l) {
             return true;
         }
     }

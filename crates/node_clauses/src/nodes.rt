@@ -9,16 +9,16 @@ ghost use Rattle.counters.specs.Literals.{Literals};
 ghost use Rattle.node_clauses.specs.Pairs.{pair_words};
 ghost use Rattle.node_clauses.specs.LongClauses.{LongClause, node_clauses};
 
-use super::LAST;
 use super::evaluate::node_right;
 use node_text::{fits, long_text, pairs_text};
-use sink::{Job, Mode, Sink};
+use sink::{Job, LAST, Mode, Sink};
 
 // The clauses (opposite of l, p) for some literals l, where last is p marked.
 fn pair_words(block: &mut [u32], lits: &[u32], last: u32)
     requires { Literals lits.now × (2 * length lits.now ≤ length block.old) }
     ensures { take (2 * length lits.now) block.new ≡ pair_words last lits.now }
 {
+    // two words for each literal, so the place is counted
     for i in 0..lits.len() {
         let at = 2 * i;
         block[at] = row_words::opposite(lits[i]);
@@ -40,11 +40,12 @@ fn write_pair_blocks(
     ensures { Ran (step job model.now) (map clause_line (pairs (map opp lits.now) (last - 2147483648)))
         (world s text.old words.old) (world result text.new words.new) }
 {
+    // of fixed size: there is no heap
     let mut block = [0u32; 64];
     let mut z = s;
     let mut i = 0;
     while i < lits.len() {
-        let e = sink::lesser(i + 32, lits.len());
+        let e = lits.len().min(i + 32);
         pair_words(&mut block, &lits[i..e], last);
         let n = 2 * (e - i);
         z = sink::emit(job, model, text, words, z, &block[..n]);
@@ -69,18 +70,8 @@ fn write_pairs(
 {
     let at = s.at;
     let q = last - LAST;
-    let mode = job.mode;
-    match mode {
-        Mode::Measure => {}
-        Mode::Text => {
-            if fits(text.len(), at, job.top, lits, q) {
-                return sink::placed(s, pairs_text(text, at, job.top as u32, lits, q));
-            }
-        }
-        Mode::SoftText => {}
-        Mode::Words => {}
-        Mode::Evaluate => {}
-        Mode::Tail => {}
+    if job.mode == Mode::Text && fits(text.len(), at, job.top, lits, q) {
+        return sink::placed(s, pairs_text(text, at, job.top as u32, lits, q));
     }
     write_pair_blocks(job, model, text, words, s, lits, last)
 }
@@ -101,18 +92,8 @@ fn write_long(
     let at = s.at;
     let n = clause.len() - 1;
     let q = clause[n] - LAST;
-    let mode = job.mode;
-    match mode {
-        Mode::Measure => {}
-        Mode::Text => {
-            if fits(text.len(), at, job.top, &clause[..n], q) {
-                return sink::placed(s, long_text(text, at, job.top as u32, &clause[..n], q));
-            }
-        }
-        Mode::SoftText => {}
-        Mode::Words => {}
-        Mode::Evaluate => {}
-        Mode::Tail => {}
+    if job.mode == Mode::Text && fits(text.len(), at, job.top, &clause[..n], q) {
+        return sink::placed(s, long_text(text, at, job.top as u32, &clause[..n], q));
     }
     sink::emit(job, model, text, words, s, clause)
 }
@@ -135,10 +116,8 @@ pub fn write_node(
     }
     let n = clause.len() - 1;
     let q = clause[n] - LAST;
-    if sink::evaluates(job) {
-        if node_right(model, &clause[..n], q) {
-            return sink::passed(s, n + 1);
-        }
+    if sink::evaluates(job) && node_right(model, &clause[..n], q) {
+        return sink::passed(s, n + 1);
     }
     let last = row_words::opposite(q) + LAST;
     let z = write_pairs(job, model, text, words, s, &clause[..n], last);

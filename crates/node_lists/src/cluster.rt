@@ -29,14 +29,10 @@ pub fn fill_cluster(
     let resource = f.resource;
     let base = literals::base(uses, times, resource);
     let count = f.groups as usize;
-    let mut o = v;
     let mut at: usize = 0;
-    let mut i: usize = 0;
-    while i < count {
+    for i in 0..count {
         let g = list[i] as u32;
-        at = store_group(groups, g, base, o, at, out);
-        o = o + 1;
-        i = i + 1;
+        at = store_group(groups, g, base, v + i as u32, at, out);
     }
     let end = literals::outputs(v, 1, count, at, out);
     Filled {

@@ -47,14 +47,11 @@ pub fn fill_distribute(f: Distribute, head: Head, v: u32, out: &mut [u32]) -> Fi
     let n = f.length;
     let s = literals::base(l.starts, times, event);
     let mut at = store_going_on(times, event, s, v, out);
-    let mut o = v + times;
-    let mut t: u32 = 1;
-    while t <= times {
-        at = store_start(times, n, s, v, t, o, at, out);
-        o = o + 1;
-        t = t + 1;
+    let first = v + times;
+    for t in 1..times + 1 {
+        at = store_start(times, n, s, v, t, first + (t - 1), at, out);
     }
-    let end = literals::outputs(v + times, 1, times as usize, at, out);
+    let end = literals::outputs(first, 1, times as usize, at, out);
     Filled {
         nodes: 2 * times as usize,
         at,

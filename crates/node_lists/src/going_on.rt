@@ -6,6 +6,7 @@ ghost use Rattle.literals.specs.NodeWords.{nodes_words};
 ghost use Rattle.node_lists.specs.Lengths.{going_gates, on_count};
 
 use list_nodes::store_until;
+use literals::LAST;
 
 // M of the times 2 to T + 1 of an event whose S come after the variable s; the first is the variable v.
 pub fn store_going_on(times: u32, event: u32, s: u32, v: u32, out: &mut [u32]) -> usize
@@ -14,16 +15,12 @@ pub fn store_going_on(times: u32, event: u32, s: u32, v: u32, out: &mut [u32]) -
     ensures upper_bound { result ≤ 4 * times }
 {
     let y = literals::base(0, times, event);
-    let mut o = v;
     let mut at: usize = 0;
-    let mut t: u32 = 2;
-    while t <= times {
-        at = store_until(y + t, s + t, 0, o, at, out);
-        o = o + 1;
-        t = t + 1;
+    for t in 2..times + 1 {
+        at = store_until(y + t, s + t, 0, v + (t - 2), at, out);
     }
     out[at] = 0;
-    out[at + 1] = 2 * o + 1 + 2147483648;
+    out[at + 1] = 2 * (v + (times - 1)) + 1 + LAST;
     at + 2
 }
 
@@ -33,14 +30,6 @@ pub fn on_count(times: u32, t: u32, a: u32, b: u32) -> usize
     ensures value { result ≡ on_count times t a b }
     ensures upper_bound { result ≤ times }
 {
-    if t + b <= times {
-        if b < a {
-            return 0;
-        }
-        return (b + 1 - a) as usize;
-    }
-    if times + 1 < t + a {
-        return 0;
-    }
-    (times + 2 - t - a) as usize
+    let last = (t + b).min(times + 1);
+    (last + 1).saturating_sub(t + a) as usize
 }

@@ -31,23 +31,11 @@ fn store_gaps(row: &[u32], n: usize, v: u32, at: usize, out: &mut [u32]) -> usiz
     ensures holds { Holds out.new result (take at out.old ++ nodes_words v (gap_gates (take n row.now) 1 (n - 2) v)) }
     ensures upper_bound { result ≤ at + 134 * (n - 2) }
 {
-    let mut o = v;
     let mut end = at;
-    let mut k: usize = 1;
-    while k + 1 < n {
-        end = store_gap(row, n, k, o, end, out);
-        o = o + 3;
-        k = k + 1;
+    for k in 0..n.saturating_sub(2) {
+        end = store_gap(row, n, k + 1, v + 3 * k as u32, end, out);
     }
     end
-}
-
-// How many members of a group are neither first nor last.
-fn inner(n: usize) -> u32
-    requires { n ≤ 125 }
-    ensures { result ≡ n - 2 }
-{
-    if n < 2 { 0 } else { (n - 2) as u32 }
 }
 
 // Its first node is the variable v.
@@ -65,6 +53,7 @@ pub fn fill_idle(
         × (length out.old ≡ 34816))))) }
     ensures { Stored (num_of head) (only_in groups.now head (idle f.resource (leading f.groups list.now) f.lo f.hi)) v out.new result }
 {
+    // of fixed size: there is no heap
     let mut row = [0u32; 125];
     let l = literals::numbering(head.times, head.events, head.resources);
     let times = head.times;
@@ -73,13 +62,12 @@ pub fn fill_idle(
     let count = f.groups as usize;
     let mut found: u32 = 0;
     let mut at: usize = 0;
-    let mut i: usize = 0;
-    while i < count {
+    for i in 0..count {
         let g = list[i] as u32;
         let n = literals::x_of_group(groups, g, times, uses, resource, &mut row);
         at = store_gaps(&row, n, v + 3 * found, at, out);
-        found = found + inner(n);
-        i = i + 1;
+        // those that are neither first nor last
+        found += n.saturating_sub(2) as u32;
     }
     let end = literals::outputs(v + 2, 3, found as usize, at, out);
     Filled {

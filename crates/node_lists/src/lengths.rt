@@ -62,11 +62,9 @@ pub fn fill_lengths(f: Lengths, head: Head, v: u32, out: &mut [u32]) -> Filled
     let s = literals::base(l.starts, times, event);
     let mut at = store_going_on(times, event, s, v, out);
     let mut o = v + times;
-    let mut t: u32 = 1;
-    while t <= times {
+    for t in 1..times + 1 {
         at = store_outside(times, a, b, s, v, t, o, at, out);
-        o = o + step;
-        t = t + 1;
+        o += step;
     }
     let end = literals::outputs(v + times + step - 1, step, times as usize, at, out);
     Filled {

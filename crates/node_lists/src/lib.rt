@@ -1,5 +1,6 @@
-#![tactic(auto)]
 // The lists of the kinds that count outputs of nodes, a file for each kind.
+#![tactic(auto)]
+
 mod cluster;
 mod distribute;
 mod going_on;

@@ -1,5 +1,5 @@
 -- The lines of clauses of two literals, one by one.
-use mathlib.Core.Path.{◌≡◌, refl, ap, sym, subst, ◌∙◌}
+use mathlib.Core.Path.{◌≡◌, refl, ap, sym, ◌∙◌}
 use mathlib.Core.Bool.{Bool, true, false}
 use mathlib.Core.List.{List, [], ◌∷◌, ◌++◌, map, flat_map, append_assoc}
 use Prim.Native.Nat.{ℕ, ◌+◌, ◌/◌, ◌≤◌, ◌<◌}
@@ -11,8 +11,6 @@ use lib.ListN.{length, drop, get_or, drop_of_length-le}
 use lib.Seq.{drop-cons}
 use Rattle.scope.specs.Cnf.{opp, pairs}
 use Rattle.scope.specs.Text.{line, literal_text}
-use Rattle.digits.specs.Spelled.{Spelt}
-use Rattle.digits.specs.declared.spelled.Spelled.{Spelled}
 
 module _ (top q : ℕ) (ls : List ℕ) (i : ℕ) where
   pub lines_turn : {x : ℕ} → i < length ls → x ≡ opp (get_or ls i 0)
@@ -34,8 +32,8 @@ one_more ls i h e k l = go (ltb k i) refl
     go false q = let s : k ≡ i = omega (arith, ltb-false k i q) in rw s e
 
 -- a literal's number is its opposite's
-pub spelt-opposite : (l : ℕ) {n : Spelled} {k : ℕ} → Spelt (l / 2) n → k ≡ opp l → Spelt (k / 2) n
-spelt-opposite l {n} {k} s e = let h : l / 2 ≡ k / 2 = rw e (omega arith) in subst (λ (v : ℕ). Spelt v n) h s
+pub half-opposite : (l : ℕ) {k : ℕ} → k ≡ opp l → k / 2 ≡ l / 2
+half-opposite l e = rw e (omega arith)
 
 -- a clause's literals, one by one
 module _ (ls : List ℕ) (i : ℕ) where

@@ -1,10 +1,10 @@
-#![tactic(auto)]
 // The clauses of a node as text, where every number has at most seven digits: those of two literals with the same second one,
 // whose number is turned into bytes once, and the long one. A number that follows the one before it is made from that.
+#![tactic(auto)]
+
 ghost use Rattle.std.specs.Prelude.{◌≡◌, true, [], ◌∷◌, ◌++◌, map, ◌+◌, ◌*◌, ◌/◌, ◌≤◌, ◌<◌, length};
 ghost use Rattle.scope.specs.Cnf.{opp, pairs};
 ghost use Rattle.scope.specs.Text.{line};
-ghost use Rattle.digits.specs.Spelled.{Spelt};
 ghost use Rattle.sink.specs.Run.{Ran, out, put};
 ghost use Rattle.sink.specs.Meaning.{hard_text};
 ghost use Rattle.node_text.specs.Fits.{Short, Fits};
@@ -16,8 +16,8 @@ use sink::lines::{end_line, pair_line};
 fn all_short(lits: &[u32]) -> bool
     ensures { result ≡ true → Short lits.now }
 {
-    for i in 0..lits.len() {
-        if 20000000 <= lits[i] {
+    for l in lits {
+        if 20000000 <= *l {
             return false;
         }
     }
@@ -29,30 +29,15 @@ fn all_short(lits: &[u32]) -> bool
 pub fn fits(len: usize, at: usize, top: u64, lits: &[u32], q: u32) -> bool
     ensures { result ≡ true → Fits len at top lits.now q }
 {
-    if 10000000 <= top {
-        return false;
-    }
-    if 20000000 <= q {
-        return false;
-    }
-    if len < at {
-        return false;
-    }
-    if (len - at) / 28 <= lits.len() {
-        return false;
-    }
-    all_short(lits)
+    top < 10000000 && q < 20000000 && at <= len && lits.len() < (len - at) / 28 && all_short(lits)
 }
 
 // A number's bytes, from those of another.
 fn spell_after(n: Spelled, v: u32) -> Spelled
-    requires { Spelt n.value n × (v < 10000000) }
-    ensures { Spelt v result }
+    requires { v < 10000000 }
+    ensures { result.value ≡ v }
 {
-    if v == 0 {
-        return spell(v);
-    }
-    if n.value == v - 1 {
+    if n.value + 1 == v {
         return following(n);
     }
     spell(v)
@@ -67,10 +52,9 @@ pub fn pairs_text(text: &mut [u8], at: usize, top: u32, lits: &[u32], q: u32) ->
     let second = spell(q / 2);
     let mut number = second;
     let mut p = at;
-    for i in 0..lits.len() {
-        let l = lits[i];
-        number = spell_after(number, l / 2);
-        p = pair_line(text, p, weight, row_words::opposite(l), number, q, second);
+    for l in lits {
+        number = spell_after(number, *l / 2);
+        p = pair_line(text, p, weight, row_words::opposite(*l), number, q, second);
     }
     p
 }
@@ -82,10 +66,9 @@ pub fn long_text(text: &mut [u8], at: usize, top: u32, lits: &[u32], q: u32) -> 
 {
     let mut number = spell(top);
     let mut p = put_spelled(text, at, number);
-    for i in 0..lits.len() {
-        let l = lits[i];
-        number = spell_after(number, l / 2);
-        p = put_spelled_literal(text, p, l, number);
+    for l in lits {
+        number = spell_after(number, *l / 2);
+        p = put_spelled_literal(text, p, *l, number);
     }
     let last = put_spelled_literal(text, p, q, spell(q / 2));
     end_line(text, last)

@@ -1,2 +1,2 @@
-#![tactic(auto)]
 // What each call of an operation leaves behind is said in specs/Operations.antt; there is no code.
+#![tactic(auto)]

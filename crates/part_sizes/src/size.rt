@@ -22,7 +22,13 @@ fn filled_size(f: Filled, weight: u32, b: Bounds) -> Size
     let inputs = (f.at - 2 * f.nodes) as u64;
     let nodes = nodes_size(f.nodes as u64, inputs);
     let n = (f.end - f.at) as u64;
-    let counted = list_size(weight as u64, b.lo as u64, b.hi as u64, b.free, n);
+    let counted = list_size(
+        u64::from(weight),
+        u64::from(b.lo),
+        u64::from(b.hi),
+        b.free,
+        n,
+    );
     plus(nodes, counted)
 }
 
@@ -63,5 +69,5 @@ pub fn constraint_size(
     let kind = c.kind;
     let most = lists(kind, head.times);
     let one = first_size(c, head, durations, users, groups, list, store);
-    multiply(most as u64, one)
+    multiply(u64::from(most), one)
 }

@@ -3,7 +3,7 @@ ghost use Rattle.std.specs.Prelude.{◌≡◌, List, ℕ};
 ghost use Rattle.part_sizes.specs.Walked.{Walkable, Tabled, Addable, added, TotalOf};
 
 use crate::size::constraint_size;
-use constraint::{Head, Next, constraint_at};
+use constraint::{Head, constraint_at};
 use sizing::Size;
 use sizing::rows::tail_add;
 use sizing::sums::{nothing, plus};
@@ -20,10 +20,8 @@ fn add(total: Total, columns: u64, one: Size, weight: u64) -> Total
     requires { Addable total columns one }
     ensures { result ≡ added columns total one weight }
 {
-    let before = total.formula;
-    let units = total.tail;
-    let formula = plus(before, one);
-    let tail = tail_add(columns, units, one.units, weight);
+    let formula = plus(total.formula, one);
+    let tail = tail_add(columns, total.tail, one.units, weight);
     Total { formula, tail }
 }
 
@@ -43,23 +41,20 @@ pub fn constraints_total(
     ensures { (te : List ℕ) → Tabled file.now durations.now te users.now groups.now head
         → TotalOf file.now durations.now te groups.now head columns before result }
 {
-    let most = head.constraints as usize;
     let tail = nothing();
     let mut total = Total {
         formula: before,
         tail,
     };
     let mut next = head.start;
-    let mut i: usize = 0;
-    while i < most {
-        let x = constraint_at(file, next, head, list);
-        let Next::Read(c, after) = x else {
+    for i in 0..head.constraints {
+        // an accepted file has so many constraints, and none is refused
+        let Ok((c, after)) = constraint_at(file, next, head, list) else {
             return total;
         };
         let one = constraint_size(c, head, durations, users, groups, list, store);
-        total = add(total, columns, one, c.weight as u64);
+        total = add(total, columns, one, u64::from(c.weight));
         next = after;
-        i = i + 1;
     }
     total
 }

@@ -13,9 +13,7 @@ pub fn fill_clash(f: Clash, t: u32, head: Head, users: &[u16], out: &mut [u32]) 
     requires { UserRows users.now × ((f.resource ≤ 99) × ((head.times ≤ 125) × (Within head.times t × (length out.old ≡ 34816)))) }
     ensures { Plain (num_of head) (list_in [] (users_at users.now) [] head (clash f.resource) t) out.new result }
 {
-    let at = f.resource as usize * 1025;
-    let n = users[at] as usize;
-    let first = at + 1;
-    let k = literals::y_of_events(&users[first..], n, head.times, t, out);
+    let events = user_table::users_of(users, f.resource);
+    let k = literals::y_of_events(events, head.times, t, out);
     plain(k)
 }

@@ -1,5 +1,6 @@
-#![tactic(auto)]
 // The lists of the kinds that have no nodes, a file for each kind.
+#![tactic(auto)]
+
 mod busy;
 mod clash;
 mod split;

@@ -18,6 +18,6 @@ pub fn fill_spread(f: Spread, head: Head, groups: &[u8], list: &[u16], out: &mut
 {
     let l = literals::numbering(head.times, head.events, head.resources);
     let n = f.events as usize;
-    let k = literals::s_spread(list, n, groups, f.group, head.times, l.starts, out);
+    let k = literals::s_spread(&list[..n], groups, f.group, head.times, l.starts, out);
     plain(k)
 }

@@ -1,17 +1,15 @@
 -- What a call of the number reader tells.
-use mathlib.Core.Path.{◌≡◌, sym, ap, ◌∙◌}
-use mathlib.Core.List.{List}
-use Prim.Native.Nat.{ℕ}
+use Rattle.std.proofs.Common.{◌≡◌, ℕ, List, Result, Ok, Err, sym, ap, ◌∙◌}
 use Rattle.scope.specs.Parsed.{got, refused}
 use Rattle.scope.specs.Number.{number}
-use Rattle.number.specs.Answers.{said}
-use Rattle.number.specs.declared.Number.{Number}
-use Rattle.number.specs.declared.Number.TheVariants.{Value, Refused}
+use Rattle.scope.specs.Reason.{number_of}
+use Rattle.scope.specs.Answers.{said}
+use Rattle.scope.specs.declared.refusal.Refusal.{Refusal}
 
-pub value-at : (s : List ℕ) (at : ℕ) (x : Number) {v next : ℕ} → said x ≡ number s at → x ≡ Value v next
+pub value-at : (s : List ℕ) (at : ℕ) (x : Result (ℕ × ℕ) Refusal) {v next : ℕ} → said x ≡ number s at → x ≡ Ok (v, next)
     → number s at ≡ got v next
 value-at s at x e h = sym e ∙ ap said h
 
-pub no-value-at : (s : List ℕ) (at : ℕ) (x : Number) {f : _} → said x ≡ number s at → x ≡ Refused f
-    → number s at ≡ refused f.number f.value
+pub no-value-at : (s : List ℕ) (at : ℕ) (x : Result (ℕ × ℕ) Refusal) {f : Refusal} → said x ≡ number s at → x ≡ Err f
+    → number s at ≡ refused (number_of f.reason) f.value
 no-value-at s at x e h = sym e ∙ ap said h

@@ -1,5 +1,6 @@
-#![tactic(auto)]
 // How often each resource is used at each time: a row of T counts for each resource, of the events that use it and take the time.
+#![tactic(auto)]
+
 ghost use Rattle.std.specs.Prelude.{◌≡◌, ℕ, ◌+◌, ◌*◌, ◌≤◌, ◌<◌, cond, length, get_or, eqb, ltb};
 ghost use Rattle.tables.specs.Rows.{row_at};
 ghost use Rattle.resource_uses.specs.Uses.{RowAdded, EventAdded, Addable, Countable, UsesOf, Marked};
@@ -10,7 +11,7 @@ use tables::{row_len, row_member};
 pub fn bit_of(x: u8) -> u32
     ensures { (result ≡ cond (eqb x 1) 1 0) × (result ≤ 1) }
 {
-    if x == 1 { 1 } else { 0 }
+    u32::from(x == 1)
 }
 
 // One more for each taken time of an event, in a row of counts. The event's times begin at y, the row at base.
@@ -18,13 +19,8 @@ fn add_taken(uses: &mut [u16], base: usize, bytes: &[u8], y: usize, times: usize
     requires { (base + times ≤ length uses.old) × ((y + times ≤ length bytes.now) × ((t : ℕ) → t < times → get_or uses.old (base + t) 0 < 65535)) }
     ensures { RowAdded uses.old bytes.now base y times uses.new }
 {
-    let mut t: usize = 0;
-    while t < times {
-        let at = base + t;
-        let from = y + t;
-        let more = uses[at] + bit_of(bytes[from]) as u16;
-        uses[at] = more;
-        t = t + 1;
+    for t in 0..times {
+        uses[base + t] += bit_of(bytes[y + t]) as u16;
     }
 }
 
@@ -33,14 +29,10 @@ fn add_event(uses: &mut [u16], resources: &[u8], bytes: &[u8], e: usize, times: 
     requires { Addable times uses.old resources.now bytes.now e }
     ensures { EventAdded times uses.old bytes.now (e * times) (row_at resources.now e) uses.new }
 {
-    let n = row_len(resources, e);
     let y = e * times;
-    let mut k: usize = 0;
-    while k < n {
+    for k in 0..row_len(resources, e) {
         let r = row_member(resources, e, k) as usize;
-        let base = (r - 1) * times;
-        add_taken(uses, base, bytes, y, times);
-        k = k + 1;
+        add_taken(uses, (r - 1) * times, bytes, y, times);
     }
 }
 
@@ -49,10 +41,8 @@ pub fn count_uses(uses: &mut [u16], resources: &[u8], bytes: &[u8], events: usiz
     requires { Countable times uses.old resources.now bytes.now events × ((k : ℕ) → get_or uses.old k 0 ≡ 0) }
     ensures { UsesOf times bytes.now resources.now events uses.new }
 {
-    let mut e: usize = 0;
-    while e < events {
+    for e in 0..events {
         add_event(uses, resources, bytes, e, times);
-        e = e + 1;
     }
 }
 
@@ -61,16 +51,13 @@ pub fn mark_used(uses: &[u16], used: &mut [u8])
     requires { length used.old ≡ length uses.now }
     ensures { Marked uses.now used.new }
 {
-    let mut k: usize = 0;
-    while k < uses.len() {
-        let x = above_zero(uses[k]);
-        used[k] = x;
-        k = k + 1;
+    for k in 0..uses.len() {
+        used[k] = above_zero(uses[k]);
     }
 }
 
 fn above_zero(n: u16) -> u8
     ensures { result ≡ cond (ltb 0 n) 1 0 }
 {
-    if 0 < n { 1 } else { 0 }
+    u8::from(0 < n)
 }

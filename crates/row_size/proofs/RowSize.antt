@@ -3,7 +3,6 @@ use mathlib.Core.Path.{◌≡◌, refl, ap, sym, ◌∙◌}
 use mathlib.Core.Bool.{Bool, true, false}
 use mathlib.Core.List.{List, [], ◌∷◌, ◌++◌, flat_map}
 use Prim.Native.Nat.{ℕ, zero, suc, ◌+◌, ◌-◌, ◌*◌, ◌/◌, ◌%◌, ◌≤◌, ◌<◌}
-use native.Mathlib.Nat.{mul-le-mul_right}
 use native.Mathlib.Omega.{arith}
 use lib.ListN.{length, length-append}
 use lib.Dec.{ltb}
@@ -46,9 +45,6 @@ literal-most l h = omega (arith, literal-length l, digits-most 9 19 (l / 2) (ome
 
 pub opposite-most : (l : ℕ) → l < 2147483648 → length (literal_text (opp l)) ≤ 12
 opposite-most l h = literal-most (opp l) (omega arith)
-
-pub row_fits : (m f : ℕ) → m ≤ 1073741824 → f ≤ 400 → m * f ≤ 429496729600
-row_fits m f h g = omega (arith, mul-le-mul_right f h)
 
 pos-length : (v : ℕ) → length (literal_text (2 * v)) ≡ length (decimal v) + 1
 pos-length v =

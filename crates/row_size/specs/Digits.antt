@@ -2,7 +2,7 @@
 use Rattle.std.specs.Prelude.{◌≡◌, ℕ, ◌+◌, ◌≤◌, ◌<◌, length}
 use Rattle.scope.specs.Text.{decimal}
 
--- each of the n numbers from v on has r digits, where r is not 0
+-- each of the n numbers from v on has r digits
 pub record Even (r v n : ℕ) : Type 0 where
   pub few : r ≤ 20
-  pub each : (r ≡ 0 → ⊥) → (i : ℕ) → i < n → length (decimal (v + i)) ≡ r
+  pub each : (i : ℕ) → i < n → length (decimal (v + i)) ≡ r

@@ -1,6 +1,7 @@
-#![tactic(auto)]
 // The length of a row's text by arithmetic, where the numbers of each row have equally many digits.
-ghost use Rattle.std.specs.Prelude.{◌≡◌, ◌+◌, ◌≤◌, ◌<◌, length};
+#![tactic(auto)]
+
+ghost use Rattle.std.specs.Prelude.{IfSome, ◌≡◌, ◌+◌, ◌≤◌, ◌<◌, length};
 ghost use Rattle.scope.specs.Cnf.{opp};
 ghost use Rattle.scope.specs.Formula.{row};
 ghost use Rattle.scope.specs.Text.{literal_text};
@@ -10,16 +11,16 @@ ghost use Rattle.sink.specs.Meaning.{hard_text};
 ghost use Rattle.row_words.specs.Literals.{Literal};
 ghost use Rattle.row_size.specs.Digits.{Even};
 
-// How many digits each of the n numbers from v on has, or 0 where they do not have equally many.
-fn even_digits(v: u32, n: u32) -> usize
+// How many digits each of the n numbers from v on has, where they have equally many.
+fn even_digits(v: u32, n: u32) -> Option<usize>
     requires { (1 ≤ n) × (v + n ≤ 1073741824) }
-    ensures { Even result v n }
+    ensures { IfSome result (λ k. Even k v n) }
 {
     let k = digits::number_size(v as u64);
     if digits::number_size((v + (n - 1)) as u64) == k {
-        return k;
+        return Some(k);
     }
-    0
+    None
 }
 
 // The length of a literal and its opposite.
@@ -30,31 +31,19 @@ fn both_size(x: u32) -> usize
     digits::literal_size(x) + digits::literal_size(row_words::opposite(x))
 }
 
-// The length of the lines of the row at first over the row at prev, for a literal of a weight; 0 where it is not found so.
-pub fn row_size(top: u64, x: u32, w: u32, prev: u32, first: u32, cols: u32) -> usize
+// The length of the lines of the row at first over the row at prev, for a literal of a weight, where it is found so.
+pub fn row_size(top: u64, x: u32, w: u32, prev: u32, first: u32, cols: u32) -> Option<usize>
     requires { Literal x × (1 ≤ first) × (first + cols ≤ 1073741824) × (prev + cols ≤ 1073741824) }
-    ensures { (result ≡ 0 → ⊥) → result ≡ length (hard_text top (gates_clauses first (row (row_over prev) w x 1 cols))) }
+    ensures { IfSome result (λ n. n ≡ length (hard_text top (gates_clauses first (row (row_over prev) w x 1 cols)))) }
 {
-    if w != 1 {
-        return 0;
+    if w != 1 || prev == 0 || cols == 0 {
+        return None;
     }
-    if prev == 0 {
-        return 0;
-    }
-    if cols == 0 {
-        return 0;
-    }
-    let a = even_digits(prev, cols);
-    if a == 0 {
-        return 0;
-    }
-    let c = even_digits(first, cols);
-    if c == 0 {
-        return 0;
-    }
+    let a = even_digits(prev, cols)?;
+    let c = even_digits(first, cols)?;
     let beside = digits::number_size(top) + 3;
     let both = both_size(x);
     let low = 3 * beside + both + 2 * a + 3 * c + 7;
     let full = 4 * beside + both + 5 * a + 4 * c + 13;
-    low + (cols as usize - 1) * full
+    Some(low + (cols as usize - 1) * full)
 }

@@ -1,19 +1,14 @@
 -- A row's cells as text.
-use mathlib.Core.Path.{◌≡◌, sym, subst}
+use mathlib.Core.Path.{◌≡◌}
 use Prim.Native.Nat.{ℕ, ◌+◌, ◌-◌, ◌/◌, ◌≤◌}
 use native.Mathlib.Omega.{arith}
 use Rattle.scope.specs.Cnf.{opp, gate_clauses}
-use Rattle.digits.specs.Spelled.{Spelt}
-use Rattle.digits.specs.declared.spelled.Spelled.{Spelled}
 use Rattle.sink.specs.Run.{Ran, Out, put}
 use Rattle.sink.specs.Meaning.{hard_text}
 use Rattle.row_words.specs.Cells.{cell_at, full_clauses, low_clauses}
 use Rattle.row_words.proofs.laws.Cells.{full-cell, low-cell}
 
--- the bytes of an equal number
-pub spelt-at : {n : Spelled} {v m : ℕ} → Spelt v n → m ≡ v → Spelt m n
-spelt-at {n} s e = subst (λ (k : ℕ). Spelt k n) (sym e) s
-
+-- a literal's number is its opposite's
 pub half-opposite : (x : ℕ) {r : ℕ} → r ≡ opp x → r / 2 ≡ x / 2
 half-opposite x e = rw e (omega arith)
 

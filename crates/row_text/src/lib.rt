@@ -1,8 +1,8 @@
-#![tactic(auto)]
 // Rows as text, where every number has at most seven digits: each is turned into bytes once, and there is room for all.
+#![tactic(auto)]
+
 ghost use Rattle.std.specs.Prelude.{◌≡◌, true, ◌+◌, ◌*◌, ◌/◌, ◌≤◌, ◌<◌, length};
 ghost use Rattle.scope.specs.Formula.{row};
-ghost use Rattle.digits.specs.Spelled.{Spelt};
 ghost use Rattle.sink.specs.Run.{Ran, out, put};
 ghost use Rattle.sink.specs.Lines.{gates_clauses};
 ghost use Rattle.sink.specs.World.{row_over};
@@ -17,32 +17,18 @@ use sink::lines::{pair_line, triple_line};
 fn short(v: u64, n: u64) -> bool
     ensures { result ≡ true → Short v n }
 {
-    if v == 0 {
-        return false;
-    }
-    if 10000000 < v {
-        return false;
-    }
-    n <= 10000000 - v
+    0 < v && v <= 10000000 && n <= 10000000 - v
 }
 
 // Whether all numbers of a row have.
 pub fn spellable(top: u64, x: u32, prev: u32, first: u32, cols: u32) -> bool
     ensures { result ≡ true → Spellable top x prev first cols }
 {
-    if cols == 0 {
-        return false;
-    }
-    if !short(top, 1) {
-        return false;
-    }
-    if !short((x / 2) as u64, 1) {
-        return false;
-    }
-    if !short(prev as u64, cols as u64) {
-        return false;
-    }
-    short(first as u64, cols as u64)
+    0 < cols
+        && short(top, 1)
+        && short((x / 2) as u64, 1)
+        && short(prev as u64, cols as u64)
+        && short(first as u64, cols as u64)
 }
 
 // The cell in the first column: c below a, for the literal x with its number.
@@ -55,7 +41,7 @@ fn low_cell(
     a: Spelled,
     c: Spelled,
 ) -> usize
-    requires { Spelt top.value top × Spelt (x / 2) number × Spelt a.value a × Spelt c.value c × (at + 139 ≤ length text.old) }
+    requires { (number.value ≡ x / 2) × (at + 139 ≤ length text.old) }
     ensures ran { Ran put (hard_text top.value (low_clauses x a.value c.value)) (out at text.old) (out result text.new) }
     ensures upper_bound { result ≤ at + 139 }
 {
@@ -75,7 +61,7 @@ fn upper_lines(
     b: Spelled,
     c: Spelled,
 ) -> usize
-    requires { Spelt top.value top × Spelt (x / 2) number × Spelt a.value a × Spelt b.value b × Spelt c.value c × (at + 65 ≤ length text.old) }
+    requires { (number.value ≡ x / 2) × (at + 65 ≤ length text.old) }
     ensures ran { Ran put (hard_text top.value (upper_clauses x a.value b.value c.value)) (out at text.old) (out result text.new) }
     ensures upper_bound { result ≤ at + 65 }
 {
@@ -104,7 +90,7 @@ fn lower_lines(
     b: Spelled,
     c: Spelled,
 ) -> usize
-    requires { Spelt top.value top × Spelt (x / 2) number × Spelt a.value a × Spelt b.value b × Spelt c.value c × (at + 74 ≤ length text.old) }
+    requires { (number.value ≡ x / 2) × (at + 74 ≤ length text.old) }
     ensures ran { Ran put (hard_text top.value (lower_clauses x a.value b.value c.value)) (out at text.old) (out result text.new) }
     ensures upper_bound { result ≤ at + 74 }
 {
@@ -133,7 +119,7 @@ fn full_cell(
     b: Spelled,
     c: Spelled,
 ) -> usize
-    requires { Spelt top.value top × Spelt (x / 2) number × Spelt a.value a × Spelt b.value b × Spelt c.value c × (at + 139 ≤ length text.old) }
+    requires { (number.value ≡ x / 2) × (at + 139 ≤ length text.old) }
     ensures ran { Ran put (hard_text top.value (full_clauses x a.value b.value c.value)) (out at text.old) (out result text.new) }
     ensures upper_bound { result ≤ at + 139 }
 {

@@ -1,5 +1,6 @@
-#![tactic(auto)]
 // Rows in a model: the clauses of a cell are all true where its variable has its gate's value.
+#![tactic(auto)]
+
 ghost use Rattle.std.specs.Prelude.{◌≡◌, true, ◌&&◌, ◌||◌, suc, ◌+◌, ◌-◌, ◌≤◌, ◌<◌};
 ghost use Rattle.std.specs.Bool.{beq};
 ghost use Rattle.scope.specs.Cnf.{bit, lit};
@@ -28,29 +29,8 @@ fn before_true(model: &[u8], w: u32, prev: u32, j: u32) -> bool
     column_true(model, prev, j - w)
 }
 
-// The value of a cell over x and the literals a and b of the row above.
-fn cell_value(x: bool, a: bool, b: bool) -> bool
-    ensures { result ≡ (a || x && b) }
-{
-    if a {
-        return true;
-    }
-    if x {
-        return b;
-    }
-    false
-}
-
-fn equal(a: bool, b: bool) -> bool
-    ensures { result ≡ beq a b }
-{
-    if a {
-        return b;
-    }
-    !b
-}
-
-// Whether the cell in column j of the row at first has its gate's value, where t is the truth of the row's literal.
+// Whether the cell in column j of the row at first has its gate's value, where t is the truth of the row's literal: it is true
+// where the literal above it is, or the row's literal is and the one w columns before that.
 fn cell_right(model: &[u8], t: bool, w: u32, prev: u32, first: u32, j: u32) -> bool
     requires { (first + j < 1073741824) × (prev + j < 1073741824) }
     ensures { result ≡ right_with (bit model.now) t w prev first j }
@@ -58,7 +38,7 @@ fn cell_right(model: &[u8], t: bool, w: u32, prev: u32, first: u32, j: u32) -> b
     let a = column_true(model, prev, j);
     let b = before_true(model, w, prev, j);
     let c = sink::judge::variable_true(model, (first + j) as usize);
-    equal(c, cell_value(t, a, b))
+    c == (a || t && b)
 }
 
 // Whether every cell of a row has its gate's value.
@@ -84,5 +64,5 @@ pub fn row_clauses(w: u32, prev: u32, cols: u32) -> usize
     if prev == 0 {
         return 2 * n;
     }
-    4 * n - sink::lesser(w as usize, n)
+    4 * n - (w as usize).min(n)
 }

@@ -4,7 +4,8 @@ ghost use Rattle.scope.specs.Cnf.{gate_clauses};
 ghost use Rattle.row_words.specs.Literals.{Literal};
 ghost use Rattle.row_words.specs.Cells.{cell_at, WordsAt, StoredAt};
 
-use super::{LAST, opposite};
+use super::opposite;
+use sink::LAST;
 
 // Two words from a place on.
 fn pair(words: &mut [u32], at: usize, a: u32, b: u32) -> usize

@@ -1,5 +1,6 @@
-#![tactic(auto)]
 // The cells of counters: their clauses as words, one cell and a whole row.
+#![tactic(auto)]
+
 ghost use Rattle.std.specs.Prelude.{◌≡◌, ◌<◌};
 ghost use Rattle.scope.specs.Cnf.{opp};
 
@@ -8,9 +9,6 @@ mod row;
 
 pub use cell::cell_words;
 pub use row::row_words;
-
-// What marks the last word of a clause.
-const LAST: u32 = 2147483648;
 
 // The opposite literal.
 pub fn opposite(l: u32) -> u32

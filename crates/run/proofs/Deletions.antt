@@ -8,6 +8,7 @@ use lib.Dec.{eqb}
 use lib.ListN.{length}
 use Rattle.scope.specs.Parsed.{Parsed, got, refused}
 use Rattle.scope.specs.Number.{number}
+use Rattle.scope.specs.declared.refusal.Reason.{Reason}
 use Rattle.directory.specs.declared.Row.{Row}
 use Rattle.lookup.specs.Lookup.{look_up}
 use Rattle.reader.proofs.Loops.{nearer}
@@ -15,12 +16,12 @@ use Rattle.hints.specs.declared.machine.Phase.TheVariants.{Refused}
 use Rattle.hints.specs.declared.machine.Machine.{Machine}
 use Rattle.hints.specs.Machine.{turn_of, stopped, onward}
 use Rattle.deletion.specs.Passed.{id_on, passed_id}
-use Rattle.run.specs.Turned.{Deletion, deletes, id_deleted}
+use Rattle.run.specs.Turned.{Deletion, is_delete, deletes, id_deleted}
 
 module _ (s : List ℕ) where
   -- what is left of a machine that deletes
   abbrev ahead : Machine → ℕ
-  ahead m = cond (eqb (turn_of m.phase) 1) (suc (length s - m.at)) 0
+  ahead m = cond (is_delete (turn_of m.phase)) (suc (length s - m.at)) 0
 
   abbrev pub to_delete : Deletion → ℕ
   to_delete d = ahead d.machine
@@ -35,7 +36,7 @@ module _ (s : List ℕ) where
   unfolding passed_id
   pass_less m row = go (eqb row.live 0)
     where
-      go : (t : Bool) → ahead (cond t (stopped (Refused 15) m.at) (id_on m (number s m.at))) < suc (length s - m.at)
+      go : (t : Bool) → ahead (cond t (stopped (Refused Reason.NotLive) m.at) (id_on m (number s m.at))) < suc (length s - m.at)
       go true = omega arith
       go false = id_less m (number s m.at) refl
 

@@ -5,8 +5,10 @@ use mathlib.Core.List.{List, [], ◌∷◌}
 use Prim.Native.Nat.{ℕ, zero, suc, ◌+◌, ◌-◌, ◌/◌, ◌%◌}
 use lib.Dec.{leb, eqb}
 use lib.ListN.{length, get_or, length-set}
+use Rattle.std.specs.Prelude.{Option, Some, None}
 use Rattle.scope.specs.Parsed.{Parsed, got, refused}
 use Rattle.scope.specs.Number.{number}
+use Rattle.scope.specs.declared.refusal.Reason.{Reason}
 use Rattle.theory.specs.Marked.{Standing, falsified, one_open, other}
 use Rattle.directory.specs.declared.Row.{Row}
 use Rattle.marks.specs.Marks.{marks_of, put_mark}
@@ -15,21 +17,17 @@ use Rattle.standing.specs.Clauses.{part, wiped}
 use Rattle.directory.specs.Rows.{row_clause}
 use Rattle.lookup.specs.Lookup.{look_up}
 use Rattle.reader.specs.Loop.{while_more}
-use Rattle.passing.specs.declared.numbers.Numbers.{Numbers}
-use Rattle.passing.specs.declared.numbers.Numbers.TheVariants.{End, Cut}
 use Rattle.passing.specs.Passed.{passed_at}
-use Rattle.spelling.specs.declared.literals.Literals.{Literals}
-use Rattle.spelling.specs.declared.literals.Literals.TheVariants as literals
 use Rattle.spelling.specs.Spelt.{literal_ok, spelt_marks, Spelled, spell_turn, literals_at}
-use Rattle.steps.specs.declared.step.Read.TheVariants.{Misformed}
 use Rattle.steps.specs.Step.{StepAt, step_is, by_hints, by_literals, by_id, add_at, by_ids, step_at}
 use Rattle.hints.specs.declared.machine.Phase.{Phase}
 use Rattle.hints.specs.declared.machine.Phase.TheVariants.{Next, Walk, Followed, Keep, Wipe, Delete, Proved, Refused}
+use Rattle.hints.specs.declared.machine.Turn.{Turn}
 use Rattle.hints.specs.declared.machine.Machine.{Machine}
 use Rattle.hints.specs.Machine.{turn_of, walked_marks, walked_trail, turned_marks, turned_trail, read_marks, read_trail, advanced_marks, advanced_trail, stands_by}
 use Rattle.turns.specs.declared.check.Check.{Check}
 use Rattle.turns.specs.Check.{with_phase, stepped, StepTaken, step_taken, unwound_marks}
-use Rattle.run.specs.Turned.{State, deletion, id_deleted, by_turn, turned}
+use Rattle.run.specs.Turned.{State, id_deleted, by_turn, turned}
 
 wiped-long : (c ms : List ℕ) → length (wiped ms c) ≡ length ms
 unfolding wiped
@@ -125,33 +123,33 @@ literals-long : (s : List ℕ) (at last : ℕ) (ms : List ℕ) → length (liter
 unfolding literals_at
 literals-long s at last ms = spelled-long s last (suc (length s)) _
 
-marks-hints : (id lits size hints : ℕ) (ms : List ℕ) (x : Numbers) → (by_hints id lits size hints ms x).marks ≡ ms
-marks-hints id lits size hints ms Cut = refl
-marks-hints id lits size hints ms (End next) = refl
+marks-hints : (id lits size hints : ℕ) (ms : List ℕ) (x : Option ℕ) → (by_hints id lits size hints ms x).marks ≡ ms
+marks-hints id lits size hints ms None = refl
+marks-hints id lits size hints ms (Some next) = refl
 
-marks-literals : (s : List ℕ) (id lits : ℕ) (x : Literals) (ms : List ℕ) → (by_literals s id lits x ms).marks ≡ ms
-marks-literals s id lits literals.Misformed ms = refl
-marks-literals s id lits (literals.Read size hints) ms = marks-hints id lits size hints ms (passed_at s hints)
+marks-literals : (s : List ℕ) (id lits : ℕ) (x : Option (ℕ × ℕ)) (ms : List ℕ) → (by_literals s id lits x ms).marks ≡ ms
+marks-literals s id lits None ms = refl
+marks-literals s id lits (Some (size, hints)) ms = marks-hints id lits size hints ms (passed_at s hints)
 
 marks-id : (s : List ℕ) (highest last : ℕ) (ms : List ℕ) (x : Parsed ℕ) → length (by_id s highest last ms x).marks ≡ length ms
 marks-id s highest last ms (refused k v) = refl
 marks-id s highest last ms (got id lits) = go (leb id highest)
   where
     go : (t : Bool)
-        → length (cond {A = StepAt} t (step_is Misformed ms) (by_literals s id lits (literals_at s lits last ms).found (literals_at s lits last ms).marks)).marks ≡ length ms
+        → length (cond {A = StepAt} t (step_is None ms) (by_literals s id lits (literals_at s lits last ms).found (literals_at s lits last ms).marks)).marks ≡ length ms
     go true = refl
     go false = rw (marks-literals s id lits (literals_at s lits last ms).found (literals_at s lits last ms).marks) (literals-long s lits last ms)
 
-marks-ids : (from : ℕ) (ms : List ℕ) (x : Numbers) → (by_ids from ms x).marks ≡ ms
-marks-ids from ms Cut = refl
-marks-ids from ms (End next) = refl
+marks-ids : (from : ℕ) (ms : List ℕ) (x : Option ℕ) → (by_ids from ms x).marks ≡ ms
+marks-ids from ms None = refl
+marks-ids from ms (Some next) = refl
 
 marks-step : (s : List ℕ) (at highest last : ℕ) (ms : List ℕ) → length (step_at s at highest last ms).marks ≡ length ms
 unfolding step_at add_at
 marks-step s at highest last ms = go (eqb (get_or s at 0) 97) (eqb (get_or s at 0) 100)
   where
     go : (a b : Bool)
-        → length (cond {A = StepAt} a (by_id s highest last ms (number s (at + 1))) (cond b (by_ids (at + 1) ms (passed_at s (at + 1))) (step_is Misformed ms))).marks ≡ length ms
+        → length (cond {A = StepAt} a (by_id s highest last ms (number s (at + 1))) (cond b (by_ids (at + 1) ms (passed_at s (at + 1))) (step_is None ms))).marks ≡ length ms
     go true b = marks-id s highest last ms (number s (at + 1))
     go false true = rw (marks-ids (at + 1) ms (passed_at s (at + 1)))
     go false false = refl
@@ -161,7 +159,7 @@ unfolding step_taken
 marks-taken s c at last ms = go (leb (length s) at)
   where
     go : (t : Bool)
-        → length (cond {A = StepTaken} t (record { check = with_phase c (Refused 18); marks = ms })
+        → length (cond {A = StepTaken} t (record { check = with_phase c (Refused Reason.BadEnd); marks = ms })
         (record { check = stepped c (step_at s at c.tally.highest last ms).read; marks = (step_at s at c.tally.highest last ms).marks })).marks ≡ length ms
     go true = refl
     go false = marks-step s at c.tally.highest last ms
@@ -176,16 +174,15 @@ pub turned-long : (s : List ℕ) (last : ℕ) (w : State) → Long w (turned s l
 unfolding turned id_deleted
 turned-long s last w = go (turn_of w.machine.phase)
   where
-    go : (k : ℕ) → Long w (by_turn s last w k)
-    go zero =
+    go : (k : Turn) → Long w (by_turn s last w k)
+    go Turn.Look =
         record {
           rows = refl;
           marks = marks-advanced (number s w.machine.at) w.machine (look_up w.rows w.check.tally.rows w.machine.want).hit w.words w.marks;
           trail = trail-advanced (number s w.machine.at) w.machine (look_up w.rows w.check.tally.rows w.machine.want).hit w.words w.marks w.trail;
         }
-    go (suc zero) = record { rows = length-set w.rows _ _; marks = refl; trail = refl }
-    go (suc (suc zero)) = record { rows = length-set w.rows _ _; marks = marks-unwound _ w.machine _ w.marks w.trail; trail = refl }
-    go (suc (suc (suc zero))) = record { rows = refl; marks = refl; trail = refl }
-    go (suc (suc (suc (suc zero)))) =
-        record { rows = refl; marks = marks-taken s w.check w.machine.at last w.marks; trail = refl }
-    go (suc (suc (suc (suc (suc k))))) = record { rows = refl; marks = refl; trail = refl }
+    go Turn.Delete = record { rows = length-set w.rows _ _; marks = refl; trail = refl }
+    go Turn.Keep = record { rows = length-set w.rows _ _; marks = marks-unwound _ w.machine _ w.marks w.trail; trail = refl }
+    go Turn.Judge = record { rows = refl; marks = refl; trail = refl }
+    go Turn.Read = record { rows = refl; marks = marks-taken s w.check w.machine.at last w.marks; trail = refl }
+    go Turn.End = record { rows = refl; marks = refl; trail = refl }

@@ -6,6 +6,7 @@ use Prim.Native.Nat.{ℕ}
 use lib.Dec.{leb}
 use lib.ListN.{length}
 use borrow.Author.Tests.{leb-true, leb-false}
+use Rattle.scope.specs.declared.refusal.Reason.{Reason}
 use Rattle.steps.specs.Step.{step_at}
 use Rattle.reading.proofs.laws.StepReading.{step_reads}
 use Rattle.hints.specs.declared.machine.Phase.TheVariants.{Refused}
@@ -20,9 +21,9 @@ takes_step s c at last ms = go (leb (length s) at) refl
   where
     go : (t : Bool) → leb (length s) at ≡ t
         → TakesStep s c at last ms
-        (cond {A = StepTaken} t (record { check = with_phase c (Refused 18); marks = ms })
+        (cond {A = StepTaken} t (record { check = with_phase c (Refused Reason.BadEnd); marks = ms })
         (record { check = stepped c (step_at s at c.tally.highest last ms).read; marks = (step_at s at c.tally.highest last ms).marks })).check
-        (cond {A = StepTaken} t (record { check = with_phase c (Refused 18); marks = ms })
+        (cond {A = StepTaken} t (record { check = with_phase c (Refused Reason.BadEnd); marks = ms })
         (record { check = stepped c (step_at s at c.tally.highest last ms).read; marks = (step_at s at c.tally.highest last ms).marks })).marks
     go true t = over (leb-true (length s) at t) refl
     go false t = takes (step_at s at c.tally.highest last ms).read (leb-false (length s) at t) (step_reads s c.tally.highest last ms at) refl

@@ -1,8 +1,8 @@
 -- The run of a check as a function: what each turn makes of the machine and the stores, until no turn is left. It says nothing of
 -- what a turn means.
-use Rattle.std.specs.Prelude.{Bool, List, ℕ, zero, suc, ◌+◌, ◌-◌, ◌*◌, eqb, ltb, length, set, replicate}
+use Rattle.std.specs.Prelude.{Bool, true, false, List, ℕ, suc, ◌+◌, ◌-◌, ◌*◌, length, set, replicate, Result}
 use Rattle.scope.specs.Number.{number}
-use Rattle.scope.specs.declared.CheckAnswer.{CheckAnswer}
+use Rattle.scope.specs.declared.refusal.Refusal.{Refusal}
 use Rattle.directory.specs.declared.Row.{Row}
 use Rattle.lookup.specs.declared.Probe.{Probe}
 use Rattle.directory.specs.Directory.{with_dead}
@@ -11,6 +11,7 @@ use Rattle.reader.specs.Loop.{while_more}
 use Rattle.copying.specs.Copies.{copied_at}
 use Rattle.hints.specs.declared.machine.Phase.{Phase}
 use Rattle.hints.specs.declared.machine.Phase.TheVariants.{Next, Walk, Followed, Keep, Wipe, Delete, Proved, Refused}
+use Rattle.hints.specs.declared.machine.Turn.{Turn}
 use Rattle.hints.specs.declared.machine.Machine.{Machine}
 use Rattle.hints.specs.Machine.{turn_of, stopped, advanced, advanced_marks, advanced_trail}
 use Rattle.deletion.specs.Passed.{passed_id}
@@ -43,8 +44,17 @@ found_deleted s m ys p = deletion (passed_id (number s m.at) m p.hit) (with_dead
 unfoldable pub id_deleted : List ℕ → ℕ → Deletion → Deletion
 id_deleted s n d = found_deleted s d.machine d.rows (look_up d.rows n d.machine.want)
 
+-- whether a turn deletes an id
+abbrev pub is_delete : Turn → Bool
+is_delete Turn.Look = false
+is_delete Turn.Delete = true
+is_delete Turn.Keep = false
+is_delete Turn.Judge = false
+is_delete Turn.Read = false
+is_delete Turn.End = false
+
 abbrev pub deletes : Deletion → Bool
-deletes d = eqb (turn_of d.machine.phase) 1
+deletes d = is_delete (turn_of d.machine.phase)
 
 unfoldable pub ids_deleted : List ℕ → ℕ → Machine → List Row → Deletion
 ids_deleted s n m ys = while_more deletes (id_deleted s n) (suc (length s)) (deletion m ys)
@@ -74,23 +84,31 @@ judged_as w c = state c (proceeded c w.machine) w.rows w.words w.marks w.trail
 abbrev pub step_read : List ℕ → State → StepTaken → State
 step_read s w x = state x.check (entered s x.check) w.rows w.words x.marks w.trail
 
--- by the number of the turn; the variables of the proof go up to the last
-abbrev pub by_turn : List ℕ → ℕ → State → ℕ → State
-by_turn s last w zero = looked_at s w (look_up w.rows w.check.tally.rows w.machine.want).hit
-by_turn s last w (suc zero) = with_deletion w (id_deleted s w.check.tally.rows (deletion w.machine w.rows))
-by_turn s last w (suc (suc zero)) =
+-- by the turn; the variables of the proof go up to the last
+abbrev pub by_turn : List ℕ → ℕ → State → Turn → State
+by_turn s last w Turn.Look = looked_at s w (look_up w.rows w.check.tally.rows w.machine.want).hit
+by_turn s last w Turn.Delete = with_deletion w (id_deleted s w.check.tally.rows (deletion w.machine w.rows))
+by_turn s last w Turn.Keep =
     kept_with w (kept_as w.check) (copied_at s w.check.clause.literals w.words w.check.tally.words)
-by_turn s last w (suc (suc (suc zero))) =
+by_turn s last w Turn.Judge =
     judged_as w (judged w.check w.machine.at (length s) (length w.words) (length w.rows))
-by_turn s last w (suc (suc (suc (suc zero)))) = step_read s w (step_taken s w.check w.machine.at last w.marks)
-by_turn s last w (suc (suc (suc (suc (suc k))))) = w
+by_turn s last w Turn.Read = step_read s w (step_taken s w.check w.machine.at last w.marks)
+by_turn s last w Turn.End = w
 
 unfoldable pub turned : List ℕ → ℕ → State → State
 turned s last w = by_turn s last w (turn_of w.machine.phase)
 
 -- a turn is left
+abbrev pub goes_on : Turn → Bool
+goes_on Turn.Look = true
+goes_on Turn.Delete = true
+goes_on Turn.Keep = true
+goes_on Turn.Judge = true
+goes_on Turn.Read = true
+goes_on Turn.End = false
+
 abbrev pub going : State → Bool
-going w = ltb (turn_of w.machine.phase) 5
+going w = goes_on (turn_of w.machine.phase)
 
 -- How many turns are left at most: of a proof of P bytes and a step whose hints stand at h, by stages and by the offset in each
 unfoldable pub budget : ℕ → ℕ → ℕ → ℕ → ℕ
@@ -122,12 +140,12 @@ at_first n used ys ws ms tr = state (begun n used) (stopped Next 0) ys ws ms tr
 
 -- what a check answers, and what it leaves in the stores
 pub record Outcome : Type 0 where
-  pub answer : CheckAnswer
+  pub answer : Result ℕ Refusal
   pub rows : List Row
   pub words : List ℕ
   pub marks : List ℕ
 
-abbrev pub outcome : CheckAnswer → List Row → List ℕ → List ℕ → Outcome
+abbrev pub outcome : Result ℕ Refusal → List Row → List ℕ → List ℕ → Outcome
 outcome r ys ws ms = record { answer = r; rows = ys; words = ws; marks = ms }
 
 abbrev pub outcome_of : State → Outcome

@@ -15,6 +15,7 @@ pub mod SolverText
 pub mod Steps
 pub mod PlainRun
 pub mod Operations
+pub mod Reason
 pub mod Answers
 pub mod Spelling
 pub mod Refutation

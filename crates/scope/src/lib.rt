@@ -1,14 +1,13 @@
-#![tactic(auto)]
 // What the operations answer. specs/ has the definitions that a reader of document 01 must believe; specs/Answers.antt says
-// for each case below which number and values of document 01 it stands for.
-pub mod refusals;
+// which number and values of document 01 an answer stands for.
+#![tactic(auto)]
 
-// A refusal: its number in document 01's table, and the value that it gives.
-#[derive(Clone, Copy)]
-pub struct Refusal {
-    pub number: u8,
-    pub value: u64,
-}
+mod refusal;
+
+pub use refusal::{Reason, Refusal};
+
+// A value that was read, and the offset after it; or a refusal.
+pub type Parsed<T> = Result<(T, usize), Refusal>;
 
 // The deviations of hard constraints, summed.
 #[derive(Clone, Copy)]
@@ -38,65 +37,12 @@ pub struct InstanceSize {
     pub constraints: u32,
 }
 
-#[derive(Clone, Copy)]
-pub enum ReadAnswer {
-    Accepted(InstanceSize),
-    Refused(Refusal),
-}
-
-#[derive(Clone, Copy)]
-pub enum ScoreAnswer {
-    Scored(Infeasibility, Objective),
-    Refused(Refusal),
-}
-
-#[derive(Clone, Copy)]
-pub enum SheetAnswer {
-    Same,
-    Different,
-    Refused(Refusal),
-}
-
 // What a formula needs of a store: a byte for each variable, a row for each clause, a word for each literal.
 #[derive(Clone, Copy)]
 pub struct FormulaSize {
     pub variables: u64,
     pub clauses: u64,
     pub words: u64,
-}
-
-#[derive(Clone, Copy)]
-pub enum SizesAnswer {
-    Sizes(FormulaSize),
-    Refused(Refusal),
-}
-
-// The text's length in bytes, measured or written.
-#[derive(Clone, Copy)]
-pub enum TextAnswer {
-    Bytes(u64),
-    Refused(Refusal),
-}
-
-// A decoded model's cost; the part that holds Y and S is returned beside it.
-#[derive(Clone, Copy)]
-pub enum DecodeAnswer {
-    Decoded(Objective),
-    Refused(Refusal),
-}
-
-// "No timetable" with the number of steps.
-#[derive(Clone, Copy)]
-pub enum CheckAnswer {
-    NoTimetable(u64),
-    Refused(Refusal),
-}
-
-// No timetable costs less than a decoded model's cost; with the number of steps that show it.
-#[derive(Clone, Copy)]
-pub enum BestAnswer {
-    Best(Objective, u64),
-    Refused(Refusal),
 }
 
 // What a walk over a group's members keeps from one to the next: how many are idle so far, how many without X have come since the

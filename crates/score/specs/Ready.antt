@@ -7,7 +7,6 @@ use Rattle.constraint.specs.declared.kinds.Head.{Head}
 use Rattle.constraint.specs.Answers.{counts_in}
 use Rattle.constraint.specs.Decoded.{decoded_at}
 use Rattle.instance.specs.Start.{SizesIn}
-use Rattle.instance.proofs.laws.Laws.{event-rows, group-rows}
 use Rattle.score.specs.Amounts.{decoded_of}
 
 -- a timetable's bytes b can be scored

@@ -29,8 +29,10 @@ pub fn score_of(
 {
     let events = head.events as usize;
     let times = head.times as usize;
+    // of fixed size: there is no heap
     let mut uses = [0u16; 12375];
     count_uses(&mut uses, resources, bytes, events, times);
+    // of fixed size: there is no heap
     let mut used = [0u8; 12375];
     mark_used(&uses, &mut used);
     charge_all(file, head, bytes, &uses, &used, groups, list)

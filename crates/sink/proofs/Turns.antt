@@ -1,12 +1,11 @@
 -- One turn of a loop over a block, and its end.
 use mathlib.Core.Path.{◌≡◌, refl, ◌∙◌, sym}
 use mathlib.Core.Bool.{Bool, true}
-use mathlib.Core.List.{List, [], ◌∷◌, ◌++◌}
-use Prim.Native.Nat.{ℕ, suc, ◌+◌, ◌≤◌, ◌<◌}
+use mathlib.Core.List.{List}
+use Prim.Native.Nat.{ℕ, ◌+◌, ◌≤◌, ◌<◌}
 use native.Mathlib.Numerals.{add-one}
-use native.Mathlib.Omega.{arith}
-use lib.ListN.{length, drop, get_or, set, drop_of_length-le}
-use lib.Seq.{drop-cons, sets}
+use lib.ListN.{length, drop, get_or, drop_of_length-le}
+use lib.Seq.{drop-cons}
 use lib.Dec.{leb}
 use Rattle.sink.specs.Block.{Parts, by_word, by_words}
 use Rattle.sink.specs.Parts.{size_parts, judge_parts}
@@ -36,11 +35,3 @@ size-turn n ws i h q g = record { eq = sym (size-first n (leb 2147483648 (get_or
 pub judge-turn : {j j' e : Judgement} (m ws : List ℕ) (i : ℕ) → i < length ws → j' ≡ by_word (judge_parts m) true (get_or ws i 0) j
     → Left (judge_parts m) true (drop i ws) j e → Left (judge_parts m) true (drop (i + 1) ws) j' e
 judge-turn m ws i h q g = record { eq = sym (judge-first m (leb 2147483648 (get_or ws i 0)) (drop (i + 1) ws) _) ∙ (turn true ws i h q g).eq }
-
--- the words of a list, one by one
-pub drop-step : (ws : List ℕ) (i : ℕ) → i < length ws → drop i ws ≡ (get_or ws i 0 ∷ []) ++ drop (i + 1) ws
-drop-step ws i h = rw (drop-cons ws i 0 h, add-one)
-
--- copied one by one
-pub copy-turn : (l ws : List ℕ) (a i : ℕ) → i < length ws → sets l (a + i) (drop i ws) ≡ sets (set l (a + i) (get_or ws i 0)) (a + (i + 1)) (drop (i + 1) ws)
-copy-turn l ws a i h = let e : a + (i + 1) ≡ suc (a + i) = omega arith in rw (e, drop-cons ws i 0 h, add-one i)

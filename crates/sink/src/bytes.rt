@@ -5,6 +5,7 @@ ghost use Rattle.sink.specs.Run.{Ran, out, put};
 ghost use Rattle.sink.specs.Block.{opened, by_word, by_words};
 ghost use Rattle.sink.specs.Parts.{text_parts, size_parts};
 
+use crate::LAST;
 use crate::roomy::roomy_block;
 use digits::spelled::spell;
 
@@ -14,7 +15,7 @@ fn open_line(text: &mut [u8], at: usize, top: u64, first: bool) -> usize
 {
     if first {
         let a = digits::write_number(text, at, top);
-        return digits::put_byte(text, a, 32);
+        return digits::put(text, a, 32);
     }
     at
 }
@@ -23,8 +24,8 @@ fn open_line(text: &mut [u8], at: usize, top: u64, first: bool) -> usize
 fn close_line(text: &mut [u8], at: usize) -> usize
     ensures { Ran put (48 ∷ newline) (out at text.old) (out result text.new) }
 {
-    let a = digits::put_byte(text, at, 48);
-    digits::put_byte(text, a, 10)
+    let a = digits::put(text, at, 48);
+    digits::put(text, a, 10)
 }
 
 // A word of a block in the text: what starts its line, its literal, and what ends its line.
@@ -32,23 +33,22 @@ fn word_text(text: &mut [u8], at: usize, top: u64, first: bool, w: u32) -> usize
     ensures { out result text.new ≡ by_word (text_parts top) first w (out at text.old) }
 {
     let a = open_line(text, at, top, first);
-    let b = digits::write_literal(text, a, w % 2147483648);
-    if w < 2147483648 {
+    let b = digits::write_literal(text, a, w % LAST);
+    if w < LAST {
         return b;
     }
     close_line(text, b)
 }
 
-// The hard lines of a block, with a test of room for each number.
+// The hard lines of a block, with a test of room for each number; roomy_block, with one test for all, is quicker and does not always do.
 fn tested_block(text: &mut [u8], at: usize, top: u64, block: &[u32]) -> usize
     ensures { out result text.new ≡ by_words (text_parts top) true block.now (out at text.old) }
 {
     let mut p = at;
     let mut first = true;
-    for i in 0..block.len() {
-        let w = block[i];
-        p = word_text(text, p, top, first, w);
-        first = 2147483648 <= w;
+    for w in block {
+        p = word_text(text, p, top, first, *w);
+        first = LAST <= *w;
     }
     p
 }
@@ -57,13 +57,7 @@ fn tested_block(text: &mut [u8], at: usize, top: u64, block: &[u32]) -> usize
 fn roomy(at: usize, len: usize, top: u64, n: usize) -> bool
     ensures { result ≡ true → (top < 10000000) × (at + 22 * n ≤ len) }
 {
-    if 10000000 <= top {
-        return false;
-    }
-    if len < at {
-        return false;
-    }
-    n <= (len - at) / 22
+    top < 10000000 && at <= len && n <= (len - at) / 22
 }
 
 // The hard lines of a block.
@@ -80,10 +74,10 @@ pub fn text_block(text: &mut [u8], at: usize, top: u64, block: &[u32]) -> usize
 fn word_size(at: usize, beside: usize, w: u32) -> usize
     ensures { result ≡ by_word (size_parts beside) true w at }
 {
-    if w < 2147483648 {
+    if w < LAST {
         return digits::advance(at, digits::literal_size(w));
     }
-    let a = digits::advance(at, digits::literal_size(w - 2147483648));
+    let a = digits::advance(at, digits::literal_size(w - LAST));
     digits::advance(a, beside)
 }
 
@@ -92,8 +86,8 @@ pub fn size_block(at: usize, beside: usize, block: &[u32]) -> usize
     ensures { result ≡ by_words (size_parts beside) true block.now at }
 {
     let mut p = at;
-    for i in 0..block.len() {
-        p = word_size(p, beside, block[i]);
+    for w in block {
+        p = word_size(p, beside, *w);
     }
     p
 }

@@ -38,11 +38,5 @@ pub fn charge(model: &[u8], s: Sink, weight: u32, l: u32) -> Sink
         return s;
     }
     let lost = digits::advance(s.lost as usize, weight as usize) as u64;
-    Sink {
-        at: s.at,
-        bad: s.bad,
-        lost,
-        prev: s.prev,
-        row: s.row,
-    }
+    Sink { lost, ..s }
 }

@@ -5,8 +5,8 @@ ghost use Rattle.sink.specs.Block.{by_word, by_words};
 ghost use Rattle.sink.specs.World.{bad_after};
 ghost use Rattle.sink.specs.Parts.{judge_parts};
 
-use super::Judgement;
 use super::judge::literal_true;
+use super::{Judgement, LAST};
 
 // The lowest false clause so far, or 0, after a clause with its truth and id.
 fn bad_after(holds: bool, id: usize, bad: usize) -> usize
@@ -37,13 +37,9 @@ fn holds_after(model: &[u8], holds: bool, l: u32) -> bool
 fn judge_word(model: &[u8], j: Judgement, w: u32) -> Judgement
     ensures { result ≡ by_word (judge_parts model.now) true w j }
 {
-    let holds = holds_after(model, j.holds, w % 2147483648);
-    if w < 2147483648 {
-        return Judgement {
-            at: j.at,
-            bad: j.bad,
-            holds,
-        };
+    let holds = holds_after(model, j.holds, w % LAST);
+    if w < LAST {
+        return Judgement { holds, ..j };
     }
     let at = digits::advance(j.at, 1);
     Judgement {
@@ -60,8 +56,8 @@ pub fn judge_block(model: &[u8], j: Judgement, block: &[u32]) -> Judgement
     let mut at = j.at;
     let mut bad = j.bad;
     let mut holds = j.holds;
-    for i in 0..block.len() {
-        let k = judge_word(model, Judgement { at, bad, holds }, block[i]);
+    for w in block {
+        let k = judge_word(model, Judgement { at, bad, holds }, *w);
         at = k.at;
         bad = k.bad;
         holds = k.holds;

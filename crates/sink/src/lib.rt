@@ -1,6 +1,7 @@
-#![tactic(auto)]
 // What happens with a block of clauses, by mode.
-ghost use Rattle.std.specs.Prelude.{◌≡◌, map, true, ◌+◌, ◌≤◌, min};
+#![tactic(auto)]
+
+ghost use Rattle.std.specs.Prelude.{◌≡◌, true, map, ◌+◌, ◌≤◌};
 ghost use Rattle.sink.specs.Run.{Ran};
 ghost use Rattle.sink.specs.Lines.{clause_line};
 ghost use Rattle.sink.specs.Block.{split, Whole};
@@ -16,9 +17,12 @@ pub mod lines;
 mod roomy;
 pub mod store;
 
+// What marks the last word of a clause.
+pub const LAST: u32 = 2147483648;
+
 // What a run over the formula is for: the text's length; its hard lines; its soft lines; the hard clauses as words; a model's
 // lowest false clause and falsified weight; the tail's rows as words.
-#[derive(Clone, Copy)]
+#[derive(Clone, Copy, PartialEq, Eq)]
 pub enum Mode {
     Measure,
     Text,
@@ -37,7 +41,8 @@ pub struct Job {
 }
 
 // Where a run stands: the position in text or words, or the number of clauses passed; the lowest false clause's id, or 0; the
-// falsified weight; the first variables of the tail's last row, 0 before the first, and of its next row.
+// falsified weight; the first variables of the tail's last row, 0 before the first, and of its next row. The definitions (World in
+// specs/) say these numbers, so none of them is an Option.
 #[derive(Clone, Copy)]
 pub struct Sink {
     pub at: usize,
@@ -65,67 +70,32 @@ pub fn part_base(job: Job, s: Sink) -> usize
     s.at
 }
 
-// The lesser of two numbers.
-pub fn lesser(a: usize, b: usize) -> usize
-    ensures { result ≡ min a b }
+// Whether n bytes or words from where a run stands on are within an output's length.
+pub fn room(s: Sink, n: usize, len: usize) -> bool
+    ensures { result ≡ true → s.at + n ≤ len }
 {
-    if a < b {
-        return a;
-    }
-    b
-}
-
-// Whether n bytes or words from a place on are within an output's length.
-pub fn room(at: usize, n: usize, len: usize) -> bool
-    ensures { result ≡ true → at + n ≤ len }
-{
-    if at <= len {
-        return n <= len - at;
-    }
-    false
+    digits::room(s.at, n, len)
 }
 
 // The sink at another position.
 pub fn placed(s: Sink, at: usize) -> Sink
     ensures { result ≡ sink_at at s }
 {
-    Sink {
-        at,
-        bad: s.bad,
-        lost: s.lost,
-        prev: s.prev,
-        row: s.row,
-    }
+    Sink { at, ..s }
 }
 
 // Whether a run judges a model.
 pub fn evaluates(job: Job) -> bool
     ensures { result ≡ evaluating job.mode }
 {
-    let mode = job.mode;
-    match mode {
-        Mode::Measure => false,
-        Mode::Text => false,
-        Mode::SoftText => false,
-        Mode::Words => false,
-        Mode::Evaluate => true,
-        Mode::Tail => false,
-    }
+    job.mode == Mode::Evaluate
 }
 
 // Whether a run passes over hard clauses.
 pub fn skips(job: Job) -> bool
     ensures { result ≡ skipping job.mode }
 {
-    let mode = job.mode;
-    match mode {
-        Mode::Measure => false,
-        Mode::Text => false,
-        Mode::SoftText => true,
-        Mode::Words => false,
-        Mode::Evaluate => false,
-        Mode::Tail => true,
-    }
+    matches!(job.mode, Mode::SoftText | Mode::Tail)
 }
 
 // The sink after n clauses more.
@@ -151,8 +121,7 @@ pub fn emit(
     ensures { Ran (step job model.now) (map clause_line (split block.now))
         (world s text.old words.old) (world result text.new words.new) }
 {
-    let mode = job.mode;
-    match mode {
+    match job.mode {
         Mode::Measure => {
             let beside = digits::number_size(job.top) + 3;
             let at = bytes::size_block(s.at, beside, block);
@@ -162,7 +131,6 @@ pub fn emit(
             let at = bytes::text_block(text, s.at, job.top, block);
             placed(s, at)
         }
-        Mode::SoftText => s,
         Mode::Words => {
             let at = store::words_block(words, s.at, block);
             placed(s, at)
@@ -180,11 +148,9 @@ pub fn emit(
             Sink {
                 at: j.at,
                 bad: j.bad,
-                lost: s.lost,
-                prev: s.prev,
-                row: s.row,
+                ..s
             }
         }
-        Mode::Tail => s,
+        Mode::SoftText | Mode::Tail => s,
     }
 }

@@ -1,7 +1,6 @@
 // Lines of two and three literals whose numbers are spelt, where there is room.
 ghost use Rattle.std.specs.Prelude.{◌≡◌, [], ◌∷◌, ◌++◌, ◌+◌, ◌/◌, ◌≤◌, length};
 ghost use Rattle.scope.specs.Text.{newline, decimal, space, literal_text, line};
-ghost use Rattle.digits.specs.Spelled.{Spelt};
 ghost use Rattle.sink.specs.Run.{Ran, out, put};
 
 use digits::spelled::{Spelled, put_spelled, put_spelled_literal};
@@ -19,7 +18,7 @@ pub fn end_line(text: &mut [u8], at: usize) -> usize
 
 // The weight of a line and its first literal, with its number.
 fn first_literal(text: &mut [u8], at: usize, top: Spelled, k: u32, a: Spelled) -> usize
-    requires { Spelt top.value top × Spelt (k / 2) a × (at + 17 ≤ length text.old) }
+    requires { (a.value ≡ k / 2) × (at + 17 ≤ length text.old) }
     ensures ran { Ran put ((decimal top.value ++ space) ++ literal_text k) (out at text.old) (out result text.new) }
     ensures upper_bound { result ≤ at + 17 }
 {
@@ -29,7 +28,7 @@ fn first_literal(text: &mut [u8], at: usize, top: Spelled, k: u32, a: Spelled) -
 
 // The last literal of a line, and what ends it.
 fn last_literal(text: &mut [u8], at: usize, l: u32, b: Spelled) -> usize
-    requires { Spelt (l / 2) b × (at + 11 ≤ length text.old) }
+    requires { (b.value ≡ l / 2) × (at + 11 ≤ length text.old) }
     ensures ran { Ran put (literal_text l ++ 48 ∷ newline) (out at text.old) (out result text.new) }
     ensures upper_bound { result ≤ at + 11 }
 {
@@ -47,7 +46,7 @@ pub fn pair_line(
     l: u32,
     b: Spelled,
 ) -> usize
-    requires { Spelt top.value top × Spelt (k / 2) a × Spelt (l / 2) b × (at + 28 ≤ length text.old) }
+    requires { (a.value ≡ k / 2) × (b.value ≡ l / 2) × (at + 28 ≤ length text.old) }
     ensures ran { Ran put (line top.value (k ∷ l ∷ [])) (out at text.old) (out result text.new) }
     ensures upper_bound { result ≤ at + 28 }
 {
@@ -67,7 +66,7 @@ pub fn triple_line(
     m: u32,
     c: Spelled,
 ) -> usize
-    requires { Spelt top.value top × Spelt (k / 2) a × Spelt (l / 2) b × Spelt (m / 2) c × (at + 37 ≤ length text.old) }
+    requires { (a.value ≡ k / 2) × (b.value ≡ l / 2) × (c.value ≡ m / 2) × (at + 37 ≤ length text.old) }
     ensures ran { Ran put (line top.value (k ∷ l ∷ m ∷ [])) (out at text.old) (out result text.new) }
     ensures upper_bound { result ≤ at + 37 }
 {

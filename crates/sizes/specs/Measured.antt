@@ -1,11 +1,12 @@
 -- What the answers of this crate say of a file, and what an operation that starts with them answers.
-use Rattle.std.specs.Prelude.{ℕ, ◌≤◌, ◌≡◌, cond, List, leb}
+use Rattle.std.specs.Prelude.{ℕ, ◌≤◌, ◌≡◌, cond, List, leb, Result, Ok, Err}
 use Rattle.scope.specs.Parsed.{Answer, answered, with}
 use Rattle.scope.specs.Instance.{Instance, parse}
 use Rattle.scope.specs.Formula.{variables, bounded_variables, most_variables}
 use Rattle.scope.specs.Operations.{of_size, of_bound, formula_size}
 use Rattle.scope.specs.Answers.{given}
-use Rattle.scope.specs.declared.Refusal.{Refusal}
+use Rattle.scope.specs.declared.refusal.Reason.{Reason}
+use Rattle.scope.specs.declared.refusal.Refusal.{Refusal}
 use Rattle.scope.specs.declared.FormulaSize.{FormulaSize}
 use Rattle.theory.specs.Accepted.{ValidInstance}
 use Rattle.constraint.specs.declared.kinds.Head.{Head}
@@ -15,8 +16,6 @@ use Rattle.sizing.specs.declared.Size.{Size}
 use Rattle.sizing.specs.Sums.{sum}
 use Rattle.sizing.specs.Whole.{stored}
 use Rattle.part_sizes.specs.declared.walk.Total.{Total}
-use Rattle.sizes.specs.declared.sized.Measured.{Measured}
-use Rattle.sizes.specs.declared.sized.Bounded.{Bounded}
 use Rattle.sizes.specs.Whole.{Numbers}
 
 -- the instance of a file, or refusals 1 to 6, 8 and 19; with a bound 7 too
@@ -49,22 +48,22 @@ pub record RefusedBy (a : Answer Instance) (f : Refusal) : Type 0 where
   pub answer : a ≡ given f
 
 -- what the answers say
-abbrev pub measured_as : List ℕ → List ℕ → List ℕ → List ℕ → Measured → Type 0
-measured_as s d te tg (Measured.Sized h z) = SizedBy s d te tg h z
-measured_as s d te tg (Measured.Refused f) = RefusedBy (sized_of s) f
+abbrev pub measured_as : List ℕ → List ℕ → List ℕ → List ℕ → Result (Head × Size) Refusal → Type 0
+measured_as s d te tg (Ok r) = SizedBy s d te tg r.0 r.1
+measured_as s d te tg (Err f) = RefusedBy (sized_of s) f
 
-abbrev pub bounded_as : List ℕ → ℕ → List ℕ → List ℕ → List ℕ → Bounded → Type 0
-bounded_as s B d te tg (Bounded.Sized h z w) = BoundedBy s B d te tg h z w
-bounded_as s B d te tg (Bounded.Refused f) = RefusedBy (bounded_of s B) f
+abbrev pub bounded_as : List ℕ → ℕ → List ℕ → List ℕ → List ℕ → Result (Head × Size × FormulaSize) Refusal → Type 0
+bounded_as s B d te tg (Ok r) = BoundedBy s B d te tg r.0 r.1 r.2
+bounded_as s B d te tg (Err f) = RefusedBy (bounded_of s B) f
 
 -- 8, without and with the tail
 abbrev pub too_many : Refusal
-too_many = record { number = 8; value = 0 }
+too_many = record { reason = Reason.TooManyVariables; value = 0 }
 
-abbrev pub judged_size : Head → Size → Measured
-judged_size h z = cond (leb z.variables most_variables) (Measured.Sized h z) (Measured.Refused too_many)
+abbrev pub judged_size : Head → Size → Result (Head × Size) Refusal
+judged_size h z = cond (leb z.variables most_variables) (Ok (h, z)) (Err too_many)
 
-abbrev pub judged_total : Head → Total → Bounded
+abbrev pub judged_total : Head → Total → Result (Head × Size × FormulaSize) Refusal
 judged_total h t =
     let w = stored (sum t.formula t.tail) in
-    cond (leb w.variables most_variables) (Bounded.Sized h t.formula w) (Bounded.Refused too_many)
+    cond (leb w.variables most_variables) (Ok (h, t.formula, w)) (Err too_many)

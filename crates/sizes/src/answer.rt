@@ -1,42 +1,34 @@
 // The operation of sizing, with stores of its own.
 ghost use Rattle.std.specs.Prelude.{◌≡◌, ◌*◌, ◌≤◌, length};
-ghost use Rattle.scope.specs.Answers.{sizes_means};
+ghost use Rattle.scope.specs.Answers.{means};
 ghost use Rattle.scope.specs.Operations.{sizes_of};
 ghost use Rattle.tables.specs.Room.{group_room};
 
-use crate::sized::{Bounded, measure_bound};
-use scope::SizesAnswer;
+use crate::sized::measure_bound;
+use scope::{FormulaSize, Refusal};
 
 // The sizes, with a table for the groups that has the rows that the file may need.
-fn sizes_in(file: &[u8], bound: u64, groups: &mut [u8]) -> SizesAnswer
+fn sizes_in(file: &[u8], bound: u64, groups: &mut [u8]) -> Result<FormulaSize, Refusal>
     requires { group_room file.now * 126 ≤ length groups.old }
-    ensures { sizes_means result ≡ sizes_of file.now bound }
+    ensures { means result ≡ sizes_of file.now bound }
 {
     let mut durations = tables::durations();
     let mut resources = tables::resource_rows();
     let mut list = tables::list();
-    let m = measure_bound(
+    let (_, _, z) = measure_bound(
         file,
         bound,
         &mut durations,
         &mut resources,
         groups,
         &mut list,
-    );
-    match m {
-        Bounded::Sized(_, _, z) => SizesAnswer::Sizes(z),
-        Bounded::Refused(x) => SizesAnswer::Refused(x),
-    }
+    )?;
+    Ok(z)
 }
 
 // What stores the hard clauses and the tail need, or refusals 1 to 8, 19 and 22. One list of each constraint is filled, and no clause is written.
-pub fn sizes(file: &[u8], bound: u64) -> SizesAnswer
-    ensures { sizes_means result ≡ sizes_of file.now bound }
+pub fn sizes(file: &[u8], bound: u64) -> Result<FormulaSize, Refusal>
+    ensures { means result ≡ sizes_of file.now bound }
 {
-    if tables::dated(file) {
-        let mut groups = tables::window_rows();
-        return sizes_in(file, bound, &mut groups);
-    }
-    let mut groups = tables::group_rows();
-    sizes_in(file, bound, &mut groups)
+    tables::with_groups(file, |groups| sizes_in(file, bound, groups))
 }

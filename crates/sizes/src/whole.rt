@@ -22,6 +22,7 @@ pub fn whole_size(
     requires { Opened file.now durations.now resources.now groups.now list.old head bound }
     ensures { WholeOf (instance_of file.now durations.now resources.now groups.now head) bound result }
 {
+    // of fixed size: there is no heap
     let mut users = [0u16; 102500];
     let mut store = [0u32; 34816];
     fill_users(resources, head.events, &mut users);

@@ -6,7 +6,7 @@ ghost use Rattle.sizing.specs.Blocks.{starts_size, use_size};
 ghost use Rattle.sizing.specs.Whole.{stored};
 
 use crate::Size;
-use crate::sums::multiply;
+use crate::sums::{multiply, nothing};
 use scope::FormulaSize;
 
 // Y and S with the clauses of the starts.
@@ -19,8 +19,7 @@ pub fn starts_size(events: u64, times: u64) -> Size
         variables: 2 * cells,
         clauses: 2 * cells,
         words: events * (5 * times - 1),
-        units: 0,
-        weight: 0,
+        ..nothing()
     }
 }
 
@@ -33,8 +32,7 @@ fn or_size(n: u64) -> Size
         variables: 1,
         clauses: n + 1,
         words: 3 * n + 1,
-        units: 0,
-        weight: 0,
+        ..nothing()
     }
 }
 

@@ -5,7 +5,7 @@ ghost use Rattle.sizing.specs.Counts.{units_size, shorts_size, low_size, count_s
 
 use crate::Size;
 use crate::rows::rows_size;
-use crate::sums::{beyond, lower, plus};
+use crate::sums::{nothing, plus};
 
 // The units of one weight for k columns; the weight 0 means hard, and then one stands for all.
 fn units_size(weight: u64, k: u64) -> Size
@@ -13,21 +13,17 @@ fn units_size(weight: u64, k: u64) -> Size
     ensures { result ≡ units_size weight k }
 {
     if weight == 0 {
-        let one = lower(1, k);
+        let one = k.min(1);
         return Size {
-            variables: 0,
             clauses: one,
             words: one,
-            units: 0,
-            weight: 0,
+            ..nothing()
         };
     }
     Size {
-        variables: 0,
-        clauses: 0,
-        words: 0,
         units: k,
         weight: k * weight,
+        ..nothing()
     }
 }
 
@@ -41,8 +37,7 @@ fn shorts_size(weight: u64, k: u64) -> Size
             variables: k,
             clauses: 4 * k,
             words: 8 * k,
-            units: 0,
-            weight: 0,
+            ..nothing()
         };
     }
     Size {
@@ -60,7 +55,7 @@ fn low_size(weight: u64, lo: u64, free: bool) -> Size
     ensures { result ≡ low_size weight lo free }
 {
     if free {
-        let k = beyond(lo, 1);
+        let k = lo.saturating_sub(1);
         return shorts_size(weight, k);
     }
     units_size(weight, lo)
@@ -72,7 +67,7 @@ fn columns_of(weight: u64, hi: u64, n: u64) -> u64
     ensures { result ≡ columns weight hi n }
 {
     if weight == 0 {
-        return lower(n, hi + 1);
+        return n.min(hi + 1);
     }
     n
 }
@@ -96,6 +91,6 @@ pub fn list_size(weight: u64, lo: u64, hi: u64, free: bool, n: u64) -> Size
     requires { (weight ≤ 1000) × (n ≤ 255) × (lo ≤ hi) × (lo ≤ n) }
     ensures { result ≡ list_size weight lo hi free n }
 {
-    let lowered = lower(hi, n);
+    let lowered = hi.min(n);
     count_size(weight, lo, lowered, free, n)
 }

@@ -1,6 +1,7 @@
-#![tactic(auto)]
 // The sizes of a formula by arithmetic, with no walk over its clauses: variables, hard clauses, words, soft units and the
 // sum of their weights. Crate measuring ties each size to the items that it stands for.
+#![tactic(auto)]
+
 pub mod blocks;
 pub mod counts;
 pub mod nodes;

@@ -3,6 +3,7 @@ ghost use Rattle.std.specs.Prelude.{◌≡◌, ◌≤◌};
 ghost use Rattle.sizing.specs.NodeSizes.{node_sizes};
 
 use crate::Size;
+use crate::sums::nothing;
 
 // So many nodes, with so many inputs in all.
 pub fn nodes_size(nodes: u64, inputs: u64) -> Size
@@ -13,7 +14,6 @@ pub fn nodes_size(nodes: u64, inputs: u64) -> Size
         variables: nodes,
         clauses: inputs + nodes,
         words: 3 * inputs + nodes,
-        units: 0,
-        weight: 0,
+        ..nothing()
     }
 }

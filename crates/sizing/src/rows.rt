@@ -6,20 +6,19 @@ ghost use Rattle.sizing.specs.Rows.{first_row, later_row, equal_rows};
 ghost use Rattle.sizing.specs.Tail.{tail_add};
 
 use crate::Size;
-use crate::sums::{beyond, lower, multiply, nothing, plus};
+use crate::sums::{multiply, nothing, plus};
 
 // The first row of a counter, for a literal of the weight given.
 fn first_row(columns: u64, weight: u64) -> Size
     requires { columns ≤ 4096 }
     ensures { result ≡ first_row columns weight }
 {
-    let low = lower(columns, weight);
+    let low = columns.min(weight);
     Size {
         variables: columns,
         clauses: 2 * columns,
         words: 3 * columns + low,
-        units: 0,
-        weight: 0,
+        ..nothing()
     }
 }
 
@@ -28,13 +27,12 @@ fn later_row(columns: u64, weight: u64) -> Size
     requires { columns ≤ 4096 }
     ensures { result ≡ later_row columns weight }
 {
-    let past = beyond(columns, weight);
+    let past = columns.saturating_sub(weight);
     Size {
         variables: columns,
         clauses: 3 * columns + past,
         words: 7 * columns + 4 * past,
-        units: 0,
-        weight: 0,
+        ..nothing()
     }
 }
 
@@ -57,11 +55,9 @@ fn hard_unit() -> Size
     ensures { result ≡ hard_unit }
 {
     Size {
-        variables: 0,
         clauses: 1,
         words: 1,
-        units: 0,
-        weight: 0,
+        ..nothing()
     }
 }
 

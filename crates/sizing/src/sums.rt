@@ -1,5 +1,5 @@
 // Sizes added up and multiplied.
-ghost use Rattle.std.specs.Prelude.{◌≡◌, ◌-◌, min};
+ghost use Rattle.std.specs.Prelude.{◌≡◌};
 ghost use Rattle.sizing.specs.Sums.{none, sum, multiple, Fits64};
 
 use crate::Size;
@@ -43,24 +43,4 @@ pub fn multiply(k: u64, a: Size) -> Size
         units: k * a.units,
         weight: k * a.weight,
     }
-}
-
-// The lower of two numbers.
-pub fn lower(a: u64, b: u64) -> u64
-    ensures { result ≡ min a b }
-{
-    if a < b {
-        return a;
-    }
-    b
-}
-
-// What a has more than b.
-pub fn beyond(a: u64, b: u64) -> u64
-    ensures { result ≡ a - b }
-{
-    if a < b {
-        return 0;
-    }
-    a - b
 }

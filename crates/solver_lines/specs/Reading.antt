@@ -1,10 +1,8 @@
 -- What the functions of this crate say of a text from an offset on.
-use Rattle.std.specs.Prelude.{ℕ, ◌+◌, ◌<◌, ◌≡◌, Bool, cond, List, [], ◌∷◌, ◌++◌, map, ltb, length, drop}
+use Rattle.std.specs.Prelude.{ℕ, ◌+◌, ◌<◌, ◌≡◌, Bool, cond, List, [], ◌∷◌, ◌++◌, map, ltb, length, drop, Option, Some, None, Result, Ok, Err}
 use Rattle.scope.specs.SolverText.{Piece, until, word_at, words_after, Token, word, after_v, line_tokens}
 use Rattle.solver_words.specs.Reading.{word_from}
 use Rattle.solver_lines.specs.Noting.{Left, left, stopped, noting}
-use Rattle.solver_lines.specs.declared.note.Turn.{Turn}
-use Rattle.solver_lines.specs.declared.line.Line.{Line}
 
 -- the bytes of a line from an offset on, and the offset of its end
 abbrev pub line_rest : List ℕ → ℕ → List ℕ
@@ -31,14 +29,22 @@ words_from at l = word_at at l ++ words_after at l
 abbrev pub tokens_from : List ℕ → ℕ → List Token
 tokens_from s at = map word (words_from at (line_rest s at))
 
+-- the offset after a word or a space that is passed, with whether the closing 0 has come
+abbrev pub Turn : Type 0
+Turn = Option (ℕ × Bool)
+
+-- the offset of a line's end with the same; or the offset of a fault
+abbrev pub Line : Type 0
+Line = Result (ℕ × Bool) ℕ
+
 -- a word that is taken: what is noted of it, and the offset that is given, e where none is
 abbrev pub turn_said : Turn → ℕ → List ℕ → Left
-turn_said (Turn.Next next closed) at st = left st closed
-turn_said Turn.Fault at st = stopped at
+turn_said (Some t) at st = left st t.1
+turn_said None at st = stopped at
 
 abbrev pub turn_next : Turn → ℕ → ℕ
-turn_next (Turn.Next next closed) e = next
-turn_next Turn.Fault e = e
+turn_next (Some t) e = t.0
+turn_next None e = e
 
 pub record WordTaken (n : ℕ) (s : List ℕ) (at : ℕ) (closed : Bool) (st st' : List ℕ) (r : Turn) : Type 0 where
   pub said : turn_said r at st' ≡ noting n st closed (word_token s at ∷ [])
@@ -46,22 +52,22 @@ pub record WordTaken (n : ℕ) (s : List ℕ) (at : ℕ) (closed : Bool) (st st'
 
 -- a space or a word that is passed: what is left is read from the offset that is given
 abbrev pub step_said : ℕ → List ℕ → Turn → ℕ → List ℕ → Left
-step_said n s (Turn.Next next closed) at st = noting n st closed (tokens_from s next)
-step_said n s Turn.Fault at st = stopped at
+step_said n s (Some t) at st = noting n st t.1 (tokens_from s t.0)
+step_said n s None at st = stopped at
 
 pub record Stepped (n : ℕ) (s : List ℕ) (at : ℕ) (closed : Bool) (st st' : List ℕ) (r : Turn) : Type 0 where
   pub said : step_said n s r at st' ≡ noting n st closed (tokens_from s at)
   pub ends : end_of s (turn_next r at) ≡ end_of s at
-  pub on : (next : ℕ) (c : Bool) → r ≡ Turn.Next next c → (at < next) × (next < length s + 1)
+  pub on : (next : ℕ) (c : Bool) → r ≡ Some (next, c) → (at < next) × (next < length s + 1)
 
 -- a line, or what is left of it: what is noted, and the offset of its end, e where none is given
 abbrev pub line_said : Line → List ℕ → Left
-line_said (Line.Read end closed) st = left st closed
-line_said (Line.Fault at) st = stopped at
+line_said (Ok l) st = left st l.1
+line_said (Err at) st = stopped at
 
 abbrev pub line_next : Line → ℕ → ℕ
-line_next (Line.Read end closed) e = end
-line_next (Line.Fault at) e = e
+line_next (Ok l) e = l.0
+line_next (Err at) e = e
 
 -- from tokens ts, in the line that an offset is in
 pub record TokensRead (n : ℕ) (s : List ℕ) (at : ℕ) (closed : Bool) (st st' : List ℕ) (ts : List Token) (r : Line) : Type 0 where

@@ -1,5 +1,6 @@
-#![tactic(auto)]
 // The lines of a solver's text, and the literals of its v lines noted in a store with a byte for each variable.
+#![tactic(auto)]
+
 mod line;
 mod lines;
 mod note;

@@ -23,17 +23,11 @@ pub fn read_lines(text: &[u8], store: &mut [u8]) -> Line
     let most = store.len() as u32;
     let mut at: usize = 0;
     let mut closed = false;
+    // a line moves the position, which is no counter
     while at < text.len() {
-        let l = read_line(text, at, closed, most, store);
-        match l {
-            Line::Read(end, closes) => {
-                at = after_end(text, end);
-                closed = closes;
-            }
-            Line::Fault(fault) => {
-                return Line::Fault(fault);
-            }
-        }
+        let (end, closes) = read_line(text, at, closed, most, store)?;
+        at = after_end(text, end);
+        closed = closes;
     }
-    Line::Read(at, closed)
+    Ok((at, closed))
 }

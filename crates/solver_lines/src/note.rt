@@ -6,6 +6,7 @@ ghost use Rattle.solver_lines.specs.Reading.{WordTaken};
 
 use solver_words::{Word, word_at};
 
+// The marks stay bytes: they stand in a lent store, since there is no heap.
 const MINUS: u8 = 1;
 
 const PLAIN: u8 = 2;
@@ -24,32 +25,31 @@ fn note(store: &mut [u8], v: u32, mark: u8)
     store[i] = TWICE;
 }
 
-// What follows a word: the offset after it and whether the closing 0 has come; or nothing, where it is a fault.
-#[derive(Clone, Copy)]
-pub enum Turn {
-    Next(usize, bool),
-    Fault,
-}
-
-// The word at an offset. None may follow the closing 0.
-pub fn take_word(text: &[u8], at: usize, closed: bool, most: u32, store: &mut [u8]) -> Turn
+// The word at an offset: the offset after it and whether the closing 0 has come; none where it is a fault. None may follow the
+// closing 0.
+pub fn take_word(
+    text: &[u8],
+    at: usize,
+    closed: bool,
+    most: u32,
+    store: &mut [u8],
+) -> Option<(usize, bool)>
     requires { most ≡ length store.old }
     ensures { WordTaken most text.now at closed store.old store.new result }
 {
     if closed {
-        return Turn::Fault;
+        return None;
     }
-    let w = word_at(text, at, most);
-    match w {
+    match word_at(text, at, most) {
         Word::Positive(v, next) => {
             note(store, v, PLAIN);
-            Turn::Next(next, false)
+            Some((next, false))
         }
         Word::Negative(v, next) => {
             note(store, v, MINUS);
-            Turn::Next(next, false)
+            Some((next, false))
         }
-        Word::Closing(next) => Turn::Next(next, true),
-        Word::Malformed => Turn::Fault,
+        Word::Closing(next) => Some((next, true)),
+        Word::Malformed => None,
     }
 }

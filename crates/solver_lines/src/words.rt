@@ -3,19 +3,15 @@ ghost use Rattle.std.specs.Prelude.{◌≡◌, ◌<◌, length, get_or};
 ghost use Rattle.solver_lines.specs.Reading.{Stepped, WordsRead};
 
 use crate::line::Line;
-use crate::note::{Turn, take_word};
+use crate::note::take_word;
 
-const LINE_END: u8 = 10;
-
-const SPACE: u8 = 32;
-
-// A space or a word is passed.
-fn step(text: &[u8], at: usize, closed: bool, most: u32, store: &mut [u8]) -> Turn
+// A space or a word is passed: the next offset and whether the closing 0 has come; none where it is a fault.
+fn step(text: &[u8], at: usize, closed: bool, most: u32, store: &mut [u8]) -> Option<(usize, bool)>
     requires { (at < length text.now) × (get_or text.now at 0 ≡ 10 → ⊥) × (most ≡ length store.old) }
     ensures { Stepped most text.now at closed store.old store.new result }
 {
-    if text[at] == SPACE {
-        return Turn::Next(at + 1, closed);
+    if text[at] == b' ' {
+        return Some((at + 1, closed));
     }
     take_word(text, at, closed, most, store)
 }
@@ -33,16 +29,16 @@ pub fn read_words(
 {
     let mut at = from;
     let mut closed = closed_before;
+    // a word moves the position, which is no counter
     while at < text.len() {
-        if text[at] == LINE_END {
-            return Line::Read(at, closed);
+        if text[at] == b'\n' {
+            return Ok((at, closed));
         }
-        let t = step(text, at, closed, most, store);
-        let Turn::Next(next, closes) = t else {
-            return Line::Fault(at);
+        let Some((next, closes)) = step(text, at, closed, most, store) else {
+            return Err(at);
         };
         at = next;
         closed = closes;
     }
-    Line::Read(at, closed)
+    Ok((at, closed))
 }

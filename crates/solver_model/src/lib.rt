@@ -1,6 +1,7 @@
-#![tactic(auto)]
 // The model that a solver's text gives, filled into a store.
+#![tactic(auto)]
+
 mod filling;
 mod settling;
 
-pub use filling::{Given, fill};
+pub use filling::fill;

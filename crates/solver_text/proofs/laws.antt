@@ -1,3 +1,2 @@
 -- Laws, for other crates to use.
-pub mod Copied
 pub mod Read

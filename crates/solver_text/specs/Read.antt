@@ -1,11 +1,10 @@
 -- What is told of a solver's text, and what the lent model and the store hold afterwards.
-use Rattle.std.specs.Prelude.{ℕ, ◌≤◌, ◌≡◌, List, length, take, replicate}
+use Rattle.std.specs.Prelude.{ℕ, ◌≤◌, ◌≡◌, List, length, take, replicate, Ok, Err}
 use Rattle.scope.specs.Parsed.{Answer, answered, refusal}
 use Rattle.scope.specs.Operations.{solver_text_of}
 use Rattle.scope.specs.Answers.{solver_text_means}
 use Rattle.scope.specs.declared.Objective.{Objective}
-use Rattle.evaluation.specs.declared.Evaluation.{Evaluation}
-use Rattle.evaluation.specs.Evaluated.{part_of, part_length, answer_of}
+use Rattle.evaluation.specs.Evaluated.{Evaluation, part_of, part_length, answer_of}
 
 -- the answer that an evaluation of a model m stands for
 abbrev pub read_means : Evaluation → List ℕ → Answer (List ℕ × (List ℕ × Objective))
@@ -13,13 +12,13 @@ read_means e m = solver_text_means m (part_of e m) (answer_of e)
 
 -- a model that holds has so many bytes in the store
 abbrev pub Room : Evaluation → (model store : ℕ) → Type 0
-Room (Evaluation.Holds n o) model store = model ≤ store
-Room (Evaluation.Refused f) model store = Unit {0}
+Room (Ok _) model store = model ≤ store
+Room (Err _) model store = Unit {0}
 
 -- what stands in the lent model afterwards
 abbrev pub handed_over : Evaluation → (store model : List ℕ) → List ℕ
-handed_over (Evaluation.Holds n o) store model = take (length model) store
-handed_over (Evaluation.Refused f) store model = model
+handed_over (Ok _) store model = take (length model) store
+handed_over (Err _) store model = model
 
 -- the model stands at the front of the store, for a lent model of so many bytes
 pub record ReadAs (file output : List ℕ) (model : ℕ) (store store' : List ℕ) (e : Evaluation) : Type 0 where

@@ -1,5 +1,6 @@
-#![tactic(auto)]
 // What a solver printed, read into a lent model, and the model decoded.
+#![tactic(auto)]
+
 mod handover;
 mod operation;
 

@@ -8,11 +8,10 @@ ghost use Rattle.solver_text.specs.Read.{ReadAs, ReadInto};
 use crate::handover::hand_over;
 use constraint::Head;
 use evaluation::Evaluation;
-use marks::clear_bytes;
 use model::evaluate_read;
-use sizes::{Measured, measure};
+use sizes::measure;
 use sizing::Size;
-use solver_model::{Given, fill};
+use solver_model::fill;
 
 // A text for a file that was read and sized: 9, 10, 20 and 21, then 13 of the model at the front of the store.
 fn read_sized(
@@ -31,20 +30,9 @@ fn read_sized(
         × (store.old ≡ replicate (length store.old) 0) }
     ensures { ReadAs file.now output.now model_length store.old store.new result }
 {
-    let given = fill(output, model_length, size.variables, store);
-    match given {
-        Given::Model => evaluate_read(
-            file,
-            &store[..model_length],
-            head,
-            size,
-            durations,
-            resources,
-            groups,
-            list,
-        ),
-        Given::Refused(f) => Evaluation::Refused(f),
-    }
+    fill(output, model_length, size.variables, store)?;
+    let model = &store[..model_length];
+    evaluate_read(file, model, head, size, durations, resources, groups, list)
 }
 
 // The same with the file's own refusals and 8 before; the store holds zeros, and the groups' table has the rows that the file may need.
@@ -62,25 +50,22 @@ fn read_zeroed_in(
     let mut durations = tables::durations();
     let mut resources = tables::resource_rows();
     let mut list = tables::list();
-    let m = measure(file, &mut durations, &mut resources, groups, &mut list);
-    match m {
-        Measured::Sized(head, size) => read_sized(
-            file,
-            output,
-            model_length,
-            store,
-            head,
-            size,
-            &durations,
-            &resources,
-            groups,
-            &mut list,
-        ),
-        Measured::Refused(f) => Evaluation::Refused(f),
-    }
+    let (head, size) = measure(file, &mut durations, &mut resources, groups, &mut list)?;
+    read_sized(
+        file,
+        output,
+        model_length,
+        store,
+        head,
+        size,
+        &durations,
+        &resources,
+        groups,
+        &mut list,
+    )
 }
 
-// The same, with the table that the file needs.
+// The same, with the table that the file needs, chosen here and not by tables::with_groups: tried, and a caller is not told what a closure leaves in another `&mut`.
 fn read_zeroed(file: &[u8], output: &[u8], model_length: usize, store: &mut [u8]) -> Evaluation
     requires { store.old ≡ replicate (length store.old) 0 }
     ensures { ReadAs file.now output.now model_length store.old store.new result }
@@ -98,9 +83,9 @@ fn read_zeroed(file: &[u8], output: &[u8], model_length: usize, store: &mut [u8]
 pub fn solver_text(file: &[u8], output: &[u8], model: &mut [u8], store: &mut [u8]) -> Evaluation
     ensures { ReadInto file.now output.now model.old store.old model.new store.new result }
 {
-    clear_bytes(store);
+    store.fill(0);
     let e = read_zeroed(file, output, model.len(), store);
     hand_over(e, store, model);
-    clear_bytes(store);
+    store.fill(0);
     e
 }

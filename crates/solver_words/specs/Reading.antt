@@ -1,15 +1,19 @@
 -- What is read of a text from an offset on: a variable, and a word with the offset after it.
-use Rattle.std.specs.Prelude.{ℕ, ◌+◌, ◌≡◌, ◌||◌, cond, List, [], ◌∷◌, eqb, length, drop}
+use Rattle.std.specs.Prelude.{ℕ, ◌+◌, ◌≡◌, ◌||◌, cond, List, [], ◌∷◌, eqb, length, drop, Some, None}
+use Rattle.std.specs.Prelude as prelude
 use Rattle.std.proofs.Math.Option.{Option, none, some}
 use Rattle.scope.specs.Cnf.{pos, neg}
 use Rattle.scope.specs.SolverText.{until, numeral, at_most, variable_in, literal, closing, malformed, word_of}
 use Rattle.scope.specs.SolverText as solver
-use Rattle.solver_words.specs.declared.numeral.Variable.{Variable}
 use Rattle.solver_words.specs.declared.word.Word.{Word}
 
 -- the word that begins at an offset: "runs to the next space or the line's end"
 abbrev pub word_from : List ℕ → ℕ → List ℕ
 word_from s at = until 32 (until 10 (drop at s))
+
+-- a variable that a function returns, with the offset after it
+abbrev pub Variable : Type 0
+Variable = prelude.Option (ℕ × ℕ)
 
 -- what was read with the offset after it
 abbrev pub before : Option ℕ → ℕ → Option (ℕ × ℕ)
@@ -27,20 +31,20 @@ abbrev pub variable_at : ℕ → List ℕ → ℕ → Option (ℕ × ℕ)
 variable_at n s at = before (variable_in n (word_from s at)) (at + length (word_from s at))
 
 abbrev pub variable_said : Variable → Option (ℕ × ℕ)
-variable_said (Variable.Of v next) = some (v, next)
-variable_said Variable.Nothing = none
+variable_said (Some r) = some r
+variable_said None = none
 
 -- a number of the value v that ends at a byte b, if it does
 abbrev pub ended_by : (b v at : ℕ) → Variable
-ended_by b v at = cond (eqb b 32 || eqb b 10) (Variable.Of v at) Variable.Nothing
+ended_by b v at = cond (eqb b 32 || eqb b 10) (Some (v, at)) None
 
 abbrev pub positive_of : Variable → Word
-positive_of (Variable.Of v next) = Word.Positive v next
-positive_of Variable.Nothing = Word.Malformed
+positive_of (Some r) = Word.Positive r.0 r.1
+positive_of None = Word.Malformed
 
 abbrev pub negative_of : Variable → Word
-negative_of (Variable.Of v next) = Word.Negative v next
-negative_of Variable.Nothing = Word.Malformed
+negative_of (Some r) = Word.Negative r.0 r.1
+negative_of None = Word.Malformed
 
 -- a 0 closes where nothing stands between it and the word's end
 abbrev pub closed_by : List ℕ → ℕ → Word

@@ -1,16 +1,8 @@
 // What a word is, by its first byte.
 ghost use Rattle.std.specs.Prelude.{◌≡◌};
-ghost use Rattle.solver_words.specs.Reading.{WordRead, closing_at, word_said, negative_of, positive_of};
+ghost use Rattle.solver_words.specs.Reading.{WordRead, closing_at};
 
-use crate::numeral::{Variable, variable_at};
-
-const LINE_END: u8 = 10;
-
-const SPACE: u8 = 32;
-
-const MINUS: u8 = 45;
-
-const ZERO: u8 = 48;
+use crate::numeral::variable_at;
 
 // A variable without a minus or with one, or the closing 0, each with the offset after the word; or neither.
 #[derive(Clone, Copy)]
@@ -21,24 +13,6 @@ pub enum Word {
     Malformed,
 }
 
-fn positive(v: Variable) -> Word
-    ensures { result ≡ positive_of v }
-{
-    match v {
-        Variable::Of(v, next) => Word::Positive(v, next),
-        Variable::Nothing => Word::Malformed,
-    }
-}
-
-fn negative(v: Variable) -> Word
-    ensures { result ≡ negative_of v }
-{
-    match v {
-        Variable::Of(v, next) => Word::Negative(v, next),
-        Variable::Nothing => Word::Malformed,
-    }
-}
-
 // The closing 0, where the word ends after it.
 fn closing(text: &[u8], next: usize) -> Word
     ensures { result ≡ closing_at text.now next }
@@ -47,10 +21,10 @@ fn closing(text: &[u8], next: usize) -> Word
         return Word::Closing(next);
     }
     let b = text[next];
-    if b == SPACE {
+    if b == b' ' {
         return Word::Closing(next);
     }
-    if b == LINE_END {
+    if b == b'\n' {
         return Word::Closing(next);
     }
     Word::Malformed
@@ -64,13 +38,17 @@ pub fn word_at(text: &[u8], at: usize, most: u32) -> Word
         return Word::Malformed;
     }
     let b = text[at];
-    if b == MINUS {
-        let v = variable_at(text, at + 1, most);
-        return negative(v);
+    if b == b'-' {
+        return match variable_at(text, at + 1, most) {
+            Some((v, next)) => Word::Negative(v, next),
+            None => Word::Malformed,
+        };
     }
-    if b == ZERO {
+    if b == b'0' {
         return closing(text, at + 1);
     }
-    let v = variable_at(text, at, most);
-    positive(v)
+    match variable_at(text, at, most) {
+        Some((v, next)) => Word::Positive(v, next),
+        None => Word::Malformed,
+    }
 }

@@ -1,19 +1,19 @@
--- The loop that reads a clause's literals: what is left falls, and the literals are no more than the bytes.
-use mathlib.Core.Path.{◌≡◌, refl, sym, subst}
-use mathlib.Core.Bool.{Bool, true, false, cond}
+-- The loop that reads a clause's literals: what is left falls, and what it comes to.
+use mathlib.Core.Path.{◌≡◌, refl, sym, ap, subst}
+use mathlib.Core.Bool.{true, false, cond}
 use mathlib.Core.List.{List}
-use Prim.Native.Nat.{ℕ, suc, ◌+◌, ◌-◌, ◌≤◌, ◌<◌}
+use Prim.Native.Nat.{ℕ, suc, ◌+◌, ◌-◌, ◌/◌, ◌%◌, ◌≤◌, ◌<◌}
 use native.Mathlib.Omega.{arith}
 use lib.Dec.{eqb}
 use lib.ListN.{length}
+use borrow.Author.Tests.{eq-eqb, ne_eqb}
+use Rattle.std.specs.Prelude.{Option, Some, None}
 use Rattle.scope.specs.Parsed.{Parsed, got, refused}
 use Rattle.scope.specs.Number.{number}
 use Rattle.parsing.proofs.laws.Numbers.{number-got}
-use Rattle.marks.specs.Marks.{marks_of}
-use Rattle.reader.proofs.Loops.{either, nearer}
-use Rattle.spelling.specs.declared.literals.Spelling.{Spelling}
-use Rattle.spelling.specs.declared.literals.Literals.TheVariants as literals
-use Rattle.spelling.specs.Spelt.{literal_ok, spelling, spelt, spelt_by, Spelled, spell_turn}
+use Rattle.marks.specs.Marks.{marks_of, put_mark}
+use Rattle.reader.proofs.Loops.{Left, left_over, left_more, either, nearer}
+use Rattle.spelling.specs.Spelt.{literal_ok, Spelling, spelling, spelt, spelt_by, Spelled, spell_turn, spelt_from, literals_at}
 
 module _ (s : List ℕ) where
   -- literals that are read
@@ -35,21 +35,54 @@ module _ (s : List ℕ) where
         subst (λ t. to_spell (spell_turn s last x) < cond t (suc (length s - x.state.at)) 0) (sym e)
         (spell_less x.state x.marks (number s x.state.at) refl)
 
-    -- the literals are no more than the bytes that were read
-    abbrev Sized : Spelling → Type 0
-    Sized p = (p.size ≤ p.at) × (p.size ≤ length s)
+    abbrev going : ℕ → ℕ → List ℕ → Spelled
+    going at size ms = record { state = spelling at size; marks = ms }
 
-    either_sized : (t : Bool) (a b : Spelling) → Sized a → Sized b → Sized (cond t a b)
-    either_sized true a b x y = x
-    either_sized false a b x y = y
+    abbrev over : ℕ → ℕ → Option (ℕ × ℕ) → List ℕ → Spelled
+    over at size found ms = record { state = spelt at size found; marks = ms }
 
-    sized : (p : Spelling) (ms : List ℕ) → Sized p → (x : Parsed ℕ) → number s p.at ≡ x → Sized (spelt_by last ms p x)
-    sized p ms z (refused k v) e = z
-    sized p ms z (got l next) e =
-        let k = number-got s p.at e in
-        let on : Sized (spelt next p.size literals.Misformed) = (omega (arith, z.0, k.ahead), z.1) in
-        either_sized (eqb l 0) _ _ on
-        (either_sized (literal_ok last (marks_of ms) l) (spelling next (p.size + 1)) _ (omega (arith, z.0, k.ahead), omega (arith, z.0, k.ahead, k.inside)) on)
+    -- the literals at an offset, of which size were read, with the marks ms; those are no more than the bytes
+    pub record Going (from : ℕ) (ms₀ : List ℕ) (at size : ℕ) (ms : List ℕ) : Type 0 where
+      pub early : size ≤ at
+      pub few : size ≤ length s
+      pub left : Left (λ x. x.state.more) (spell_turn s last) to_spell (spelt_from s last (suc (length s)) (going from 0 ms₀)) (going at size ms)
 
-    pub spell_sizes : (p : Spelling) (ms : List ℕ) → p.size ≤ p.at → p.size ≤ length s → Sized (spelt_by last ms p (number s p.at))
-    spell_sizes p ms a b = sized p ms (a, b) (number s p.at) refl
+    pub going-start : (at : ℕ) (ms : List ℕ) → Going at ms at 0 ms
+    going-start at ms =
+        record { early = omega arith; few = omega arith; left = record { fuel = suc (length s); enough = omega arith; todo = refl } }
+
+    module _ (from : ℕ) (ms₀ : List ℕ) (at size : ℕ) (ms : List ℕ) (g : Going from ms₀ at size ms) where
+      turn : (q : Spelled) → spell_turn s last (going at size ms) ≡ q
+          → Left (λ x. x.state.more) (spell_turn s last) to_spell (spelt_from s last (suc (length s)) (going from 0 ms₀)) q
+      turn q e =
+          rw e at (left_more (λ x. x.state.more) (spell_turn s last) to_spell _ (going at size ms) g.left refl (spell_falls (going at size ms) refl))
+
+      -- what is found, and the marks then
+      abbrev pub Found : Option (ℕ × ℕ) → List ℕ → Type 0
+      Found x us = (x ≡ (literals_at s from last ms₀).found) × (us ≡ (literals_at s from last ms₀).marks)
+
+      stop : (to : ℕ) (x : Option (ℕ × ℕ)) (us : List ℕ) → spell_turn s last (going at size ms) ≡ over to size x us → Found x us
+      unfolding literals_at
+      stop to x us e =
+          let z = left_over (λ x. x.state.more) (spell_turn s last) to_spell _ (over to size x us) (turn _ e) refl in
+          (ap (λ x. x.state.found) z, ap (λ x. x.marks) z)
+
+      pub going-cut : (k v : ℕ) → number s at ≡ refused k v → Found None ms
+      going-cut k v e = stop at None ms (rw e)
+
+      module _ (l next : ℕ) (e : number s at ≡ got l next) where
+        pub going-end : l ≡ 0 → Found (Some (size, next)) ms
+        going-end z = stop next (Some (size, next)) ms (rw (e, eq-eqb l 0 z))
+
+        module _ (z : l ≡ 0 → ⊥) where
+          pub going-bad : literal_ok last (marks_of ms) l ≡ false → Found None ms
+          going-bad b = stop next None ms (rw (e, ne_eqb l 0 z, b))
+
+          pub going-more : literal_ok last (marks_of ms) l ≡ true → Going from ms₀ next (size + 1) (put_mark ms (l / 2) (2 - l % 2))
+          going-more b =
+              let k = number-got s at e in
+              record {
+                early = omega (arith, g.early, k.ahead);
+                few = omega (arith, g.early, k.ahead, k.inside);
+                left = turn (going next (size + 1) (put_mark ms (l / 2) (2 - l % 2))) (rw (e, ne_eqb l 0 z, b));
+              }

@@ -1,30 +1,35 @@
 -- The literals of a new clause that are read, and the marks afterwards, for any bytes, offsets and marks.
-use Rattle.std.specs.Prelude.{Bool, true, false, cond, ◌&&◌, List, ℕ, suc, ◌+◌, ◌-◌, ◌/◌, ◌%◌, leb, eqb, length}
+use Rattle.std.specs.Prelude.{Bool, true, false, cond, ◌&&◌, List, ℕ, suc, ◌+◌, ◌-◌, ◌/◌, ◌%◌, leb, eqb, length, Option, Some, None}
 use Rattle.scope.specs.Parsed.{Parsed, got, refused}
 use Rattle.scope.specs.Number.{number}
 use Rattle.theory.specs.Marked.{Marks}
 use Rattle.marks.specs.Marks.{marks_of, put_mark}
 use Rattle.reader.specs.Loop.{while_more}
-use Rattle.spelling.specs.declared.literals.Literals.{Literals}
-use Rattle.spelling.specs.declared.literals.Literals.TheVariants as literals
-use Rattle.spelling.specs.declared.literals.Spelling.{Spelling}
 
 -- a literal of a new clause, of a variable that those before it leave open
 abbrev pub literal_ok : ℕ → Marks → ℕ → Bool
 literal_ok last m l = leb 2 l && leb (l / 2) last && eqb (m (l / 2)) 0
 
+-- literals that are being read: whether it goes on, where the next one stands, how many there were, and what is found: their
+-- number, and where what follows their 0 stands
+pub record Spelling : Type 0 where
+  pub more : Bool
+  pub at : ℕ
+  pub size : ℕ
+  pub found : Option (ℕ × ℕ)
+
 -- literals are read up to a 0, and made false: at an offset after k others, and after a number
 abbrev pub spelling : ℕ → ℕ → Spelling
-spelling at k = record { more = true; at = at; size = k; found = literals.Misformed }
+spelling at k = record { more = true; at = at; size = k; found = None }
 
-abbrev pub spelt : ℕ → ℕ → Literals → Spelling
+abbrev pub spelt : ℕ → ℕ → Option (ℕ × ℕ) → Spelling
 spelt at k x = record { more = false; at = at; size = k; found = x }
 
 abbrev pub spelt_by : ℕ → List ℕ → Spelling → Parsed ℕ → Spelling
-spelt_by last ms p (refused k v) = spelt p.at p.size literals.Misformed
+spelt_by last ms p (refused k v) = spelt p.at p.size None
 spelt_by last ms p (got l next) =
-    cond (eqb l 0) (spelt next p.size (literals.Read p.size next))
-    (cond (literal_ok last (marks_of ms) l) (spelling next (p.size + 1)) (spelt next p.size literals.Misformed))
+    cond (eqb l 0) (spelt next p.size (Some (p.size, next)))
+    (cond (literal_ok last (marks_of ms) l) (spelling next (p.size + 1)) (spelt next p.size None))
 
 abbrev pub spelt_marks : ℕ → List ℕ → Parsed ℕ → List ℕ
 spelt_marks last ms (refused k v) = ms
@@ -47,7 +52,7 @@ abbrev pub spelt_from : List ℕ → ℕ → ℕ → Spelled → Spelled
 spelt_from s last k x = while_more (λ x. x.state.more) (spell_turn s last) k x
 
 pub record LiteralsRead : Type 0 where
-  pub found : Literals
+  pub found : Option (ℕ × ℕ)
   pub marks : List ℕ
 
 abbrev pub literals_of : Spelled → LiteralsRead

@@ -1,6 +1,7 @@
-#![tactic(auto)]
 // How a clause stands under the marks. A clause is len words from the word first on, as far as there are words.
-ghost use Rattle.std.specs.Prelude.{◌≡◌, ◌+◌, min, length, replicate};
+#![tactic(auto)]
+
+ghost use Rattle.std.specs.Prelude.{◌≡◌};
 ghost use Rattle.theory.specs.Marked.{also_open, also_literal, standing, falsified};
 ghost use Rattle.marks.specs.Marks.{marks_of};
 ghost use Rattle.standing.specs.Clauses.{part, stands, wiped};
@@ -15,39 +16,13 @@ pub enum Standing {
     Other,
 }
 
-fn wide(x: u32) -> usize
-    ensures { result ≡ x }
-{
-    x as usize
-}
-
-fn number(x: u8) -> u32
-    ensures { result ≡ x }
-{
-    x as u32
-}
-
-// Where the clause ends, among n words.
-fn end_of(n: usize, first: usize, len: usize) -> usize
-    ensures { result ≡ min n (first + len) }
-{
-    if n <= first {
-        return n;
-    }
-    if n - first <= len {
-        return n;
-    }
-    first + len
-}
-
 // With one open literal more.
 fn also_open(s: Standing, l: u32) -> Standing
     ensures { stands result ≡ also_open (stands s) l }
 {
     match s {
         Standing::Falsified => Standing::OneOpen(l),
-        Standing::OneOpen(_) => Standing::Other,
-        Standing::Other => Standing::Other,
+        Standing::OneOpen(_) | Standing::Other => Standing::Other,
     }
 }
 
@@ -68,14 +43,12 @@ fn also_literal(s: Standing, mark: u32, l: u32) -> Standing
 pub fn standing_of(marks: &[u8], words: &[u32], first: usize, len: usize) -> Standing
     ensures { stands result ≡ standing (marks_of marks.now) falsified (part first len words.now) }
 {
-    let end = end_of(words.len(), first, len);
+    let end = words.len().min(first.saturating_add(len));
     let mut s = Standing::Falsified;
-    let mut i = first;
-    while i < end {
+    for i in first..end {
         let l = words[i];
-        let v = wide(l / 2);
-        s = also_literal(s, number(mark_of(marks, v)), l);
-        i += 1;
+        let v = (l / 2) as usize;
+        s = also_literal(s, u32::from(mark_of(marks, v)), l);
     }
     s
 }
@@ -84,23 +57,9 @@ pub fn standing_of(marks: &[u8], words: &[u32], first: usize, len: usize) -> Sta
 pub fn wipe_clause(marks: &mut [u8], words: &[u32], first: usize, len: usize)
     ensures { marks.new ≡ wiped marks.old (part first len words.now) }
 {
-    let end = end_of(words.len(), first, len);
-    let mut i = first;
-    while i < end {
-        let l = words[i];
-        let v = wide(l / 2);
+    let end = words.len().min(first.saturating_add(len));
+    for i in first..end {
+        let v = (words[i] / 2) as usize;
         put_mark(marks, v, 0);
-        i += 1;
-    }
-}
-
-// Every word is 0.
-pub fn clear_words(words: &mut [u32])
-    ensures { words.new ≡ replicate (length words.old) 0 }
-{
-    let mut i = 0;
-    while i < words.len() {
-        words[i] = 0;
-        i += 1;
     }
 }

@@ -1,2 +1,1 @@
-mod StepParts
 pub mod StepBytes

@@ -2,10 +2,9 @@
 ghost use Rattle.std.specs.Prelude.{◌≡◌};
 ghost use Rattle.steps.specs.Step.{add_at, step_at};
 
-use number::Number;
-use passing::numbers::{Numbers, pass_numbers};
-use reader::{number_in, step_byte_in, wide};
-use spelling::literals::{Literals, read_literals};
+use passing::numbers::pass_numbers;
+use reader::Reader;
+use spelling::literals::read_literals;
 
 // A clause that a step adds: its id, where its literals stand, how many they are, and where its hints stand.
 #[derive(Clone, Copy)]
@@ -16,60 +15,56 @@ pub struct Clause {
     pub hints: usize,
 }
 
-// A step: a clause is added; ids are deleted, which stand at an offset; misformed.
+// A step: a clause is added; ids are deleted, which stand at an offset.
 #[derive(Clone, Copy)]
-pub enum Read {
+pub enum Step {
     Adds(Clause),
     Deletes(usize),
-    Misformed,
 }
 
-// The rest of a step that adds a clause, whose id stands at an offset.
-fn read_add(proof: &[u8], at: usize, highest: usize, last: usize, marks: &mut [u8]) -> Read
+// The rest of a step that adds a clause, whose id stands at an offset. None where it is misformed.
+#[tactic(auto, unfolding(crate::specs::Step::add_at))]
+fn read_add(proof: &[u8], at: usize, highest: usize, last: usize, marks: &mut [u8]) -> Option<Step>
     ensures value { result ≡ (add_at proof.now at highest last marks.old).read }
     ensures marks_after { marks.new ≡ (add_at proof.now at highest last marks.old).marks }
 {
-    let t = number_in(proof, at);
-    let Number::Value(n, literals) = t else {
-        return Read::Misformed;
+    let Ok((n, literals)) = Reader::new(proof, at).number() else {
+        return None;
     };
-    let id = wide(n);
+    let id = n as usize;
     if id <= highest {
-        return Read::Misformed;
+        return None;
     }
-    let ls = read_literals(proof, literals, last, marks);
-    let Literals::Read(size, hints) = ls else {
-        return Read::Misformed;
-    };
-    let hs = pass_numbers(proof, hints);
-    let Numbers::End(_) = hs else {
-        return Read::Misformed;
-    };
+    let (size, hints) = read_literals(proof, literals, last, marks)?;
+    pass_numbers(proof, hints)?;
     let clause = Clause {
         id,
         literals,
         size,
         hints,
     };
-    Read::Adds(clause)
+    Some(Step::Adds(clause))
 }
 
-// The step at an offset: above the highest id, and of variables up to the last. A clause's literals are made false.
-pub fn read_step(proof: &[u8], at: usize, highest: usize, last: usize, marks: &mut [u8]) -> Read
+// The step at an offset: above the highest id, and of variables up to the last. A clause's literals are made false. None where it is
+// misformed.
+#[tactic(auto, unfolding(crate::specs::Step::step_at))]
+pub fn read_step(
+    proof: &[u8],
+    at: usize,
+    highest: usize,
+    last: usize,
+    marks: &mut [u8],
+) -> Option<Step>
     ensures value { result ≡ (step_at proof.now at highest last marks.old).read }
     ensures marks_after { marks.new ≡ (step_at proof.now at highest last marks.old).marks }
 {
-    let kind = step_byte_in(proof, at);
-    if kind == 97 {
-        return read_add(proof, at + 1, highest, last, marks);
+    match Reader::new(proof, at).step_byte() {
+        b'a' => read_add(proof, at + 1, highest, last, marks),
+        b'd' => {
+            pass_numbers(proof, at + 1)?;
+            Some(Step::Deletes(at + 1))
+        }
+        _ => None,
     }
-    if kind != 100 {
-        return Read::Misformed;
-    }
-    let next = at + 1;
-    let ids = pass_numbers(proof, next);
-    let Numbers::End(_) = ids else {
-        return Read::Misformed;
-    };
-    Read::Deletes(next)
 }

@@ -1,3 +1,2 @@
 -- Laws, for other crates to use.
-pub mod Sequence
 pub mod Writing

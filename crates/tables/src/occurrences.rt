@@ -14,12 +14,9 @@ fn count_row(table: &[u8], row: usize, counts: &mut [u32])
     ensures { Counted table.now (row + 1) counts.new }
 {
     let n = row_len(table, row);
-    let mut k: usize = 0;
-    while k < n {
-        let x = row_member(table, row, k) as usize;
-        let more = counts[x] + 1;
-        counts[x] = more;
-        k = k + 1;
+    for k in 0..n {
+        let x = usize::from(row_member(table, row, k));
+        counts[x] += 1;
     }
 }
 
@@ -31,10 +28,7 @@ pub fn count_members(table: &[u8], n: u32, counts: &mut [u32])
     requires by_index { (x : ℕ) → get_or counts.old x 0 ≡ 0 }
     ensures { Counted table.now n counts.new }
 {
-    let most = n as usize;
-    let mut row: usize = 0;
-    while row < most {
+    for row in 0..n as usize {
         count_row(table, row, counts);
-        row = row + 1;
     }
 }

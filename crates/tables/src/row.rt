@@ -8,7 +8,7 @@ pub fn row_len(table: &[u8], row: usize) -> usize
     ensures { result ≡ length (row_at table.now row) }
 {
     let at = row * 126;
-    table[at] as usize
+    usize::from(table[at])
 }
 
 // Its member number k, from 0.

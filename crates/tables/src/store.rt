@@ -1,4 +1,5 @@
 // Stores for the tables of an instance, all 0. The contracts give only the lengths, which lending the arrays needs.
+// A function for each store, and not one over a length: the lengths of a table's rows are said here alone.
 ghost use Rattle.std.specs.Prelude.{◌≡◌, ◌*◌, length};
 
 // The durations of 1,024 events.

@@ -1,5 +1,6 @@
-#![tactic(auto)]
 // The text for solvers, in the older "p wcnf" form.
+#![tactic(auto)]
+
 mod lines;
 mod size;
 mod write;

@@ -1,7 +1,7 @@
 // The length of the text, with no byte of it written.
 ghost use Rattle.std.specs.Prelude.{◌≡◌, ◌*◌, ◌≤◌, length};
 ghost use Rattle.scope.specs.Text.{text};
-ghost use Rattle.scope.specs.Answers.{text_means};
+ghost use Rattle.scope.specs.Answers.{means};
 ghost use Rattle.scope.specs.Operations.{text_size_of};
 ghost use Rattle.tables.specs.Room.{group_room};
 ghost use Rattle.instance.specs.Answers.{instance_of};
@@ -10,9 +10,9 @@ ghost use Rattle.text.specs.Ready.{Ready};
 use crate::lines::run_lines;
 use constraint::Head;
 use header::header_size;
-use scope::TextAnswer;
+use scope::Refusal;
 use sink::Mode;
-use sizes::{Measured, measure};
+use sizes::measure;
 use sizing::Size;
 
 // For a file that was sized: the header's length and the lines', by one run over the formula.
@@ -47,31 +47,21 @@ pub fn text_length(
 }
 
 // The text's length, with a table for the groups that has the rows that the file may need.
-fn text_size_in(file: &[u8], groups: &mut [u8]) -> TextAnswer
+fn text_size_in(file: &[u8], groups: &mut [u8]) -> Result<u64, Refusal>
     requires { group_room file.now * 126 ≤ length groups.old }
-    ensures { text_means result ≡ text_size_of file.now }
+    ensures { means result ≡ text_size_of file.now }
 {
     let mut durations = tables::durations();
     let mut resources = tables::resource_rows();
     let mut list = tables::list();
-    let m = measure(file, &mut durations, &mut resources, groups, &mut list);
-    match m {
-        Measured::Sized(head, z) => {
-            let n = text_length(file, head, z, &durations, &resources, groups, &mut list);
-            TextAnswer::Bytes(n as u64)
-        }
-        Measured::Refused(x) => TextAnswer::Refused(x),
-    }
+    let (head, z) = measure(file, &mut durations, &mut resources, groups, &mut list)?;
+    let n = text_length(file, head, z, &durations, &resources, groups, &mut list);
+    Ok(n as u64)
 }
 
 // How many bytes the text takes, or refusals 1 to 6, 8, 19 and 22.
-pub fn text_size(file: &[u8]) -> TextAnswer
-    ensures { text_means result ≡ text_size_of file.now }
+pub fn text_size(file: &[u8]) -> Result<u64, Refusal>
+    ensures { means result ≡ text_size_of file.now }
 {
-    if tables::dated(file) {
-        let mut groups = tables::window_rows();
-        return text_size_in(file, &mut groups);
-    }
-    let mut groups = tables::group_rows();
-    text_size_in(file, &mut groups)
+    tables::with_groups(file, |groups| text_size_in(file, groups))
 }

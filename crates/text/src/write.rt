@@ -1,7 +1,7 @@
 // The text, written into a lent output.
 ghost use Rattle.std.specs.Prelude.{◌≡◌, ◌*◌, ◌≤◌, length};
 ghost use Rattle.scope.specs.Text.{text};
-ghost use Rattle.scope.specs.Answers.{text_means};
+ghost use Rattle.scope.specs.Answers.{means};
 ghost use Rattle.scope.specs.Operations.{text_of};
 ghost use Rattle.tables.specs.Room.{group_room};
 ghost use Rattle.instance.specs.Answers.{instance_of};
@@ -13,10 +13,9 @@ use crate::lines::run_lines;
 use crate::size::text_length;
 use constraint::Head;
 use header::write_header;
-use scope::refusals::TOO_SHORT;
-use scope::{Refusal, TextAnswer};
+use scope::{Reason, Refusal};
 use sink::Mode;
-use sizes::{Measured, measure};
+use sizes::measure;
 use sizing::Size;
 
 // Header, hard lines, soft lines.
@@ -73,43 +72,41 @@ fn fit_text(
     resources: &[u8],
     groups: &[u8],
     list: &mut [u16],
-) -> TextAnswer
+) -> Result<u64, Refusal>
     requires { Ready file.now durations.now resources.now groups.now list.old head z }
-    ensures { (text_means result, out.new)
+    ensures { (means result, out.new)
         ≡ written (text_in (instance_of file.now durations.now resources.now groups.now head)
         (length out.old)) out.old }
 {
     let n = text_length(file, head, z, durations, resources, groups, list);
     if n <= out.len() {
         put_text(out, file, head, z, durations, resources, groups, list);
-        return TextAnswer::Bytes(n as u64);
+        return Ok(n as u64);
     }
-    TextAnswer::Refused(Refusal {
-        number: TOO_SHORT,
+    Err(Refusal {
+        reason: Reason::TooShort,
         value: 0,
     })
 }
 
 // The text, with a table for the groups that has the rows that the file may need.
-fn text_in(file: &[u8], out: &mut [u8], groups: &mut [u8]) -> TextAnswer
+fn text_in(file: &[u8], out: &mut [u8], groups: &mut [u8]) -> Result<u64, Refusal>
     requires { group_room file.now * 126 ≤ length groups.old }
-    ensures { (text_means result, out.new) ≡ written (text_of file.now (length out.old)) out.old }
+    ensures { (means result, out.new) ≡ written (text_of file.now (length out.old)) out.old }
 {
     let mut durations = tables::durations();
     let mut resources = tables::resource_rows();
     let mut list = tables::list();
-    let m = measure(file, &mut durations, &mut resources, groups, &mut list);
-    match m {
-        Measured::Sized(head, z) => fit_text(
-            out, file, head, z, &durations, &resources, groups, &mut list,
-        ),
-        Measured::Refused(x) => TextAnswer::Refused(x),
-    }
+    let (head, z) = measure(file, &mut durations, &mut resources, groups, &mut list)?;
+    fit_text(
+        out, file, head, z, &durations, &resources, groups, &mut list,
+    )
 }
 
-// The text in the first bytes of the output, or refusals 1 to 6, 8, 9, 19 and 22, with no byte changed.
-pub fn text(file: &[u8], out: &mut [u8]) -> TextAnswer
-    ensures { (text_means result, out.new) ≡ written (text_of file.now (length out.old)) out.old }
+// The text in the first bytes of the output, or refusals 1 to 6, 8, 9, 19 and 22, with no byte changed. The table for the groups is
+// chosen here and not by tables::with_groups: tried, and a caller is not told what a closure leaves in another `&mut`.
+pub fn text(file: &[u8], out: &mut [u8]) -> Result<u64, Refusal>
+    ensures { (means result, out.new) ≡ written (text_of file.now (length out.old)) out.old }
 {
     if tables::dated(file) {
         let mut groups = tables::window_rows();

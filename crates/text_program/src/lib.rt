@@ -1,23 +1,23 @@
-#![tactic(auto)]
 // What the text program prints for its input: the text of a file of up to 65,536 bytes, or a refusal.
+#![tactic(auto)]
+
 ghost use Rattle.std.specs.Prelude.{length};
 ghost use Rattle.scope.specs.Operations.{printed};
 ghost use Rattle.scope.specs.Answers.{given};
 ghost use Rattle.sink.specs.Run.{Ran, out, put};
 ghost use Rattle.text_program.specs.Prints.{answer_for};
 
-use scope::refusals::TOO_SHORT;
-use scope::{Refusal, TextAnswer};
+use scope::{Reason, Refusal};
 use text::text;
 
 // `number value` and byte 10, from the buffer's start on, as far as it goes.
 fn put_refusal(buffer: &mut [u8], f: Refusal) -> usize
     ensures { Ran put (printed (given f)) (out 0 buffer.old) (out result buffer.new) }
 {
-    let a = digits::write_number(buffer, 0, f.number as u64);
-    let b = digits::put_byte(buffer, a, 32);
+    let a = digits::write_number(buffer, 0, u64::from(f.reason.number()));
+    let b = digits::put(buffer, a, b' ');
     let c = digits::write_number(buffer, b, f.value);
-    digits::put_byte(buffer, c, 10)
+    digits::put(buffer, c, b'\n')
 }
 
 // What the program prints for its input is stored from the buffer's start on; its length.
@@ -29,14 +29,13 @@ pub fn print_text(input: &[u8], buffer: &mut [u8]) -> usize
         return put_refusal(
             buffer,
             Refusal {
-                number: TOO_SHORT,
+                reason: Reason::TooShort,
                 value: 0,
             },
         );
     }
-    let a = text(input, buffer);
-    match a {
-        TextAnswer::Bytes(n) => n as usize,
-        TextAnswer::Refused(f) => put_refusal(buffer, f),
+    match text(input, buffer) {
+        Ok(n) => n as usize,
+        Err(f) => put_refusal(buffer, f),
     }
 }

@@ -1,13 +1,14 @@
 -- A check between two walks over ids: what is counted, and what each step-level turn makes of it.
-use Rattle.std.specs.Prelude.{cond, ◌&&◌, List, ℕ, ◌+◌, ◌-◌, min, eqb, ltb, leb, length}
+use Rattle.std.specs.Prelude.{cond, ◌&&◌, List, ℕ, ◌+◌, ◌-◌, min, eqb, ltb, leb, length, Option, Some, None, Result, Ok, Err}
 use Rattle.scope.specs.Parsed.{Parsed, got, refused}
 use Rattle.scope.specs.Number.{number}
-use Rattle.scope.specs.declared.CheckAnswer.{CheckAnswer}
+use Rattle.scope.specs.declared.refusal.Reason.{Reason}
+use Rattle.scope.specs.declared.refusal.Refusal.{Refusal}
 use Rattle.directory.specs.declared.Row.{Row}
 use Rattle.directory.specs.Rows.{new_row}
 use Rattle.standing.specs.Clauses.{part, wiped}
-use Rattle.steps.specs.declared.step.Read.{Read}
-use Rattle.steps.specs.declared.step.Read.TheVariants.{Adds, Deletes, Misformed}
+use Rattle.steps.specs.declared.step.Step.{Step}
+use Rattle.steps.specs.declared.step.Step.TheVariants.{Adds, Deletes}
 use Rattle.hints.specs.declared.machine.Phase.{Phase}
 use Rattle.hints.specs.declared.machine.Phase.TheVariants.{Next, Walk, Followed, Keep, Wipe, Delete, Proved, Refused}
 use Rattle.hints.specs.declared.machine.Machine.{Machine}
@@ -33,8 +34,8 @@ with_phase c p = record { phase = p; tally = c.tally; clause = c.clause }
 -- kept if it fits
 unfoldable pub verdict : Check → ℕ → ℕ → ℕ → ℕ → Phase
 verdict c at bytes words rows =
-    cond (eqb c.clause.size 0) (cond (ltb at bytes) (Refused 18) Proved)
-    (cond (leb (c.tally.words + c.clause.size) words && leb (c.tally.rows + 1) rows) Keep (Refused 17))
+    cond (eqb c.clause.size 0) (cond (ltb at bytes) (Refused Reason.BadEnd) Proved)
+    (cond (leb (c.tally.words + c.clause.size) words && leb (c.tally.rows + 1) rows) Keep (Refused Reason.ClauseTooLong))
 
 abbrev pub judged : Check → ℕ → ℕ → ℕ → ℕ → Check
 judged c at bytes words rows = with_phase c (verdict c at bytes words rows)
@@ -61,12 +62,12 @@ kept_as c =
 -- a walk over the ids at an offset, where x is the number there
 abbrev pub first_id : Phase → Phase → ℕ → Parsed ℕ → Machine
 first_id p over at (got id next) = onward p over id next 0
-first_id p over at (refused k v) = stopped (Refused 14) at
+first_id p over at (refused k v) = stopped (Refused Reason.BadStep) at
 
 -- the machine at the start of what comes next
 abbrev pub entered_at : List ℕ → ℕ → ℕ → Phase → Machine
 entered_at s at id Next = stopped Next at
-entered_at s at id Walk = first_id Walk (Refused 16) at (number s at)
+entered_at s at id Walk = first_id Walk (Refused Reason.BadHint) at (number s at)
 entered_at s at id Followed = stopped Followed at
 entered_at s at id Keep = stopped Keep at
 entered_at s at id Wipe = record { phase = Wipe; at = at; want = id; set = 0 }
@@ -94,11 +95,11 @@ unwound_marks c m ws ms tr =
 abbrev pub counted : Tally → Tally
 counted t = record { steps = min (t.steps + 1) largest; highest = t.highest; rows = t.rows; words = t.words }
 
--- a step was read
-abbrev pub stepped : Check → Read → Check
-stepped c Misformed = record { phase = Refused 14; tally = counted c.tally; clause = c.clause }
-stepped c (Adds k) = record { phase = Walk; tally = counted c.tally; clause = k }
-stepped c (Deletes from) =
+-- a step was read, or it is misformed
+abbrev pub stepped : Check → Option Step → Check
+stepped c None = record { phase = Refused Reason.BadStep; tally = counted c.tally; clause = c.clause }
+stepped c (Some (Adds k)) = record { phase = Walk; tally = counted c.tally; clause = k }
+stepped c (Some (Deletes from)) =
     record { phase = Delete; tally = counted c.tally; clause = record { id = 0; literals = from; size = 0; hints = from } }
 
 -- the step that stands at an offset, if there is one
@@ -108,16 +109,16 @@ pub record StepTaken : Type 0 where
 
 unfoldable pub step_taken : List ℕ → Check → ℕ → ℕ → List ℕ → StepTaken
 step_taken s c at last ms =
-    cond (leb (length s) at) (record { check = with_phase c (Refused 18); marks = ms })
+    cond (leb (length s) at) (record { check = with_phase c (Refused Reason.BadEnd); marks = ms })
     (record { check = stepped c (step_at s at c.tally.highest last ms).read; marks = (step_at s at c.tally.highest last ms).marks })
 
 -- the answer of a check that has ended, after so many steps
-abbrev pub answer_of : ℕ → Phase → CheckAnswer
-answer_of n Next = CheckAnswer.Refused (record { number = 14; value = n })
-answer_of n Walk = CheckAnswer.Refused (record { number = 14; value = n })
-answer_of n Followed = CheckAnswer.Refused (record { number = 14; value = n })
-answer_of n Keep = CheckAnswer.Refused (record { number = 14; value = n })
-answer_of n Wipe = CheckAnswer.Refused (record { number = 14; value = n })
-answer_of n Delete = CheckAnswer.Refused (record { number = 14; value = n })
-answer_of n Proved = CheckAnswer.NoTimetable n
-answer_of n (Refused k) = CheckAnswer.Refused (record { number = k; value = n })
+abbrev pub answer_of : ℕ → Phase → Result ℕ Refusal
+answer_of n Next = Err (record { reason = Reason.BadStep; value = n })
+answer_of n Walk = Err (record { reason = Reason.BadStep; value = n })
+answer_of n Followed = Err (record { reason = Reason.BadStep; value = n })
+answer_of n Keep = Err (record { reason = Reason.BadStep; value = n })
+answer_of n Wipe = Err (record { reason = Reason.BadStep; value = n })
+answer_of n Delete = Err (record { reason = Reason.BadStep; value = n })
+answer_of n Proved = Ok n
+answer_of n (Refused k) = Err (record { reason = k; value = n })

@@ -1,12 +1,12 @@
 // A check between two walks over ids: what is counted, and the clause at hand.
-ghost use Rattle.std.specs.Prelude.{◌≡◌, ◌+◌, min};
+ghost use Rattle.std.specs.Prelude.{◌≡◌};
 ghost use Rattle.copying.specs.Copies.{copied_at};
 ghost use Rattle.turns.specs.Check.{begun, with_phase, judged, row_of, kept_as};
 
 use copying::literals::copy_literals;
-use directory::{Row, new_row};
+use directory::Row;
 use hints::machine::Phase;
-use scope::refusals::{BAD_END, CLAUSE_TOO_LONG};
+use scope::Reason;
 use steps::step::Clause;
 
 // Steps, the one at hand counted; the highest id; rows and words in use.
@@ -24,16 +24,6 @@ pub struct Check {
     pub phase: Phase,
     pub tally: Tally,
     pub clause: Clause,
-}
-
-// A sum that stays at the largest number.
-fn sum(a: usize, b: usize) -> usize
-    ensures { result ≡ min (a + b) 18446744073709551615 }
-{
-    if 18446744073709551615 - a < b {
-        return 18446744073709551615;
-    }
-    a + b
 }
 
 // Before the first step, with a formula of so many rows and words.
@@ -63,13 +53,7 @@ pub fn begin(rows: usize, words: usize) -> Check
 pub fn in_phase(c: Check, phase: Phase) -> Check
     ensures { result ≡ with_phase c phase }
 {
-    let tally = c.tally;
-    let clause = c.clause;
-    Check {
-        phase,
-        tally,
-        clause,
-    }
+    Check { phase, ..c }
 }
 
 // The clause at hand follows, and what comes after its step stands at an offset. The empty clause ends the proof; another is
@@ -81,18 +65,18 @@ pub fn judge(c: Check, at: usize, bytes: usize, words: usize, rows: usize) -> Ch
     let tally = c.tally;
     if clause.size == 0 {
         if at < bytes {
-            return in_phase(c, Phase::Refused(BAD_END));
+            return in_phase(c, Phase::Refused(Reason::BadEnd));
         }
         return in_phase(c, Phase::Proved);
     }
     if words < tally.words {
-        return in_phase(c, Phase::Refused(CLAUSE_TOO_LONG));
+        return in_phase(c, Phase::Refused(Reason::ClauseTooLong));
     }
     if words - tally.words < clause.size {
-        return in_phase(c, Phase::Refused(CLAUSE_TOO_LONG));
+        return in_phase(c, Phase::Refused(Reason::ClauseTooLong));
     }
     if rows <= tally.rows {
-        return in_phase(c, Phase::Refused(CLAUSE_TOO_LONG));
+        return in_phase(c, Phase::Refused(Reason::ClauseTooLong));
     }
     in_phase(c, Phase::Keep)
 }
@@ -103,7 +87,7 @@ pub fn row_of(c: Check) -> Row
 {
     let clause = c.clause;
     let tally = c.tally;
-    new_row(clause.id, tally.words, clause.size)
+    Row::new(clause.id, tally.words, clause.size)
 }
 
 // The clause at hand is stored, and counted.
@@ -115,10 +99,10 @@ pub fn keep(c: Check, proof: &[u8], words: &mut [u32]) -> Check
     let old = c.tally;
     copy_literals(proof, clause.literals, words, old.words);
     let tally = Tally {
-        steps: old.steps,
         highest: clause.id,
-        rows: sum(old.rows, 1),
-        words: sum(old.words, clause.size),
+        rows: old.rows.saturating_add(1),
+        words: old.words.saturating_add(clause.size),
+        ..old
     };
     Check {
         phase: Phase::Wipe,

@@ -1,20 +1,10 @@
 // The marks of a step are opened again, from the kept clause and the trail.
-ghost use Rattle.std.specs.Prelude.{◌≡◌, ◌-◌, length};
+ghost use Rattle.std.specs.Prelude.{◌≡◌, length};
 ghost use Rattle.turns.specs.Check.{unwound, unwound_marks};
 
 use hints::machine::{Machine, Phase, stop};
 use standing::wipe_clause;
 use turns::check::Check;
-
-// A difference that stays at 0.
-fn difference(a: usize, b: usize) -> usize
-    ensures { result ≡ a - b }
-{
-    if a < b {
-        return 0;
-    }
-    a - b
-}
 
 // The clause at hand was kept, at the end of the words in use: its variables are opened again, and those of the literals on the
 // trail. Where the trail had no room for all of them, the clauses of the hints are to be wiped one by one.
@@ -33,7 +23,7 @@ pub fn unwind(c: Check, m: Machine, words: &[u32], marks: &mut [u8], trail: &[u3
             set: 0,
         };
     }
-    let first = difference(tally.words, clause.size);
+    let first = tally.words.saturating_sub(clause.size);
     wipe_clause(marks, words, first, clause.size);
     wipe_clause(marks, trail, 0, set);
     stop(Phase::Next, m.at)

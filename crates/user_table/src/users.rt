@@ -1,20 +1,22 @@
 // The table of the users of each resource, filled from the rows of the events' resources: one turn for each member of a row.
 ghost use Rattle.std.specs.Prelude.{◌≡◌, ℕ, ◌+◌, ◌*◌, ◌≤◌, ◌<◌, length, get_or};
 ghost use Rattle.user_table.specs.Users.{users_in};
-ghost use Rattle.user_table.specs.Filled.{Filled, EventRows, pushed};
+ghost use Rattle.user_table.specs.Filled.{Filled, EventRows, UserRows, users_at, pushed};
 
 use tables::{row_len, row_member};
+
+// How many numbers a row has: how many events, and their numbers. All rows stand in one array, since there is no heap.
+const ROW: usize = 1025;
 
 // One event more in the row of resource r.
 fn push(users: &mut [u16], r: usize, e: u16)
     requires { (length users.old ≡ 102500) × ((r ≤ 99) × (get_or users.old (r * 1025) 0 < 1024)) }
     ensures { users.new ≡ pushed users.old r e }
 {
-    let at = r * 1025;
+    let at = r * ROW;
     let n = users[at] + 1;
     users[at] = n;
-    let last = at + n as usize;
-    users[last] = e;
+    users[at + usize::from(n)] = e;
 }
 
 // Event number row + 1, into the row of each of its resources.
@@ -26,11 +28,8 @@ fn add_event(resources: &[u8], row: usize, users: &mut [u16])
 {
     let n = row_len(resources, row);
     let e = (row + 1) as u16;
-    let mut k: usize = 0;
-    while k < n {
-        let r = row_member(resources, row, k) as usize;
-        push(users, r, e);
-        k = k + 1;
+    for k in 0..n {
+        push(users, usize::from(row_member(resources, row, k)), e);
     }
 }
 
@@ -42,10 +41,17 @@ pub fn fill_users(resources: &[u8], events: u32, users: &mut [u16])
     requires by_index { (x : ℕ) → get_or users.old x 0 ≡ 0 }
     ensures { Filled users.new (users_in resources.now events) }
 {
-    let most = events as usize;
-    let mut row: usize = 0;
-    while row < most {
+    for row in 0..events as usize {
         add_event(resources, row, users);
-        row = row + 1;
     }
+}
+
+// The events that use resource r.
+pub fn users_of(users: &[u16], r: u32) -> &[u16]
+    requires { UserRows users.now × (r ≤ 99) }
+    ensures { result.now ≡ users_at users.now r }
+{
+    let at = r as usize * ROW;
+    let first = at + 1;
+    &users[first..first + users[at] as usize]
 }

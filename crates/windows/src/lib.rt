@@ -1,5 +1,6 @@
-#![tactic(auto)]
 // The windows of a calendar as rows of the groups' table, after the time groups (order 6).
+#![tactic(auto)]
+
 mod groups;
 mod row;
 mod window;

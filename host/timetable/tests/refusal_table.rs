@@ -1,4 +1,4 @@
-//! The table of refusals: the constants of the crates, the wrapper's names and
+//! The table of refusals: the reasons of the crates, the wrapper's names and
 //! the rows of docs/SCOPE.md have the same numbers.
 #![cfg(feature = "engine")]
 
@@ -12,18 +12,33 @@ fn file(path: &str) -> String {
     fs::read_to_string(repository().join(path)).expect(path)
 }
 
+/// `BAD_NUMBER` as the variant of an enum.
+fn variant(name: &str) -> String {
+    name.split('_')
+        .map(|word| {
+            let (first, rest) = word.split_at(1);
+            first.to_owned() + &rest.to_lowercase()
+        })
+        .collect()
+}
+
 #[test]
-fn the_constants_of_the_crates_are_the_refusals() {
-    let source = file("crates/scope/src/refusals.rt");
-    let constants: Vec<&str> = source
+fn the_reasons_of_the_crates_are_the_refusals() {
+    let source = file("crates/scope/src/refusal.rt");
+    let (_, reasons) = source
+        .split_once("pub enum Reason {\n")
+        .expect("the enum of reasons");
+    let reasons: Vec<&str> = reasons
         .lines()
-        .filter_map(|line| line.strip_prefix("pub const "))
+        .take_while(|line| *line != "}")
+        .map(str::trim)
+        .filter(|line| !line.starts_with("//"))
         .collect();
     let wanted: Vec<String> = REFUSALS
         .iter()
-        .map(|facts| format!("{}: u8 = {};", facts.name, facts.number))
+        .map(|facts| format!("{} = {},", variant(facts.name), facts.number))
         .collect();
-    assert_eq!(constants, wanted);
+    assert_eq!(reasons, wanted);
 }
 
 #[test]

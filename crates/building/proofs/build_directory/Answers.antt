@@ -30,19 +30,19 @@ loop-first-init c =
       words_long = refl;
       few = omega arith;
       near = omega arith;
-      built = build-start c.args.words.now c.args.rows.now c.least-end.result;
+      built = build-start c.args.words.now c.args.rows.now c.min-end.result;
     }
 
 pub row_between-requires : goal.row_between-requires
 row_between-requires c =
     let l = c.loop-first in
-    let on = onward l.words l.first c.least-end.result _ c.loop-first-test.true (omega arith) c.unmark-next.ensures.value in
+    let on = onward l.words l.first c.min-end.result _ c.loop-first-test.true (omega arith) c.unmark-next.ensures.value in
     (l.invariant.few, on.0)
 
 pub loop-first-smaller : goal.loop-first-smaller
 loop-first-smaller c =
     let l = c.loop-first in
-    let on = onward l.words l.first c.least-end.result _ c.loop-first-test.true (omega arith) c.unmark-next.ensures.value in
+    let on = onward l.words l.first c.min-end.result _ c.loop-first-test.true (omega arith) c.unmark-next.ensures.value in
     omega (arith, on.0)
 
 pub loop-first-preserved : goal.loop-first-preserved
@@ -50,7 +50,7 @@ loop-first-preserved c =
     let l = c.loop-first in
     let ws = c.args.words.now in
     let ys = c.args.rows.now in
-    let end = c.least-end.result in
+    let end = c.min-end.result in
     let on = onward l.words l.first end _ c.loop-first-test.true (omega arith) c.unmark-next.ensures.value in
     record {
       words_long = omega arith;
@@ -65,7 +65,7 @@ pub returns : goal.returns
 returns c =
     let l = c.loop-first in
     let z =
-    built-all c.args.words.now l.words c.args.rows.now l.rows c.args.total c.least-end.result l.n l.first c.least-end.ensures
+    built-all c.args.words.now l.words c.args.rows.now l.rows c.args.total c.min-end.result l.n l.first c.min-end.ensures
     l.invariant.built c.loop-first-test.false l.invariant.near
     in
     record { value = z.count; words_after = z.words; rows_after = z.rows }

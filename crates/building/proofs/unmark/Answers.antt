@@ -1,22 +1,16 @@
-use Rattle.std.proofs.Common.{ap, length, arith}
+use Rattle.std.proofs.Common.{arith}
 use Rattle.building.proofs.Building.{pass-start, pass_next, pass_marked, pass_end}
 use Rattle.building.proofs.unmark.Goals as goal
 
 pub loop-i-init : goal.loop-i-init
 loop-i-init c = pass-start c.args.words.now c.args.first c.args.end (omega arith)
 
-pub bounds-words-i : goal.bounds-words-i
-bounds-words-i c = omega (arith, ap length c.loop-i.invariant.same)
-
-pub bounds-words-i-then-w-ge2147483648 : goal.bounds-words-i-then-w-ge2147483648
-bounds-words-i-then-w-ge2147483648 c = omega (arith, ap length c.loop-i.invariant.same)
-
-pub returns-then-w-ge2147483648 : goal.returns-then-w-ge2147483648
-returns-then-w-ge2147483648 c =
+pub returns-then-w-ge-MARK : goal.returns-then-w-ge-MARK
+returns-then-w-ge-MARK c =
     let l = c.loop-i in
     let a = c.args in
     let whole =
-    pass_marked a.words.now l.words a.first a.end l.i l.invariant (omega arith) c.loop-i-test.true c.if-w-ge2147483648.true
+    pass_marked a.words.now l.words a.first a.end l.i l.invariant (omega arith) c.loop-i-test.true c.if-w-ge-MARK.true
     in
     record { value = whole.0; words_after = whole.1 }
 
@@ -24,7 +18,7 @@ pub loop-i-preserved : goal.loop-i-preserved
 loop-i-preserved c =
     let l = c.loop-i in
     let a = c.args in
-    pass_next a.words.now l.words a.first a.end l.i l.invariant (omega arith) c.loop-i-test.true c.if-w-ge2147483648.false
+    pass_next a.words.now l.words a.first a.end l.i l.invariant (omega arith) c.loop-i-test.true c.if-w-ge-MARK.false
 
 pub returns : goal.returns
 returns c =

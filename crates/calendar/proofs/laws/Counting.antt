@@ -1,6 +1,6 @@
 -- Counting the periods of a day and of a calendar, turn by turn: laws.
 use Prim.Native.Nat.{ℕ, suc, ◌+◌, ◌-◌, ◌≤◌, ◌<◌}
-use mathlib.Core.Path.{◌≡◌, refl, sym, ap, ◌∙◌}
+use mathlib.Core.Path.{◌≡◌, refl, sym, ap}
 use mathlib.Core.List.{List}
 use mathlib.Core.Option.{some}
 use lib.ListN.{length}
@@ -10,21 +10,8 @@ use Rattle.scope.specs.Parsed.{Parsed, got, refused, and_then, cons, repeat}
 use Rattle.scope.specs.Number.{limited}
 use Rattle.scope.specs.Instance.{times_at}
 use Rattle.scope.specs.Calendar.{Period, limited_in, period_at, periods_at, day_at, period_count, calendar_at}
-use Rattle.scope.specs.declared.Refusal.{Refusal}
-use Rattle.number.specs.declared.Number.{Number}
-use Rattle.number.specs.Answers.{said, refused_by}
 use Rattle.parsing.proofs.laws.Parsing.{refused-got}
-use Rattle.calendar.specs.declared.period.PeriodRead.{PeriodRead}
-use Rattle.calendar.specs.declared.period.PeriodRead.TheVariants.{Value, Refused}
-use Rattle.calendar.specs.Answers.{said_period, counted_on, counted, totalled_on, totalled, times_counted}
-
--- what an answer stands for, by its case
-module _ (x : PeriodRead) where
-  pub period_value : {p : Parsed Period} {a b n : ℕ} → said_period x ≡ p → x ≡ Value a b n → p ≡ got (record { start = a; end = b }) n
-  period_value e h = sym e ∙ ap said_period h
-
-  pub period_refused : {p : Parsed Period} {f : Refusal} → said_period x ≡ p → x ≡ Refused f → p ≡ refused_by f
-  period_refused e h = sym e ∙ ap said_period h
+use Rattle.calendar.specs.Answers.{counted_on, counted, totalled_on, totalled, times_counted}
 
 -- the periods of a day, counted from the first on
 pub day-counted : (s : List ℕ) (at : ℕ) {count next : ℕ} → limited_in at 0 24 s at ≡ got count next
@@ -74,12 +61,12 @@ unfolding counted_on
 counted-stopped (got ps next) {k} {v} e = let z : ◌≡◌ {A = ℕ} 0 1 = cc in let f : ⊥ = omega arith in absurd f
 counted-stopped (refused k v) e = cc
 
-module _ (s : List ℕ) (at : ℕ) (x : Number) (e : said x ≡ counted (day_at s at)) where
-  pub day_value : {n end : ℕ} → x ≡ Number.Value n end → Day s at n end
-  day_value h = let r = counted-got (day_at s at) (sym e ∙ ap said h) in record { periods = r.0; read = r.1; count = r.2 }
+module _ (s : List ℕ) (at : ℕ) where
+  pub day_value : {n end : ℕ} → got n end ≡ counted (day_at s at) → Day s at n end
+  day_value e = let r = counted-got (day_at s at) (sym e) in record { periods = r.0; read = r.1; count = r.2 }
 
-  pub day_refused : {f : Refusal} → x ≡ Number.Refused f → day_at s at ≡ refused_by f
-  day_refused h = counted-stopped (day_at s at) (sym e ∙ ap said h)
+  pub day_refused : {k v : ℕ} → refused k v ≡ counted (day_at s at) → day_at s at ≡ refused k v
+  day_refused e = counted-stopped (day_at s at) (sym e)
 
 -- the days of a calendar, their periods counted
 totalled-cons : (t : ℕ) (d : List Period) (q : Parsed (List (List Period))) → totalled_on t (cons d q) ≡ totalled_on (t + length d) q

@@ -1,21 +1,22 @@
 -- The array of a calendar, filled day by day and period by period: laws.
 use Prim.Native.Nat.{ℕ, suc, ◌+◌, ◌-◌, ◌≤◌, ◌<◌}
 use mathlib.Core.Path.{◌≡◌, refl, sym, ap, ◌∙◌}
-use mathlib.Core.List.{List, [], ◌∷◌, ◌++◌}
+use mathlib.Core.List.{List, [], ◌∷◌, ◌++◌, append_assoc}
+use Rattle.std.proofs.Common.{Option, Some, None}
 use lib.ListN.{length, set, replicate, length-append, length-replicate}
 use native.Mathlib.Omega.{arith}
+use Rattle.std.proofs.Math.Seq.{set-append_seam}
 use Rattle.scope.specs.Parsed.{got, refused, repeat}
 use Rattle.scope.specs.Calendar.{Period as Span, limited_in, period_at, periods_at, day_at, period_count}
 use Rattle.parsing.specs.Parsing.{list_of}
 use Rattle.parsing.proofs.laws.Parsing.{before, before-cons, before-nil, before-end, repeat_more, repeat_refused, repeat-end}
 use Rattle.calendar.specs.declared.days.Period.{Period}
-use Rattle.calendar.specs.Rows.{blank, numbered, day_row, blank_day, rows_after, calendar_rows}
+use Rattle.calendar.specs.Rows.{numbered, day_row, blank_day, rows_after, calendar_rows}
 use Rattle.calendar.proofs.laws.Counting.{Day}
 
 -- one more in the place of the first blank
 set-blank : {A : Type 0} (xs : List A) (m : ℕ) (b y : A) → set (xs ++ replicate (suc m) b) (length xs) y ≡ (xs ++ (y ∷ [])) ++ replicate m b
-set-blank [] m b y = refl
-set-blank (x ∷ xs) m b y = ap (λ ys. x ∷ ys) (set-blank xs m b y)
+set-blank xs m b y = set-append_seam xs b (replicate m b) y ∙ sym (append_assoc xs (y ∷ []) (replicate m b))
 
 pub length-numbered : (t : ℕ) (ps : List Span) → length (numbered t ps) ≡ length ps
 unfolding numbered
@@ -23,29 +24,29 @@ length-numbered t [] = refl
 length-numbered t (p ∷ ps) = ap suc (length-numbered (suc t) ps)
 
 numbered-last : (t : ℕ) (ps : List Span) (p : Span)
-    → numbered t (ps ++ (p ∷ [])) ≡ numbered t ps ++ (record { start = p.start; end = p.end; time = t + length ps + 1 } ∷ [])
+    → numbered t (ps ++ (p ∷ [])) ≡ numbered t ps ++ (Some (record { start = p.start; end = p.end; time = t + length ps + 1 }) ∷ [])
 unfolding numbered
 numbered-last t [] p = let k : suc t ≡ t + 0 + 1 = omega arith in rw k
 numbered-last t (q ∷ ps) p =
     let k : suc t + length ps + 1 ≡ t + suc (length ps) + 1 = omega arith in
-    ap (λ ys. record { start = q.start; end = q.end; time = suc t } ∷ ys) (rw k at (numbered-last (suc t) ps p))
+    ap (λ ys. Some (record { start = q.start; end = q.end; time = suc t }) ∷ ys) (rw k at (numbered-last (suc t) ps p))
 
 pub day_row-last : (t : ℕ) (ps : List Span) (a b : ℕ) → length ps < 24
-    → set (day_row t ps) (length ps) (record { start = a; end = b; time = t + length ps + 1 })
+    → set (day_row t ps) (length ps) (Some (record { start = a; end = b; time = t + length ps + 1 }))
     ≡ day_row t (ps ++ (record { start = a; end = b } ∷ []))
 unfolding day_row
 day_row-last t ps a b h =
     let k : 24 - length ps ≡ suc (24 - (length ps + 1)) = omega arith in
     let l : length (ps ++ (record { start = a; end = b } ∷ [])) ≡ length ps + 1 = length-append ps _ in
     rw (l, numbered-last t ps (record { start = a; end = b }), k)
-    (rw (length-numbered t ps) at (set-blank (numbered t ps) (24 - (length ps + 1)) blank (record { start = a; end = b; time = t + length ps + 1 })))
+    (rw (length-numbered t ps) at (set-blank (numbered t ps) (24 - (length ps + 1)) None (Some (record { start = a; end = b; time = t + length ps + 1 }))))
 
 pub length-day_row : (t : ℕ) (ps : List Span) → length ps ≤ 24 → length (day_row t ps) ≡ 24
 unfolding day_row
 length-day_row t ps h = rw (length-append (numbered t ps) _, length-numbered t ps, length-replicate) (omega arith)
 
 -- a day that is filled: the periods that were read stand in the row, and those still to be read follow them
-pub record DayFilled (s : List ℕ) (at t count i : ℕ) (day : List Period) (last next : ℕ) : Type 0 where
+pub record DayFilled (s : List ℕ) (at t count i : ℕ) (day : List (Option Period)) (last next : ℕ) : Type 0 where
   pub periods : List Span
   pub so_many : length periods ≡ i
   pub row : day ≡ day_row t periods
@@ -62,9 +63,9 @@ module _ (s : List ℕ) (at t : ℕ) where
   unfolding day_at day_row numbered
   day_none e = rw e
 
-  module _ {count i : ℕ} {day : List Period} {last next : ℕ} (f : DayFilled s at t count i day last next) where
+  module _ {count i : ℕ} {day : List (Option Period)} {last next : ℕ} (f : DayFilled s at t count i day last next) where
     pub day_more : {a b after : ℕ} → i < count → count ≤ 24 → period_at last s next ≡ got (record { start = a; end = b }) after
-        → DayFilled s at t count (i + 1) (set day i (record { start = a; end = b; time = t + i + 1 })) b after
+        → DayFilled s at t count (i + 1) (set day i (Some (record { start = a; end = b; time = t + i + 1 }))) b after
     unfolding periods_at
     day_more {a} {b} {after} h few e =
         let p : Span = record { start = a; end = b } in
@@ -118,7 +119,7 @@ calendar_rows-last ds d h =
     (rw (length-rows_after 0 ds, z) at (set-blank (rows_after 0 ds) (7 - (length ds + 1)) blank_day (day_row (0 + period_count ds) d)))
 
 -- a calendar that is filled
-pub record DaysFilled (s : List ℕ) (at d : ℕ) (days : List (List Period)) (time next : ℕ) : Type 0 where
+pub record DaysFilled (s : List ℕ) (at d : ℕ) (days : List (List (Option Period))) (time next : ℕ) : Type 0 where
   pub read : List (List Span)
   pub so_many : length read ≡ d
   pub rows : days ≡ calendar_rows read
@@ -130,7 +131,7 @@ module _ (s : List ℕ) (at : ℕ) where
   unfolding calendar_rows rows_after period_count
   days_start = record { read = []; so_many = refl; rows = refl; total = refl; rest = sym (before-nil (repeat 7 (day_at s) at)) }
 
-  module _ {d : ℕ} {days : List (List Period)} {time next : ℕ} (f : DaysFilled s at d days time next) where
+  module _ {d : ℕ} {days : List (List (Option Period))} {time next : ℕ} (f : DaysFilled s at d days time next) where
     pub days_more : {n after : ℕ} → d < 7 → (y : Day s next n after)
         → DaysFilled s at (d + 1) (set days d (day_row time (list_of (day_at s next)))) (time + n) after
     days_more {n} {after} h y =

@@ -4,11 +4,12 @@ use mathlib.Core.List.{List, [], ◌∷◌, ◌++◌}
 use Prim.Native.Nat.{ℕ, ◌+◌, ◌≤◌, ◌<◌}
 use native.Mathlib.Omega.{arith}
 use lib.ListN.{length, drop}
+use Rattle.std.proofs.Common.{Result, Ok}
 use Rattle.scope.specs.Kinds.{Constraint}
+use Rattle.scope.specs.declared.refusal.Refusal.{Refusal}
 use Rattle.scope.specs.Cnf.{gates}
 use Rattle.constraint.specs.declared.kinds.Constraint as decl
 use Rattle.constraint.specs.declared.kinds.Head.{Head}
-use Rattle.constraint.specs.declared.kinds.Next.{Next}
 use Rattle.constraint.specs.Answers.{counts_in, said_next, constraint_of}
 use Rattle.constraint.specs.Decoded.{decoded_at}
 use Rattle.constraint.specs.Walk.{Walk, constraints_in}
@@ -62,8 +63,8 @@ module _ {f : Line → World → World} {s d us tg list : List ℕ} {h : Head} {
 
   module _ {i at v : ℕ} {w₀ w : World} (p : Part f s d us tg h first i at v w₀ w) where
     -- constraint number i is next, where the call answered x with the store l
-    pub part_read : (l : List ℕ) (x : Next) {c : decl.Constraint} {next : ℕ} → i < h.constraints
-        → said_next l x ≡ decoded_at (counts_in h) s at → x ≡ Next.Read c next → NextOf k.accepted i next (constraint_of l c)
+    pub part_read : (l : List ℕ) (x : Result (decl.Constraint × ℕ) Refusal) {c : decl.Constraint} {next : ℕ} → i < h.constraints
+        → said_next l x ≡ decoded_at (counts_in h) s at → x ≡ Ok (c, next) → NextOf k.accepted i next (constraint_of l c)
     part_read l x b e t = accepted_next k.accepted l x p.walk b e t
 
     module _ {next : ℕ} {c : Constraint} (n : NextOf k.accepted i next c) where

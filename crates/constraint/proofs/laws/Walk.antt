@@ -1,6 +1,7 @@
 -- Walking the constraints of an accepted file: each call decodes the next of them, and none is refused: laws.
 use Prim.Native.Nat.{ℕ, suc, ◌+◌, ◌-◌, ◌≤◌, ◌<◌}
 use mathlib.Core.Path.{◌≡◌, sym, ap, ◌∙◌}
+use Rattle.std.proofs.Common.{Result, Ok, Err}
 use mathlib.Core.List.{List, [], ◌∷◌}
 use lib.ListN.{length, drop}
 use lib.Seq.{drop-drop}
@@ -8,10 +9,10 @@ use native.Mathlib.Omega.{arith}
 use Rattle.scope.specs.Parsed.{got, refused, cons, repeat}
 use Rattle.scope.specs.Kinds.{Constraint}
 use Rattle.scope.specs.Instance.{Counts}
-use Rattle.scope.specs.declared.Refusal.{Refusal}
+use Rattle.scope.specs.declared.refusal.Refusal.{Refusal}
+use Rattle.scope.specs.Reason.{number_of}
 use Rattle.parsing.proofs.laws.Parsing.{and_then-got, cons-got, refused-got}
 use Rattle.constraint.specs.declared.kinds.Constraint as decl
-use Rattle.constraint.specs.declared.kinds.Next.{Next}
 use Rattle.constraint.specs.Answers.{said_next, constraint_of}
 use Rattle.constraint.specs.Decoded.{decoded_at}
 use Rattle.constraint.proofs.laws.Valid.{DecodedAt, decoded-got}
@@ -31,7 +32,7 @@ module _
     (w : Walk n s count i at cs)
     (h : i < count)
     (l : List ℕ)
-    (x : Next)
+    (x : Result (decl.Constraint × ℕ) Refusal)
     (e : said_next l x ≡ decoded_at n s at) where
   first : repeat (suc (count - (i + 1))) (decoded_at n s) at ≡ got (drop i cs) (length s)
   first = let k : count - i ≡ suc (count - (i + 1)) = omega arith in rw k at w.left
@@ -42,7 +43,7 @@ module _
     pub walk : Walk n s count (i + 1) next cs
     pub valid : DecodedAt n s at c next
 
-  pub walk_read : {c : decl.Constraint} {next : ℕ} → x ≡ Next.Read c next → Turn (constraint_of l c) next
+  pub walk_read : {c : decl.Constraint} {next : ℕ} → x ≡ Ok (c, next) → Turn (constraint_of l c) next
   unfolding repeat
   walk_read {c} {next} t =
       let here : decoded_at n s at ≡ got (constraint_of l c) next = sym e ∙ ap (said_next l) t in
@@ -54,10 +55,10 @@ module _
         valid = decoded-got n s at here;
       }
 
-  pub walk_refused : {f : Refusal} → x ≡ Next.Refused f → ⊥
+  pub walk_refused : {f : Refusal} → x ≡ Err f → ⊥
   unfolding repeat
   walk_refused {f} t =
-      let here : decoded_at n s at ≡ refused f.number f.value = sym e ∙ ap (said_next l) t in
+      let here : decoded_at n s at ≡ refused (number_of f.reason) f.value = sym e ∙ ap (said_next l) t in
       let p = and_then-got (decoded_at n s at) (λ a next. cons a (repeat (count - (i + 1)) (decoded_at n s) next)) first in
       refused-got ⊥ (sym here ∙ p.first)
 

@@ -1,19 +1,17 @@
 -- Where a list that was read ends, for a reader that keeps none of its members: laws.
 use Prim.Native.Nat.{ℕ, suc, ◌+◌, ◌-◌, ◌≤◌, ◌<◌}
 use mathlib.Core.Path.{◌≡◌, refl, sym, ap, ◌∙◌}
+use Rattle.std.proofs.Common.{Result, Ok, Err}
 use mathlib.Core.List.{List, []}
 use lib.Dec.{leb}
 use lib.ListN.{length}
 use native.Mathlib.Omega.{arith}
 use Rattle.scope.specs.Parsed.{Parsed, got, refused, and_then, unless, cons, repeat}
 use borrow.Author.Tests.{leb-true, lt-leb, le-leb}
-use Rattle.scope.specs.declared.Refusal.{Refusal}
-use Rattle.number.specs.declared.Number.{Number}
-use Rattle.number.specs.declared.Number.TheVariants.{Value, Refused}
-use Rattle.number.specs.Answers.{said}
+use Rattle.scope.specs.declared.refusal.Refusal.{Refusal}
 use Rattle.parsing.specs.Parsing.{list_of}
 use Rattle.parsing.proofs.laws.Parsing.{refused-got, and_then-got, unless-got, repeat-same}
-use Rattle.constraint_end.specs.Ends.{ends, whole_at}
+use Rattle.constraint_end.specs.Ends.{ends, said_end, whole_at}
 
 ends-cons : {A : Type 0} (a : A) (p : Parsed (List A)) → ends (cons a p) ≡ ends p
 ends-cons a (got xs end) = refl
@@ -71,21 +69,21 @@ whole-got s n f at {xs} {end} e =
     record { list = p.first ∙ q.rest; past = omega arith }
 
 -- the end of the walk f gives the end of the whole g, where the two agree; x is what the walk answered
-module _ {A : Type 0} (s : List ℕ) (n : ℕ) (f g : ℕ → Parsed A) (at : ℕ) (x : Number) (e : said x ≡ ends (repeat n f at)) (same : (at : ℕ) → f at ≡ g at) where
-  agree : ends (repeat n g at) ≡ said x
+module _ {A : Type 0} (s : List ℕ) (n : ℕ) (f g : ℕ → Parsed A) (at : ℕ) (x : Result ℕ Refusal) (e : said_end x ≡ ends (repeat n f at)) (same : (at : ℕ) → f at ≡ g at) where
+  agree : ends (repeat n g at) ≡ said_end x
   agree = sym (e ∙ ap ends (repeat-same n f g at same))
 
-  pub whole_refused : {r : Refusal} → x ≡ Refused r → said x ≡ ends (whole_at s n g at)
+  pub whole_refused : {r : Refusal} → x ≡ Err r → said_end x ≡ ends (whole_at s n g at)
   unfolding whole_at
-  whole_refused h = rw (h, ends-of-refused (repeat n g at) (agree ∙ ap said h))
+  whole_refused h = rw (h, ends-of-refused (repeat n g at) (agree ∙ ap said_end h))
 
-  pub whole_left : {v end : ℕ} → x ≡ Value v end → end < length s → refused 6 end ≡ ends (whole_at s n g at)
+  pub whole_left : {end : ℕ} → x ≡ Ok end → end < length s → refused 6 end ≡ ends (whole_at s n g at)
   unfolding whole_at
-  whole_left {v} {end} h l = rw (ends-got (repeat n g at) (agree ∙ ap said h), lt-leb (length s) end l)
+  whole_left {end} h l = rw (ends-got (repeat n g at) (agree ∙ ap said_end h), lt-leb (length s) end l)
 
-  pub whole_end : {v end : ℕ} → x ≡ Value v end → length s ≤ end → got 0 end ≡ ends (whole_at s n g at)
+  pub whole_end : {end : ℕ} → x ≡ Ok end → length s ≤ end → got 0 end ≡ ends (whole_at s n g at)
   unfolding whole_at
-  whole_end {v} {end} h l = rw (ends-got (repeat n g at) (agree ∙ ap said h), le-leb (length s) end l)
+  whole_end {end} h l = rw (ends-got (repeat n g at) (agree ∙ ap said_end h), le-leb (length s) end l)
 
 -- readings that agree reach the end alike
 pub whole_same : {A : Type 0} (s : List ℕ) (n : ℕ) (f g : ℕ → Parsed A) (at : ℕ) → ((at : ℕ) → f at ≡ g at) → whole_at s n f at ≡ whole_at s n g at

@@ -7,13 +7,12 @@ use Rattle.scope.specs.Parsed.{answered}
 use Rattle.scope.specs.Instance.{Instance}
 use Rattle.scope.specs.Formula.{variables, most_variables}
 use Rattle.scope.specs.Operations.{score_of, part, falsified_soft, decode_of}
-use Rattle.scope.specs.Answers.{score_means}
+use Rattle.scope.specs.Answers.{means}
 use Rattle.scope.specs.Demands.{Accepted, KeepsHard, Model, OneToOne}
 use Rattle.scope.specs.declared.Infeasibility.{Infeasibility}
 use Rattle.scope.specs.declared.Objective.{Objective}
-use Rattle.scope.specs.declared.Refusal.{Refusal}
-use Rattle.scope.specs.declared.ScoreAnswer.{ScoreAnswer}
-use Rattle.scope.specs.declared.DecodeAnswer.{DecodeAnswer}
+use Rattle.scope.specs.declared.refusal.Refusal.{Refusal}
+use Rattle.std.specs.Prelude.{Result, Ok, Err}
 use Rattle.theory.proofs.laws.Demands.{demand2}
 use Rattle.theory.proofs.laws.Answered.{answered-value}
 use Rattle.model.specs.Answers.{Decoded}
@@ -22,7 +21,7 @@ use Rattle.decoding.proofs.laws.Given.{Gives}
 
 -- a model that is decoded: a part p at a cost
 abbrev pub Decodes : List ℕ → List ℕ → List ℕ → Objective → Type 0
-Decodes file m p cost = Gives file m p (DecodeAnswer.Decoded cost)
+Decodes file m p cost = Gives file m p (Ok cost)
 
 -- demand 2, for an accepted file within the limit of variables
 pub record Matches (file : List ℕ) (i : Instance) : Type 0 where
@@ -34,7 +33,7 @@ pub record Matches (file : List ℕ) (i : Instance) : Type 0 where
   -- each timetable of infeasibility 0 has a model that is decoded to it, at its objective
   pub every : (t : List ℕ) (cost : Objective) → KeepsHard file t cost → (m : List ℕ) × Decodes file m t cost
   -- a model that is refused is none, and its part is empty
-  pub refused : (m p : List ℕ) (f : Refusal) → Gives file m p (DecodeAnswer.Refused f) → (Model i m → ⊥) × (p ≡ [])
+  pub refused : (m p : List ℕ) (f : Refusal) → Gives file m p (Err f) → (Model i m → ⊥) × (p ≡ [])
 
 module _ (file : List ℕ) (i : Instance) (a : Accepted file i) (l : variables i ≤ most_variables) where
   decoded : (m p : List ℕ) (cost : Objective) → Decodes file m p cost → decode_of file m ≡ answered (p, cost)
@@ -74,8 +73,7 @@ module _ (file : List ℕ) (i : Instance) (a : Accepted file i) (l : variables i
 
   -- whoever scores the part gets the same objective
   pub decoded_scored : (m p : List ℕ) (cost : Objective) → Decodes file m p cost
-      → (r : ScoreAnswer) → score_means r ≡ score_of file p
-      → r ≡ ScoreAnswer.Scored (record { 0 = 0 }) cost
-  decoded_scored m p cost d (ScoreAnswer.Scored x o) e =
-      ap (λ (s : Infeasibility × Objective). ScoreAnswer.Scored s.0 s.1) (answered-value (e ∙ keeps m p cost d))
-  decoded_scored m p cost d (ScoreAnswer.Refused x) e = cc (e ∙ keeps m p cost d)
+      → (r : Result (Infeasibility × Objective) Refusal) → means r ≡ score_of file p
+      → r ≡ Ok (record { 0 = 0 }, cost)
+  decoded_scored m p cost d (Ok s) e = ap Ok (answered-value (e ∙ keeps m p cost d))
+  decoded_scored m p cost d (Err x) e = cc (e ∙ keeps m p cost d)

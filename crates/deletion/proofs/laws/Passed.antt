@@ -7,6 +7,7 @@ use lib.Dec.{eqb}
 use borrow.Author.Tests.{eqb-true, eqb-false}
 use Rattle.scope.specs.Parsed.{Parsed, got, refused}
 use Rattle.scope.specs.Number.{number}
+use Rattle.scope.specs.declared.refusal.Reason.{Reason}
 use Rattle.directory.specs.declared.Row.{Row}
 use Rattle.hints.specs.declared.machine.Phase.TheVariants.{Delete, Refused}
 use Rattle.hints.specs.declared.machine.Machine.{Machine}
@@ -25,6 +26,6 @@ passes-id s m row ws ms tr p = go (eqb row.live 0) refl
     by_number l (got id next) e = deletes id next l e p refl refl
 
     go : (t : Bool) → eqb row.live 0 ≡ t
-        → Advances s m row ws ms tr (cond t (stopped (Refused 15) m.at) (id_on m (number s m.at))) ms tr
+        → Advances s m row ws ms tr (cond t (stopped (Refused Reason.NotLive) m.at) (id_on m (number s m.at))) ms tr
     go true t = gone (eqb-true row.live 0 t) refl
     go false t = by_number (eqb-false row.live 0 t) (number s m.at) refl

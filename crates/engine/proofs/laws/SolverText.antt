@@ -7,8 +7,8 @@ use lib.Seq.{length-take-le}
 use Rattle.scope.specs.Parsed.{Answer, answered, refusal}
 use Rattle.scope.specs.Operations.{solver_text_of}
 use Rattle.scope.specs.declared.Objective.{Objective}
-use Rattle.evaluation.specs.declared.Evaluation.{Evaluation}
-use Rattle.evaluation.specs.Evaluated.{part_length}
+use Rattle.std.specs.Prelude.{Ok, Err}
+use Rattle.evaluation.specs.Evaluated.{Evaluation, part_length}
 use Rattle.solver_text.specs.Read.{read_means, filled_by, ReadInto}
 use Rattle.calls.specs.Call.{Call, call, called}
 use Rattle.decode_call.specs.Leaves.{leaves_evaluation}
@@ -36,10 +36,10 @@ module _ (file output model store : List ℕ) (before : ℕ) where
   told : (e : Evaluation) {number value cost : ℕ} {model' store' : List ℕ} → part_length e ≤ length model'
       → call number value cost ≡ leaves_evaluation e before
       → call {B = Outputs} number value (cost, model', store') ≡ leaves_of (read_means e model', model', store') before
-  told (Evaluation.Holds n o) {model' = model'} {store' = store'} h t =
+  told (Ok d) {model' = model'} {store' = store'} h t =
       ap (λ (c : Call ℕ). call {B = Outputs} c.number c.value (c.outputs, model', store')) t
-      ∙ ap (λ k. call {B = Outputs} 0 k (o.0, model', store')) (sym (length-take-le n model' h))
-  told (Evaluation.Refused f) {model' = model'} {store' = store'} h t =
+      ∙ ap (λ k. call {B = Outputs} 0 k (d.1.0, model', store')) (sym (length-take-le d.0 model' h))
+  told (Err f) {model' = model'} {store' = store'} h t =
       ap (λ (c : Call ℕ). call {B = Outputs} c.number c.value (c.outputs, model', store')) t
 
   pub solver_text_told : {e : Evaluation} {number value cost : ℕ} {model' store' : List ℕ} → ReadInto file output model store model' store' e

@@ -4,4 +4,4 @@ use Rattle.engine.proofs.timetable_text.Goals as goal
 
 pub returns : goal.returns
 returns c = let a = c.args in
-    text_told _ a.out.now c.text-answer.result c.text-answer.ensures c.leave_written.ensures
+    text_told _ a.out.now c.text-answer.result c.text-answer.ensures c.leave_number.ensures

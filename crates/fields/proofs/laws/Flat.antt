@@ -1,5 +1,6 @@
 -- The numbers of a constraint's fields, read one after another: laws.
 use Prim.Native.Nat.{ℕ}
+use Rattle.std.proofs.Common.{Result, Ok, Err}
 use mathlib.Core.Path.{◌≡◌, refl}
 use mathlib.Core.Bool.{Bool, true, false, cond}
 use mathlib.Core.List.{List}
@@ -8,8 +9,8 @@ use lib.Dec.{eqb, ltb}
 use Rattle.scope.specs.Parsed.{and_then}
 use Rattle.scope.specs.Number.{limited, reference, listed}
 use Rattle.scope.specs.Instance.{fields_read}
-use Rattle.number.specs.declared.Number.{Number}
-use Rattle.number.specs.Answers.{said}
+use Rattle.scope.specs.Answers.{said}
+use Rattle.scope.specs.declared.refusal.Refusal.{Refusal}
 use Rattle.number.proofs.laws.Lists.{length-leading}
 use Rattle.fields.specs.declared.table.Totals.{Totals}
 use Rattle.fields.specs.declared.flat.Flat.{Flat}
@@ -17,7 +18,7 @@ use Rattle.fields.specs.Answers.{said_list}
 use Rattle.fields.specs.Flat.{counting, pushed, put_or, put_of, left, left_in, FieldRead, NumberRead}
 use Rattle.fields.specs.Table.{Field, to_one, to_many, within, first_of, second_of, third_of, things_of, second_listed}
 
-module _ (n : ℕ) (l s : List ℕ) (at : ℕ) (x : Number) where
+module _ (n : ℕ) (l s : List ℕ) (at : ℕ) (x : Result (ℕ × ℕ) Refusal) where
   pub reference_read : said x ≡ reference 0 n s at → FieldRead (to_one n) l l s at x
   unfolding fields_read left
   reference_read e = record { eq = λ fs k w. rw e }
@@ -26,17 +27,17 @@ module _ (n : ℕ) (l s : List ℕ) (at : ℕ) (x : Number) where
   unfolding fields_read left
   list_read l' e = record { eq = λ fs k w. rw (← e) (by fs k w x) }
     where
-      by : (fs : List Field) (k : ℕ) (w : Flat) (x : Number)
+      by : (fs : List Field) (k : ℕ) (w : Flat) (x : Result (ℕ × ℕ) Refusal)
           → and_then (said_list l' x) (λ vs next. fields_read (left fs k (counting (length vs) w) vs) s next)
           ≡ and_then (said x) (λ v next. fields_read (left_in fs k (counting v w) l') s next)
-      by fs k w (Number.Value v next) = rw (length-leading v l')
-      by fs k w (Number.Refused f) = refl
+      by fs k w (Ok r) = rw (length-leading r.0 l')
+      by fs k w (Err f) = refl
 
-pub number_read : (lo hi : ℕ) (l s : List ℕ) (at : ℕ) (x : Number) → said x ≡ limited lo hi s at → FieldRead (within lo hi) l l s at x
+pub number_read : (lo hi : ℕ) (l s : List ℕ) (at : ℕ) (x : Result (ℕ × ℕ) Refusal) → said x ≡ limited lo hi s at → FieldRead (within lo hi) l l s at x
 unfolding fields_read left
 number_read lo hi l s at x e = record { eq = λ fs k w. rw e }
 
-pub bound-read : (lo hi : ℕ) (s : List ℕ) (at : ℕ) (x : Number) → said x ≡ limited lo hi s at → NumberRead (within lo hi) s at x
+pub bound-read : (lo hi : ℕ) (s : List ℕ) (at : ℕ) (x : Result (ℕ × ℕ) Refusal) → said x ≡ limited lo hi s at → NumberRead (within lo hi) s at x
 bound-read lo hi s at x e = record { each = λ l. number_read lo hi l s at x e }
 
 -- what is put is a list's length where the field is a list

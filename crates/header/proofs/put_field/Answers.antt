@@ -3,4 +3,4 @@ use Rattle.digits.specs.Run.{then}
 use Rattle.header.proofs.put_field.Goals as goal
 
 pub returns : goal.returns
-returns c = then c.write_number-a.ensures c.put_bytes.ensures
+returns c = then c.write_number-a.ensures c.put_all.ensures

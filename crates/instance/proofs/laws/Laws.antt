@@ -2,6 +2,7 @@
 use Prim.Native.Nat.{ℕ, ◌+◌, ◌*◌, ◌≤◌, ◌<◌}
 use mathlib.Core.Path.{◌≡◌, refl, sym, ap, ◌∙◌, subst}
 use mathlib.Core.List.{List, ◌∷◌}
+use Rattle.std.proofs.Common.{Result, Ok}
 use lib.Dec.{leb}
 use lib.ListN.{length, drop}
 use native.Mathlib.Omega.{arith}
@@ -9,6 +10,7 @@ use borrow.Author.Tests.{leb-true}
 use Rattle.scope.specs.Parsed.{Parsed, got, refused, and_then, unless, repeat}
 use Rattle.scope.specs.Parsed.{answered, refusal}
 use Rattle.scope.specs.Operations.{read_of}
+use Rattle.scope.specs.declared.refusal.Refusal.{Refusal}
 use Rattle.scope.specs.Number.{limited}
 use Rattle.scope.specs.Kinds.{Kind, Constraint}
 use Rattle.scope.specs.Instance.{Counts, Instance, counts_of, distinct, ordered, ended, parse}
@@ -23,7 +25,6 @@ use Rattle.tables.specs.Room.{group_room}
 use Rattle.tables.proofs.laws.Room.{room_most}
 use Rattle.constraint.specs.declared.kinds.Constraint as decl
 use Rattle.constraint.specs.declared.kinds.Head.{Head}
-use Rattle.constraint.specs.declared.kinds.Next.{Next}
 use Rattle.constraint.specs.Answers.{counts_in, said_next, constraint_of}
 use Rattle.constraint.specs.Bounds.{low_of, high_of}
 use Rattle.constraint.specs.Decoded.{decoded_at, ended_by, checked_at, longest_of}
@@ -31,7 +32,6 @@ use Rattle.constraint.proofs.laws.Decoded.{constraint-checked}
 use Rattle.constraint.proofs.laws.Valid.{decoded-got}
 use Rattle.constraint.specs.Walk.{Walk, constraints_in}
 use Rattle.constraint.proofs.laws.Walk.{walk_start, walk_read}
-use Rattle.instance.specs.declared.reader.File.{File}
 use Rattle.instance.specs.Answers.{head_start, constraints_of, instance_of, said_file}
 use Rattle.constraint_end.specs.Ends.{end_of, whole_at}
 use Rattle.constraint_end.proofs.laws.Ends.{whole-got}
@@ -148,7 +148,7 @@ end-got (refused k v) h = let z : ⊥ = omega arith in elim z [ ]
 abbrev without_constraints : Instance → Start
 without_constraints i = record { times = i.times; resources = i.resources; events = i.events; groups = i.groups }
 
-module _ (s d te tg : List ℕ) (h : Head) (e : said_file s d te tg (File.Accepted h) ≡ parse s) where
+module _ (s d te tg : List ℕ) (h : Head) (e : said_file s d te tg (Ok h) ≡ parse s) where
   abbrev start : Start
   start = head_start d te tg h
 
@@ -217,11 +217,11 @@ module _ {s d te tg : List ℕ} {h : Head} (a : Accepted s d te tg h) where
     pub walk : Walk (counts_in h) s h.constraints (i + 1) next (constraints_in h s)
     pub valid : ConstraintOf (counts_in h) (head_start d te tg h) c
 
-  pub accepted_next : {i at : ℕ} (l : List ℕ) (x : Next) {c : decl.Constraint} {next : ℕ}
+  pub accepted_next : {i at : ℕ} (l : List ℕ) (x : Result (decl.Constraint × ℕ) Refusal) {c : decl.Constraint} {next : ℕ}
       → Walk (counts_in h) s h.constraints i at (constraints_in h s)
       → i < h.constraints
       → said_next l x ≡ decoded_at (counts_in h) s at
-      → x ≡ Next.Read c next
+      → x ≡ Ok (c, next)
       → NextOf i next (constraint_of l c)
   accepted_next {i} {at} l x {c} {next} w k e t =
       let r = walk_read w k l x e t in

@@ -1,6 +1,6 @@
 -- What is known of sizes and tables that were read: laws.
 use Prim.Native.Nat.{ℕ, ◌≤◌}
-use mathlib.Core.Path.{◌≡◌, sym, ap, ◌∙◌, subst}
+use mathlib.Core.Path.{◌≡◌, sym, subst}
 use mathlib.Core.List.{List}
 use lib.ListN.{length}
 use native.Mathlib.Omega.{arith}
@@ -20,8 +20,7 @@ use Rattle.windows.specs.Times.{times_of, times_in, TimesRead}
 use Rattle.windows.proofs.laws.Times.{all-groups-got}
 use Rattle.parsing.proofs.laws.Calendar.{times-got}
 use Rattle.instance.specs.declared.reader.Sizes.{Sizes}
-use Rattle.instance.specs.declared.reader.SizesRead.{SizesRead}
-use Rattle.instance.specs.Answers.{said_sizes, said_tables, start_of}
+use Rattle.instance.specs.Answers.{start_of}
 use Rattle.instance.specs.File.{Start, sizes_in, tables_at}
 use Rattle.instance.specs.Start.{SizesIn}
 
@@ -59,17 +58,11 @@ sizes-got s {n} {end} e =
     }
 
 -- what is known of the sizes that a call gave
-pub sizes-value : (s : List ℕ) (x : SizesRead) {w : Sizes} {n : ℕ}
-    → said_sizes x ≡ sizes_in s
-    → x ≡ SizesRead.Value w n
-    → SizesIn w.times w.events w.resources
-sizes-value s x {w} {n} e h = (sizes-got s (sym e ∙ ap said_sizes h)).sizes
+pub sizes-value : (s : List ℕ) {T E R n : ℕ} → got (T, E, R) n ≡ sizes_in s → SizesIn T E R
+sizes-value s e = (sizes-got s (sym e)).sizes
 
-pub times-value : (s : List ℕ) (x : SizesRead) {w : Sizes} {n : ℕ}
-    → said_sizes x ≡ sizes_in s
-    → x ≡ SizesRead.Value w n
-    → TimesRead s w.times
-times-value s x {w} {n} e h = (sizes-got s (sym e ∙ ap said_sizes h)).times
+pub times-value : (s : List ℕ) {T E R n : ℕ} → got (T, E, R) n ≡ sizes_in s → TimesRead s T
+times-value s e = (sizes-got s (sym e)).times
 
 -- an instance without its constraints, in the file s
 pub record StartIn (s : List ℕ) (t : Start) : Type 0 where
@@ -117,8 +110,5 @@ tables-got s {t} {end} e =
     record { start = subst (StartIn s) {x = record { times = n.0; resources = n.2; events = b.value; groups = g.value }} h w; inside = omega (arith, z.inside) }
 
 -- what is known of the tables that a call filled
-pub tables_start : (s d te tg : List ℕ) (x : SizesRead) (w : Sizes) (n : ℕ)
-    → said_tables d te tg x ≡ tables_at s
-    → x ≡ SizesRead.Value w n
-    → StartIn s (start_of d te tg w)
-tables_start s d te tg x w n e h = (tables-got s (sym e ∙ ap (said_tables d te tg) h)).start
+pub tables_start : (s d te tg : List ℕ) (w : Sizes) {n : ℕ} → got (start_of d te tg w) n ≡ tables_at s → StartIn s (start_of d te tg w)
+tables_start s d te tg w e = (tables-got s (sym e)).start

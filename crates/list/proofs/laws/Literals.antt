@@ -5,7 +5,6 @@ use mathlib.Core.List.{List, [], ◌∷◌, map}
 use native.Mathlib.Omega.{arith}
 use lib.ListN.{length, get_or, take, drop, length-map}
 use Rattle.scope.specs.Cnf.{pos, opp, Gate, or, and}
-use Rattle.scope.specs.Formula.{ref_literal, node_gate}
 use Rattle.scope.specs.Kinds.{Kind, clash, unavailable, preferred, split, spread, busy, cluster, idle, distribute, lengths, precedence, Atom, Y, Entry, atom, entries, Listed, up_to, counted_of}
 use Rattle.parsing.specs.Each.{Each, each_none, each_more}
 use Rattle.parsing.proofs.laws.Each.{each_at, each-drop}

@@ -10,7 +10,7 @@ use lib.Dec.{ltb}
 use lib.ListN.{length, take, drop, get_or, length-drop, drop_of_length-le}
 use lib.Seq.{drop-cons, drop-drop}
 use borrow.Author.Tests.{ltb-true, ltb-false}
-use Rattle.sink.specs.Lines.{Line, clause_line, lines}
+use Rattle.sink.specs.Lines.{Line, clause_line}
 use Rattle.sink.proofs.laws.Lines.{map-append}
 use Rattle.node_clauses.specs.LongClauses.{LongClause, node_clauses}
 use Rattle.list_clauses.specs.Stored.{store_clauses, StoreNodes}

@@ -3,6 +3,7 @@ use Prim.Native.Nat.{ℕ, ◌+◌, ◌<◌, ◌≤◌}
 use mathlib.Core.Path.{◌≡◌, refl, ap, ◌∙◌}
 use mathlib.Core.List.{List, [], ◌∷◌, ◌++◌}
 use mathlib.Core.Bool.{Bool, true, false, cond}
+use mir.Val.{bool_byte}
 use lib.Dec.{eqb}
 use lib.ListN.{length, get_or, drop, set, length-append, drop_of_length-le}
 use lib.Seq.{take-suc-set, drop-cons}
@@ -16,6 +17,14 @@ indicator-most {b} o = rw o.is (by b)
     by : (b : Bool) → cond b 1 0 ≤ 1
     by true = omega arith
     by false = omega arith
+
+-- a test as a number
+pub indicator-byte : {b t : Bool} {k : ℕ} → t ≡ b → k ≡ bool_byte t → Indicator b k
+indicator-byte {b} e h = record { is = h ∙ rw e (by b) }
+  where
+    by : (b : Bool) → bool_byte b ≡ cond b 1 0
+    by true = refl
+    by false = refl
 
 -- nothing, and one word more
 pub holds-none : (words : List ℕ) → Holds words 0 []

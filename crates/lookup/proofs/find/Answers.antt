@@ -1,17 +1,8 @@
-use Rattle.std.proofs.Common.{◌≡◌, length, min, arith}
+use Rattle.std.proofs.Common.{◌≡◌, length}
 use Rattle.directory.specs.Directory.{rows_of}
-use Rattle.lookup.specs.Lookup.{started, narrowed}
-use Rattle.lookup.proofs.Search.{starts-bounded, left_all, left_more, left_over, narrows, nearer, bounded}
+use Rattle.lookup.specs.Lookup.{narrowed}
+use Rattle.lookup.proofs.Search.{left_more, left_over, narrows, nearer, bounded}
 use Rattle.lookup.proofs.find.Goals as goal
-
-pub loop-s-init : goal.loop-s-init
-loop-s-init c =
-    let ys = c.args.rows.now in
-    let e : c.start-s.result ≡ started (min c.args.n (length ys)) c.args.id = cc in
-    record {
-      bound = rw e (starts-bounded (length ys) (min c.args.n (length ys)) c.args.id (omega arith));
-      left = rw e (left_all ys c.args.n c.args.id);
-    }
 
 pub loop-s-smaller : goal.loop-s-smaller
 loop-s-smaller c =

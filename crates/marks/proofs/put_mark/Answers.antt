@@ -3,9 +3,6 @@ use native.Mathlib.Omega.{arith}
 use Rattle.marks.proofs.laws.Marks.{put_byte, put-past}
 use Rattle.marks.proofs.put_mark.Goals as goal
 
-pub returns-then-v-eq0 : goal.returns-then-v-eq0
-returns-then-v-eq0 c = let e = c.if-v-eq0.true in rw e
-
 pub returns-then-marks-i : goal.returns-then-marks-i
 returns-then-marks-i c = let s = c.args in sym (put-past s.marks.now s.v s.mark (omega arith))
 

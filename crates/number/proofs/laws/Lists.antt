@@ -10,10 +10,8 @@ use native.Mathlib.Omega.{arith}
 use native.Mathlib.Numerals.{add-one}
 use Rattle.scope.specs.Parsed.{Parsed, got}
 use Rattle.scope.specs.Number.{limited, reference, references, listed}
-use Rattle.scope.specs.declared.Refusal.{Refusal}
-use Rattle.number.specs.declared.Number.{Number}
-use Rattle.number.specs.declared.Number.TheVariants.{Value, Refused}
-use Rattle.number.specs.Answers.{said, refused_by}
+use Rattle.scope.specs.Answers.{refused_by}
+use Rattle.scope.specs.declared.refusal.Refusal.{Refusal}
 use Rattle.parsing.proofs.laws.Parsing.{before, before-cons, before-nil, before-end}
 use Rattle.number.specs.Lists.{leading}
 
@@ -50,31 +48,29 @@ list-start o out count n s at next e = let k : count - 0 ≡ count = omega arith
 
 module _ (o : ℕ) (out : List ℕ) (i count prev n : ℕ) (s : List ℕ) (at : ℕ) where
   -- a reference that is refused
-  pub list_refused : (x : Number) (f : Refusal) (whole : Parsed (List ℕ))
+  pub list_refused : (f : Refusal) (whole : Parsed (List ℕ))
       → whole ≡ left_after o out i count prev n s at
       → i < count
-      → said x ≡ reference prev n s at
-      → x ≡ Refused f
+      → refused_by f ≡ reference prev n s at
       → refused_by f ≡ whole
   unfolding references before
-  list_refused x f whole inv h e t =
+  list_refused f whole inv h e =
       let k : count - i ≡ suc (count - (i + 1)) = omega arith in
-      sym (inv ∙ rw (k, ← e, t))
+      sym (inv ∙ rw (k, ← e))
 
   -- one more, stored at j
-  pub list_more : (x : Number) (j v next : ℕ) (whole : Parsed (List ℕ))
+  pub list_more : (j v next : ℕ) (whole : Parsed (List ℕ))
       → whole ≡ left_after o out i count prev n s at
       → i < count
       → j ≡ o + i
       → j < length out
-      → said x ≡ reference prev n s at
-      → x ≡ Value v next
+      → got v next ≡ reference prev n s at
       → whole ≡ left_after o (set out j v) (i + 1) count v n s next
   unfolding references
-  list_more x j v next whole inv h p l e t =
+  list_more j v next whole inv h p l e =
       let k : count - i ≡ suc (count - (i + 1)) = omega arith in
       let r : i < length (drop o out) = simp length-drop (omega arith) in
-      let here : reference prev n s at ≡ got v next = sym e ∙ ap said t in
+      let here : reference prev n s at ≡ got v next = sym e in
       let turn : whole ≡ before (take i (drop o out) ++ (v ∷ [])) (references (count - (i + 1)) v n s next) =
       inv ∙ rw (k, here) (before-cons (take i (drop o out)) v (references (count - (i + 1)) v n s next))
       in

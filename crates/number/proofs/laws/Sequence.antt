@@ -1,48 +1,35 @@
 -- Steps of a sequence of reads, for `search`: a function that reads one field after another returns what the definition says,
 -- by these laws and what the calls on the way ensure.
-use Prim.Native.Nat.{ℕ}
-use mathlib.Core.Path.{◌≡◌, sym, ap, ◌∙◌}
-use mathlib.Core.Bool.{Bool, true, false}
+use Rattle.std.proofs.Common.{◌≡◌, ℕ, Bool, true, false, Result, Ok, Err, sym, ap, ◌∙◌, List}
+use Rattle.std.specs.Result.{IsErr, IsErrAnd}
+use Rattle.std.proofs.lemmas.Result.{err_from_is_err_and}
 use borrow.Author.Tests.{le-leb, lt-leb, lt-ltb, le-ltb}
 use Rattle.scope.specs.Parsed.{Parsed, got, refused, and_then, unless}
-use Rattle.scope.specs.declared.Refusal.{Refusal}
-use Rattle.number.specs.declared.Number.{Number}
-use Rattle.number.specs.declared.Number.TheVariants.{Value, Refused}
-use Rattle.number.specs.Answers.{said, refusal_of}
-use Rattle.parsing.proofs.laws.Numbers.{LimitedAt, ReferenceAt, limited-got, reference-got}
 use Rattle.scope.specs.Number.{limited, reference}
-use mathlib.Core.List.{List}
+use Rattle.scope.specs.Reason.{number_of}
+use Rattle.scope.specs.Answers.{said, refused_by}
+use Rattle.scope.specs.declared.refusal.Refusal.{Refusal}
+use Rattle.parsing.proofs.laws.Numbers.{LimitedAt, ReferenceAt, limited-got, reference-got}
 
 -- what was read goes to the rest; a refusal is the result
 pub step : {A B : Type 0} (p : Parsed A) (f : A → ℕ → Parsed B) (a : A) (n : ℕ) (r : Parsed B)
-    → p ≡ got a n
+    → got a n ≡ p
     → r ≡ f a n
     → r ≡ and_then p f
-step p f a n r e h = rw e h
+step p f a n r e h = rw (← e) h
 
-pub stop : {A B : Type 0} (p : Parsed A) (f : A → ℕ → Parsed B) (k v : ℕ) → p ≡ refused k v → refused k v ≡ and_then p f
-stop p f k v e = rw e
+pub stop : {A B : Type 0} (p : Parsed A) (f : A → ℕ → Parsed B) (k v : ℕ) → refused k v ≡ p → refused k v ≡ and_then p f
+stop p f k v e = rw (← e)
 
--- a number that was read; a refusal that is handed on, in an answer of another type and of the same
-pub step-number : {B : Type 0} (x : Number) (p : Parsed ℕ) (f : ℕ → ℕ → Parsed B) (v n : ℕ) (r : Parsed B)
-    → said x ≡ p
-    → x ≡ Value v n
-    → r ≡ f v n
-    → r ≡ and_then p f
-step-number x p f v n r e h k = step p f v n r (sym e ∙ ap said h) k
+-- a refusal that `?` hands on
+pub handed-on : {A : Type 0} (r : Result A Refusal) (f : Refusal) → IsErr r × IsErrAnd r (λ e. e ≡ f) → r ≡ Err f
+handed-on r f h = let p = err_from_is_err_and r h.1 in p.1 ∙ ap Err p.2
 
-pub number-refused : (x : Number) (p : Parsed ℕ) (g f : Refusal)
-    → said x ≡ p
-    → x ≡ Refused f
-    → g ≡ refusal_of x
-    → p ≡ refused g.number g.value
-number-refused x p g f e h k = rw (k, h) (sym e ∙ ap said h)
-
-pub number-stop : (x : Number) (p : Parsed ℕ) (g : ℕ → ℕ → Parsed ℕ) (f : Refusal)
-    → said x ≡ p
-    → x ≡ Refused f
-    → said x ≡ and_then p g
-number-stop x p g f e h = rw (← e, h)
+pub said-on : {A : Type 0} (r : Result (A × ℕ) Refusal) (f : Refusal) (p : Parsed A)
+    → IsErr r × IsErrAnd r (λ e. e ≡ f)
+    → refused_by f ≡ p
+    → said r ≡ p
+said-on r f p h e = ap said (handed-on r f h) ∙ e
 
 -- a test that held, and one that did not
 pub unless-ok : {A : Type 0} (t : Bool) (k v : ℕ) (p r : Parsed A) → t ≡ true → r ≡ p → r ≡ unless t k v p
@@ -51,18 +38,13 @@ unless-ok t k v p r e h = rw e h
 pub unless-no : {A : Type 0} (t : Bool) (k v : ℕ) (p : Parsed A) → t ≡ false → refused k v ≡ unless t k v p
 unless-no t k v p e = rw e
 
-pub ruleset sequence =
-    (stop, step-number, number-refused, number-stop, unless-ok, unless-no, le-leb, lt-leb, lt-ltb, le-ltb)
+pub ruleset sequence = (stop, step, said-on, unless-ok, unless-no, le-leb, lt-leb, lt-ltb, le-ltb)
 
 -- what is known of a number within limits and of a reference that a call gave
-pub limited-value : (lo hi : ℕ) (s : List ℕ) (at : ℕ) (x : Number) {v n : ℕ}
-    → said x ≡ limited lo hi s at
-    → x ≡ Value v n
-    → LimitedAt lo hi s at v n
-limited-value lo hi s at x e h = limited-got lo hi s at (sym e ∙ ap said h)
+pub limited-value : (lo hi : ℕ) (s : List ℕ) (at : ℕ) {v n : ℕ} → got v n ≡ limited lo hi s at → LimitedAt lo hi s at v n
+limited-value lo hi s at e = limited-got lo hi s at (sym e)
 
-pub reference-value : (before n : ℕ) (s : List ℕ) (at : ℕ) (x : Number) {v next : ℕ}
-    → said x ≡ reference before n s at
-    → x ≡ Value v next
+pub reference-value : (before n : ℕ) (s : List ℕ) (at : ℕ) {v next : ℕ}
+    → got v next ≡ reference before n s at
     → ReferenceAt before n s at v next
-reference-value before n s at x e h = reference-got before n s at (sym e ∙ ap said h)
+reference-value before n s at e = reference-got before n s at (sym e)

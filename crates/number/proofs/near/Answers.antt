@@ -4,4 +4,4 @@ use Rattle.number.proofs.Turns.{first_last}
 use Rattle.number.proofs.near.Goals as goal
 
 pub returns-then-first-lt128 : goal.returns-then-first-lt128
-returns-then-first-lt128 c = sym (first_last _ _ _ c.if-s-at.false c.wide-first.ensures c.if-first-lt128.true)
+returns-then-first-lt128 c = sym (first_last _ _ _ c.if-s-at.false c.from-first.ensures c.if-first-lt128.true)

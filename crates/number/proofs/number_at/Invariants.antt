@@ -12,6 +12,3 @@ invariant-loop-i l = (l.at < l.i)
     × (l.value ≤ 4294967295)
     × (l.scale ≤ 4294967168)
     × (number_at l.s l.at ≡ number_of l.at (after l.value l.scale (l.i - l.at) (front (drop l.i l.s))))
-
-abbrev pub decreases-loop-i : goal.decreases-loop-i
-decreases-loop-i l = length l.s - l.i

@@ -5,11 +5,10 @@ use mathlib.Core.List.{List, ◌++◌}
 use lib.ListN.{length, drop, replicate}
 use Rattle.scope.specs.Parsed.{Answer, answered, refusal}
 use Rattle.scope.specs.Operations.{text_of}
-use Rattle.scope.specs.Answers.{text_means, check_means, best_means}
-use Rattle.scope.specs.declared.TextAnswer.{TextAnswer}
+use Rattle.scope.specs.Answers.{means}
+use Rattle.std.specs.Prelude.{Result}
+use Rattle.scope.specs.declared.refusal.Refusal.{Refusal}
 use Rattle.scope.specs.declared.Objective.{Objective}
-use Rattle.scope.specs.declared.CheckAnswer.{CheckAnswer}
-use Rattle.scope.specs.declared.BestAnswer.{BestAnswer}
 use Rattle.directory.specs.declared.Row.{Row}
 use Rattle.directory.specs.Rows.{no_row}
 use Rattle.text.specs.Written.{written}
@@ -39,13 +38,13 @@ written-leaves : (a : Answer (List ℕ)) (out : List ℕ)
 written-leaves (answered t) out = refl
 written-leaves (refusal k v) out = refl
 
-module _ (file out : List ℕ) (x : TextAnswer) {after : List ℕ} (e : (text_means x, after) ≡ written (text_of file (length out)) out) where
-  text_leaves : leaving (text_means x) after ≡ text_call file out
+module _ (file out : List ℕ) (x : Result ℕ Refusal) {after : List ℕ} (e : (means x, after) ≡ written (text_of file (length out)) out) where
+  text_leaves : leaving (means x) after ≡ text_call file out
   text_leaves = ap (λ r. leaving r.0 r.1) e ∙ written-leaves (text_of file (length out)) out
 
-  pub text_told : {number value : ℕ} → call number value tt ≡ alone (text_means x)
+  pub text_told : {number value : ℕ} → call number value tt ≡ alone (means x)
       → call number value after ≡ text_call file out
-  text_told t = with-outputs (text_means x) after t ∙ text_leaves
+  text_told t = with-outputs (means x) after t ∙ text_leaves
 
 abbrev pub zeros : List ℕ → List ℕ
 zeros xs = replicate (length xs) 0
@@ -58,14 +57,14 @@ zeroed-leaves : (a : Answer ℕ) (s : Stores) → leaving a (zeroed s) ≡ calle
 zeroed-leaves (answered n) s = refl
 zeroed-leaves (refusal k v) s = refl
 
-module _ (a : Answer ℕ) (ws : List ℕ) (rs : List Row) (ms : List ℕ) (x : CheckAnswer) {words : List ℕ} {rows : List Row} {marks : List ℕ}
-    (e : check_means x ≡ a) (w : words ≡ zeros ws) (r : rows ≡ zero_rows rs) (m : marks ≡ zeros ms) where
-  check_leaves : leaving (check_means x) (words, rows, marks) ≡ steps_call a (ws, rs, ms)
+module _ (a : Answer ℕ) (ws : List ℕ) (rs : List Row) (ms : List ℕ) (x : Result ℕ Refusal) {words : List ℕ} {rows : List Row} {marks : List ℕ}
+    (e : means x ≡ a) (w : words ≡ zeros ws) (r : rows ≡ zero_rows rs) (m : marks ≡ zeros ms) where
+  check_leaves : leaving (means x) (words, rows, marks) ≡ steps_call a (ws, rs, ms)
   check_leaves = rw (e, w, r, m) (zeroed-leaves a (ws, rs, ms))
 
-  pub check_told : {number value : ℕ} → call number value tt ≡ alone (check_means x)
+  pub check_told : {number value : ℕ} → call number value tt ≡ alone (means x)
       → call number value (words, rows, marks) ≡ steps_call a (ws, rs, ms)
-  check_told t = with-outputs (check_means x) (words, rows, marks) t ∙ check_leaves
+  check_told t = with-outputs (means x) (words, rows, marks) t ∙ check_leaves
 
 -- the best model: its cost and steps or a refusal, and zeros in the stores
 abbrev pub leaves_best : Answer (Objective × ℕ) → ℕ → Call ℕ
@@ -84,8 +83,8 @@ stores-beside a before s t = ap (λ (c : Call ℕ). call {B = ℕ × Stores} c.n
     go (answered b) = refl
     go (refusal k v) = refl
 
-module _ (a : Answer (Objective × ℕ)) (before : ℕ) (ws : List ℕ) (rs : List Row) (ms : List ℕ) (x : BestAnswer) {words : List ℕ}
-    {rows : List Row} {marks : List ℕ} (e : best_means x ≡ a) (w : words ≡ zeros ws) (r : rows ≡ zero_rows rs) (m : marks ≡ zeros ms) where
-  pub best_told : {number value cost : ℕ} → call number value cost ≡ leaves_best (best_means x) before
+module _ (a : Answer (Objective × ℕ)) (before : ℕ) (ws : List ℕ) (rs : List Row) (ms : List ℕ) (x : Result (Objective × ℕ) Refusal) {words : List ℕ}
+    {rows : List Row} {marks : List ℕ} (e : means x ≡ a) (w : words ≡ zeros ws) (r : rows ≡ zero_rows rs) (m : marks ≡ zeros ms) where
+  pub best_told : {number value cost : ℕ} → call number value cost ≡ leaves_best (means x) before
       → call {B = ℕ × Stores} number value (cost, (words, rows, marks)) ≡ leaves_both a before (zeroed (ws, rs, ms))
-  best_told t = stores-beside (best_means x) before (words, rows, marks) t ∙ rw (e, w, r, m)
+  best_told t = stores-beside (means x) before (words, rows, marks) t ∙ rw (e, w, r, m)

@@ -8,7 +8,8 @@ use Rattle.scope.specs.Kinds.{Constraint}
 use Rattle.tables.specs.Room.{group_room}
 use Rattle.constraint.specs.declared.kinds.Constraint as decl
 use Rattle.constraint.specs.declared.kinds.Head.{Head}
-use Rattle.constraint.specs.declared.kinds.Next.{Next}
+use Rattle.scope.specs.declared.refusal.Refusal.{Refusal}
+use Rattle.std.proofs.Common.{Result, Ok}
 use Rattle.constraint.specs.Answers.{counts_in, said_next, constraint_of}
 use Rattle.constraint.specs.Decoded.{decoded_at}
 use Rattle.constraint.specs.Walk.{Walk, constraints_in}
@@ -84,8 +85,8 @@ module _ {s d te us tg : List ℕ} {h : Head} (a : Tabled s d te us tg h) {cols 
 
   module _ {k at : ℕ} {t : Total} (p : Part s d te tg h cols before k at t) where
     -- constraint number k is next, where the call answered x with the store l
-    pub part_read : (l : List ℕ) (x : Next) {c : decl.Constraint} {next : ℕ} → k < h.constraints
-        → said_next l x ≡ decoded_at (counts_in h) s at → x ≡ Next.Read c next → NextOf a.accepted k next (constraint_of l c)
+    pub part_read : (l : List ℕ) (x : Result (decl.Constraint × ℕ) Refusal) {c : decl.Constraint} {next : ℕ} → k < h.constraints
+        → said_next l x ≡ decoded_at (counts_in h) s at → x ≡ Ok (c, next) → NextOf a.accepted k next (constraint_of l c)
     part_read l x b e q = accepted_next a.accepted l x p.walk b e q
 
     module _ {next : ℕ} {c : Constraint} (n : NextOf a.accepted k next c) where

@@ -1,6 +1,6 @@
 -- The lists of the kinds that have no nodes, from the literals that stand in the words.
 use Prim.Native.Nat.{ℕ, zero, suc, ◌+◌, ◌-◌, ◌<◌}
-use mathlib.Core.Path.{◌≡◌, ap, ◌∙◌}
+use mathlib.Core.Path.{◌≡◌, refl, ap, ◌∙◌}
 use mathlib.Core.List.{List, map, flat_map}
 use native.Mathlib.Omega.{arith}
 use native.Mathlib.Nat.{add-zero}
@@ -34,6 +34,11 @@ list-of-time f T t w =
     let e : 1 + (t - 1) ≡ t = omega (arith, w.low) in
     map-from f 1 T (t - 1) (omega (arith, w.low, w.high)) ∙ ap f e
 
+-- kind 6 has the list of kind 2
+pub busy-same : (h : Head) (groups : List ℕ) (r g lo hi : ℕ) → only_in groups h (busy r g lo hi) ≡ only_in groups h (unavailable r g)
+unfolding counted_of
+busy-same h groups r g lo hi = refl
+
 module _ (h : Head) {words : List ℕ} {n : ℕ} where
   pub clash_plain : (durations : List ℕ) (us : ℕ → List ℕ) (groups : List ℕ) (r t : ℕ) → Within h.times t
       → Holds words n (map (λ e. y_at h.times e t) (us r))
@@ -62,5 +67,4 @@ module _ (h : Head) {words : List ℕ} {n : ℕ} where
 
     pub busy_plain : (r g lo hi : ℕ) → Holds words n (map (x_at h.times (layout_of h) r) (group_in h.groups groups g))
         → Plain (num_of h) (only_in groups h (busy r g lo hi)) words (plain_of n)
-    unfolding counted_of
-    busy_plain r g lo hi p = adds-plain (λ v. uses_add h.times (layout_of h) r (group_in h.groups groups g) v 0) p
+    busy_plain r g lo hi p = rw (busy-same h groups r g lo hi) (unavailable_plain r g p)

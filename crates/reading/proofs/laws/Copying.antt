@@ -15,8 +15,7 @@ use Rattle.theory.proofs.laws.StepTokens.{Tokens, up_to0}
 use Rattle.laws.specs.Booleans.{impossible}
 use Rattle.reader.specs.Loop.{while_more}
 use Rattle.reader.proofs.Loops.{closed_same, nearer}
-use Rattle.copying.specs.declared.literals.Copying.{Copying}
-use Rattle.copying.specs.Copies.{copying, copied, copied_by, copied_words, copy_turn, copied_from, copied_at}
+use Rattle.copying.specs.Copies.{Copying, copying, copied, copied_by, copied_words, copy_turn, copied_from, copied_at}
 use Rattle.reading.proofs.laws.Reading.{numbers_at}
 use Rattle.reading.proofs.laws.Listing.{list-cut, list_more, list_end, consed}
 

@@ -4,18 +4,15 @@ use mathlib.Core.Bool.{true, false}
 use mathlib.Core.List.{List}
 use Prim.Native.Nat.{ℕ, ◌+◌, ◌≤◌, ◌<◌}
 use lib.ListN.{length, drop}
+use Rattle.std.specs.Prelude.{Option, Some, None}
 use Rattle.theory.proofs.laws.StepTokens as steps
 use Rattle.scope.specs.Steps.{Step, add, delete}
 use Rattle.theory.proofs.laws.StepTokens.{Tokens, tokens, up_to0, numbers, read}
 use Rattle.theory.proofs.laws.Marked.{all_open, all_false, literals_ok, well_formed}
 use Rattle.marks.specs.Marks.{marks_of}
-use Rattle.passing.specs.declared.numbers.Numbers.{Numbers}
-use Rattle.passing.specs.declared.numbers.Numbers.TheVariants.{End, Cut}
-use Rattle.spelling.specs.declared.literals.Literals.{Literals}
-use Rattle.spelling.specs.declared.literals.Literals.TheVariants as found
 use Rattle.steps.specs.declared.step.Clause.{Clause}
-use Rattle.steps.specs.declared.step.Read.{Read}
-use Rattle.steps.specs.declared.step.Read.TheVariants.{Adds, Deletes, Misformed}
+use Rattle.steps.specs.declared.step.Step as parsed
+use Rattle.steps.specs.declared.step.Step.TheVariants.{Adds, Deletes}
 
 -- what is left of a proof from an offset on, and the numbers there up to a 0
 abbrev pub tokens_at : List ℕ → ℕ → Tokens
@@ -31,9 +28,9 @@ pub record Listed (s : List ℕ) (at : ℕ) (ns : List ℕ) (next : ℕ) : Type 
   pub inside : next ≤ length s
 
 -- numbers that are passed over
-pub data Passes (s : List ℕ) (at : ℕ) : Numbers → Type 0 where
-  ends : (ns : List ℕ) (next : ℕ) → Listed s at ns next → Passes s at (End next)
-  cut : numbers_at s at ≡ steps.cut → Passes s at Cut
+pub data Passes (s : List ℕ) (at : ℕ) : Option ℕ → Type 0 where
+  ends : (ns : List ℕ) (next : ℕ) → Listed s at ns next → Passes s at (Some next)
+  cut : numbers_at s at ≡ steps.cut → Passes s at None
 
 -- the literals of a clause that are read, after k others, where each variable has a mark
 pub record LiteralsAt (s : List ℕ) (at last : ℕ) (ms : List ℕ) (k : ℕ) (ms' : List ℕ) (size next : ℕ) : Type 0 where
@@ -43,12 +40,12 @@ pub record LiteralsAt (s : List ℕ) (at last : ℕ) (ms : List ℕ) (k : ℕ) (
   pub good : literals_ok last (marks_of ms) literals ≡ true
   pub marks : marks_of ms' ≡ all_false (marks_of ms) literals
 
-pub data ReadsLiterals (s : List ℕ) (at last : ℕ) (ms : List ℕ) (k : ℕ) (ms' : List ℕ) : Literals → Type 0 where
+pub data ReadsLiterals (s : List ℕ) (at last : ℕ) (ms : List ℕ) (k : ℕ) (ms' : List ℕ) : Option (ℕ × ℕ) → Type 0 where
   reads : (size next : ℕ) → at < next → next ≤ length s → (last ≤ length ms → LiteralsAt s at last ms k ms' size next)
-      → ReadsLiterals s at last ms k ms' (found.Read size next)
+      → ReadsLiterals s at last ms k ms' (Some (size, next))
   bad_literals : (last ≤ length ms → (ls : List ℕ) (ts : Tokens) → numbers_at s at ≡ up_to0 ls ts
       → literals_ok last (marks_of ms) ls ≡ false)
-      → ReadsLiterals s at last ms k ms' found.Misformed
+      → ReadsLiterals s at last ms k ms' None
 
 -- A step x that is read at an offset. It adds a clause
 pub record AddsAt (x : steps.StepRead) (s : List ℕ) (highest last : ℕ) (ms' : List ℕ) (c : Clause) : Type 0 where
@@ -78,9 +75,9 @@ MisformedAt x highest last = (st : Step) (ts : Tokens) → x ≡ read st ts → 
 abbrev pub Open : ℕ → List ℕ → Type 0
 Open last ms = (last ≤ length ms) × (marks_of ms ≡ all_open)
 
-pub data ReadsStep (x : steps.StepRead) (s : List ℕ) (at highest last : ℕ) (ms ms' : List ℕ) : Read → Type 0 where
+pub data ReadsStep (x : steps.StepRead) (s : List ℕ) (at highest last : ℕ) (ms ms' : List ℕ) : Option parsed.Step → Type 0 where
   adds : (c : Clause) → at < c.hints → c.hints ≤ length s → (Open last ms → AddsAt x s highest last ms' c)
-      → ReadsStep x s at highest last ms ms' (Adds c)
+      → ReadsStep x s at highest last ms ms' (Some (Adds c))
   deletes : (from : ℕ) → at < from → from ≤ length s → ms' ≡ ms → DeletesAt x s from
-      → ReadsStep x s at highest last ms ms' (Deletes from)
-  misformed : (Open last ms → MisformedAt x highest last) → ReadsStep x s at highest last ms ms' Misformed
+      → ReadsStep x s at highest last ms ms' (Some (Deletes from))
+  misformed : (Open last ms → MisformedAt x highest last) → ReadsStep x s at highest last ms ms' None

@@ -10,13 +10,10 @@ use borrow.Author.Tests.{eqb-true, eqb-false}
 use Rattle.scope.specs.Parsed.{Parsed, got, refused}
 use Rattle.scope.specs.Number.{number}
 use Rattle.marks.specs.Marks.{marks_of, put_mark}
-use Rattle.passing.specs.declared.numbers.Numbers.TheVariants.{End, Cut}
-use Rattle.passing.specs.declared.numbers.Passing.{Passing}
-use Rattle.spelling.specs.declared.literals.Spelling.{Spelling}
-use Rattle.spelling.specs.declared.literals.Literals.TheVariants as literals
+use Rattle.std.specs.Prelude.{Some, None}
 use Rattle.reader.specs.Loop.{while_more}
-use Rattle.passing.specs.Passed.{passing, passed_by, passed_from, passed_at}
-use Rattle.spelling.specs.Spelt.{literal_ok, spelling, spelt, spelt_by, spelt_marks, Spelled, spell_turn, spelt_from, literals_at}
+use Rattle.passing.specs.Passed.{Passing, passing, passed_by, passed_from, passed_at}
+use Rattle.spelling.specs.Spelt.{literal_ok, Spelling, spelling, spelt, spelt_by, spelt_marks, Spelled, spell_turn, spelt_from, literals_at}
 use Rattle.reader.proofs.Loops.{closed_same, nearer}
 use Rattle.passing.proofs.Turns.{pass_turn}
 use Rattle.reading.proofs.laws.Reading.{Passes, ReadsLiterals}
@@ -33,13 +30,13 @@ module _ (s : List ℕ) where
       same p e = closed_same (λ p. p.more) (pass_turn s) k p e
 
       zero_or : (n next : ℕ) → number s at ≡ got n next → Passes s next (passed_from s k (passing next)).found → (t : Bool) → eqb n 0 ≡ t
-          → Passes s at (passed_from s k (cond t (record { more = false; at = next; found = End next }) (passing next))).found
-      zero_or n next e ih true t = rw (same (record { more = false; at = next; found = End next }) refl) (passes_end s at n next e (eqb-true n 0 t))
+          → Passes s at (passed_from s k (cond t (record { more = false; at = next; found = Some next }) (passing next))).found
+      zero_or n next e ih true t = rw (same (record { more = false; at = next; found = Some next }) refl) (passes_end s at n next e (eqb-true n 0 t))
       zero_or n next e ih false t = passes_more s at n next e (eqb-false n 0 t) (passed_from s k (passing next)).found ih
 
       go : ((next : ℕ) → length s - next < k → Passes s next (passed_from s k (passing next)).found) → (x : Parsed ℕ) → number s at ≡ x
           → Passes s at (passed_from s k (passed_by at x)).found
-      go ih (refused j v) e = rw (same (record { more = false; at = at; found = Cut }) refl) (passes-cut s at j v e)
+      go ih (refused j v) e = rw (same (record { more = false; at = at; found = None }) refl) (passes-cut s at j v e)
       go ih (got n next) e = zero_or n next e (ih next (omega (arith, nearer s at n next e))) (eqb n 0) refl
 
   pub passes_at : (at : ℕ) → Passes s at (passed_at s at)
@@ -65,24 +62,24 @@ module _ (s : List ℕ) where
         literal_or : (l next : ℕ) → number s at ≡ got l next → (l ≡ 0 → ⊥)
             → ReadsFrom k next (put_mark ms (l / 2) (2 - l % 2)) (size + 1) (from k (spelling next (size + 1)) (put_mark ms (l / 2) (2 - l % 2)))
             → (t : Bool) → literal_ok last (marks_of ms) l ≡ t
-            → ReadsFrom k at ms size (from k (cond t (spelling next (size + 1)) (spelt next size literals.Misformed)) (cond t (put_mark ms (l / 2) (2 - l % 2)) ms))
+            → ReadsFrom k at ms size (from k (cond t (spelling next (size + 1)) (spelt next size None)) (cond t (put_mark ms (l / 2) (2 - l % 2)) ms))
         literal_or l next e n ih true t =
             literals_more s at l next e last ms size n t (put_mark ms (l / 2) (2 - l % 2)) _ _ refl ih
         literal_or l next e n ih false t =
-            rw (same (spelt next size literals.Misformed) refl) (literals_bad s at l next e last ms size n ms t)
+            rw (same (spelt next size None) refl) (literals_bad s at l next e last ms size n ms t)
 
         zero_or : (l next : ℕ) → number s at ≡ got l next
             → ReadsFrom k next (put_mark ms (l / 2) (2 - l % 2)) (size + 1) (from k (spelling next (size + 1)) (put_mark ms (l / 2) (2 - l % 2)))
             → (t : Bool) → eqb l 0 ≡ t
-            → ReadsFrom k at ms size (from k (cond t (spelt next size (literals.Read size next)) (cond (literal_ok last (marks_of ms) l) (spelling next (size + 1)) (spelt next size literals.Misformed)))
+            → ReadsFrom k at ms size (from k (cond t (spelt next size (Some (size, next))) (cond (literal_ok last (marks_of ms) l) (spelling next (size + 1)) (spelt next size None)))
             (cond t ms (cond (literal_ok last (marks_of ms) l) (put_mark ms (l / 2) (2 - l % 2)) ms)))
         zero_or l next e ih true t =
-            rw (same (spelt next size (literals.Read size next)) refl) (literals_end s at l next e last ms size (eqb-true l 0 t))
+            rw (same (spelt next size (Some (size, next))) refl) (literals_end s at l next e last ms size (eqb-true l 0 t))
         zero_or l next e ih false t = literal_or l next e (eqb-false l 0 t) ih (literal_ok last (marks_of ms) l) refl
 
         go : ((next : ℕ) (ms' : List ℕ) → length s - next < k → ReadsFrom k next ms' (size + 1) (from k (spelling next (size + 1)) ms')) → (x : Parsed ℕ) → number s at ≡ x
             → ReadsFrom k at ms size (from k (spelt_by last ms (spelling at size) x) (spelt_marks last ms x))
-        go ih (refused j v) e = rw (same (spelt at size literals.Misformed) refl) (literals-cut s at last ms size j v e)
+        go ih (refused j v) e = rw (same (spelt at size None) refl) (literals-cut s at last ms size j v e)
         go ih (got l next) e = zero_or l next e (ih next (put_mark ms (l / 2) (2 - l % 2)) (omega (arith, nearer s at l next e))) (eqb l 0) refl
 
     pub literals_read : (at : ℕ) (ms : List ℕ) → ReadsLiterals s at last ms 0 (literals_at s at last ms).marks (literals_at s at last ms).found

@@ -15,32 +15,29 @@ use Rattle.marks.specs.Marks.{marks_of, put_mark}
 use Rattle.marks.proofs.laws.Marks.{mark-put, put-length}
 use Rattle.laws.specs.Booleans.{impossible, and-true}
 use Rattle.theory.proofs.laws.Tokens.{tokens-got}
-use Rattle.passing.specs.declared.numbers.Numbers.{Numbers}
-use Rattle.passing.specs.declared.numbers.Numbers.TheVariants.{End, Cut}
-use Rattle.spelling.specs.declared.literals.Literals.{Literals}
-use Rattle.spelling.specs.declared.literals.Literals.TheVariants as found
+use Rattle.std.specs.Prelude.{Option, Some, None}
 use Rattle.reading.proofs.laws.Reading.{numbers_at, Passes, ends, cut, ReadsLiterals, reads, bad_literals}
 use Rattle.spelling.specs.Spelt.{literal_ok}
 use Rattle.reading.proofs.laws.Listing.{list-cut, list_more, list_end, listed_more, consed}
 
 module _ (s : List ℕ) (at n next : ℕ) (e : number s at ≡ got n next) where
-  pub passes_end : n ≡ 0 → Passes s at (End next)
+  pub passes_end : n ≡ 0 → Passes s at (Some next)
   passes_end h = ends [] next (list_end s at n next e h)
 
-  pub passes_more : (n ≡ 0 → ⊥) → (r : Numbers) → Passes s next r → Passes s at r
+  pub passes_more : (n ≡ 0 → ⊥) → (r : Option ℕ) → Passes s next r → Passes s at r
   passes_more h r (ends ns end l) = ends (n ∷ ns) end (listed_more s at n next e h l)
   passes_more h r (cut c) = cut (list_more s at n next e h ∙ ap (before n) c)
 
-pub passes-cut : (s : List ℕ) (at k o : ℕ) → number s at ≡ refused k o → Passes s at Cut
+pub passes-cut : (s : List ℕ) (at k o : ℕ) → number s at ≡ refused k o → Passes s at None
 passes-cut s at k o e = cut (list-cut s at k o e)
 
 -- the literals of a new clause
 pub literals-cut : (s : List ℕ) (at last : ℕ) (ms : List ℕ) (j k o : ℕ) → number s at ≡ refused k o
-    → ReadsLiterals s at last ms j ms found.Misformed
+    → ReadsLiterals s at last ms j ms None
 literals-cut s at last ms j k o e = bad_literals (λ h ls ts f. let c = list-cut s at k o e in impossible (cc))
 
 module _ (s : List ℕ) (at n next : ℕ) (e : number s at ≡ got n next) (last : ℕ) (ms : List ℕ) (k : ℕ) where
-  pub literals_end : n ≡ 0 → ReadsLiterals s at last ms k ms (found.Read k next)
+  pub literals_end : n ≡ 0 → ReadsLiterals s at last ms k ms (Some (k, next))
   unfolding literals_ok all_false
   literals_end h =
       let t = tokens-got s at n next e in
@@ -48,12 +45,12 @@ module _ (s : List ℕ) (at n next : ℕ) (e : number s at ≡ got n next) (last
       (λ _. record { literals = []; stand = list_end s at n next e h; count = omega arith; good = refl; marks = refl })
 
   module _ (h : n ≡ 0 → ⊥) where
-    pub literals_bad : (ms' : List ℕ) → literal_ok last (marks_of ms) n ≡ false → ReadsLiterals s at last ms k ms' found.Misformed
+    pub literals_bad : (ms' : List ℕ) → literal_ok last (marks_of ms) n ≡ false → ReadsLiterals s at last ms k ms' None
     unfolding literals_ok
     literals_bad ms' b =
         bad_literals (λ _ ls ts f. let c = consed (numbers_at s next) (sym (list_more s at n next e h) ∙ f) in rw (c.2, b))
 
-    pub literals_more : literal_ok last (marks_of ms) n ≡ true → (ms₁ ms' : List ℕ) (r : Literals)
+    pub literals_more : literal_ok last (marks_of ms) n ≡ true → (ms₁ ms' : List ℕ) (r : Option (ℕ × ℕ))
         → ms₁ ≡ put_mark ms (n / 2) (2 - n % 2)
         → ReadsLiterals s next last ms₁ (k + 1) ms' r → ReadsLiterals s at last ms k ms' r
     unfolding literals_ok all_false
@@ -72,7 +69,7 @@ module _ (s : List ℕ) (at n next : ℕ) (e : number s at ≡ got n next) (last
         room : last ≤ length ms → last ≤ length ms₁
         room l = rw (p, put-length ms (n / 2) (2 - n % 2)) l
 
-        go : (r : Literals) → ReadsLiterals s next last ms₁ (k + 1) ms' r → ReadsLiterals s at last ms k ms' r
+        go : (r : Option (ℕ × ℕ)) → ReadsLiterals s next last ms₁ (k + 1) ms' r → ReadsLiterals s at last ms k ms' r
         go r (reads size end a i f) =
             reads size end (omega (arith, (tokens-got s at n next e).forward)) i
             (λ l.

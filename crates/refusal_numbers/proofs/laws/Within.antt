@@ -10,7 +10,7 @@ use Rattle.scope.specs.Parsed.{Parsed, got, refused, Answer, answered, refusal, 
 use Rattle.scope.specs.Number.{Front, broken, whole, within, front, number_from, number, limited, reference, references, listed}
 use Rattle.scope.specs.Kinds.{Event, Kind, longest, duration_of, users, group_at, Counted, counted_of}
 use Rattle.scope.specs.Instance.{counts_of, Instance, event_at, Fields, a_reference, a_list, a_number, the_kind, fields_read, fields_of, distinct, ordered, ended, constraint_at, Times, times_at, sizes_at, groups_at, all_groups_at, constraints_at, file_up_to, parse}
-use Rattle.scope.specs.Calendar.{Period, limited_in, period_at, periods_at, day_at, period_count, calendar_at, window_of, window_at, windows_at, windows_after}
+use Rattle.scope.specs.Calendar.{Period, limited_in, period_at, periods_at, day_at, period_count, calendar_at, window_at, windows_at, windows_after}
 use Rattle.scope.specs.Score.{slots, truth, first_wrong, first_above, unless_found, of_timetable}
 
 -- one of some numbers

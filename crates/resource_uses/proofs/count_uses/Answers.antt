@@ -1,7 +1,7 @@
 use mathlib.Core.Path.{◌∙◌}
 use native.Mathlib.Omega.{arith}
 use borrow.Author.Rules.{rules}
-use Rattle.resource_uses.proofs.laws.Uses.{uses-none, uses_more, uses_end, uses_addable}
+use Rattle.resource_uses.proofs.laws.Uses.{uses-none, uses_more, uses_addable}
 use Rattle.resource_uses.proofs.count_uses.Goals as goal
 
 pub loop-e-init : goal.loop-e-init
@@ -10,9 +10,6 @@ loop-e-init c = search (rules, uses-none)
 pub add_event-requires : goal.add_event-requires
 add_event-requires c = search (rules, uses_addable)
 
-pub returns : goal.returns
-returns c = search (rules, uses_end)
-
 pub loop-e-preserved : goal.loop-e-preserved
 loop-e-preserved c = let more = c.add_event.ensures in
-    (omega arith, more.kept ∙ c.loop-e.invariant.1, uses_more c.args.times c.args.bytes.now c.args.resources.now c.loop-e.e c.loop-e.uses c.loop-e.invariant.2 (c.requires.0.ascending c.loop-e.e (omega arith)) more)
+    (more.kept ∙ c.loop-e.invariant.0, uses_more c.args.times c.args.bytes.now c.args.resources.now c.loop-e.e c.loop-e.uses c.loop-e.invariant.1 (c.requires.0.ascending c.loop-e.e (omega arith)) more)

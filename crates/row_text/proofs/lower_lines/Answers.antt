@@ -1,15 +1,7 @@
 use mathlib.Core.List.{flat_map}
 use native.Mathlib.Omega.{arith}
 use Rattle.sink.specs.Run.{none, then}
-use Rattle.row_text.proofs.CellLines.{spelt-at}
 use Rattle.row_text.proofs.lower_lines.Goals as goal
-
-pub triple_line-p-requires : goal.triple_line-p-requires
-triple_line-p-requires c = let s = c.requires in (s.0, s.1, spelt-at s.2 (omega arith), spelt-at s.4 (omega arith), omega arith)
-
-pub triple_line-requires : goal.triple_line-requires
-triple_line-requires c = let s = c.requires in
-    (s.0, spelt-at s.3 (omega arith), spelt-at s.2 (omega arith), spelt-at s.4 (omega arith), omega (arith, c.triple_line-p.ensures.upper_bound))
 
 pub returns : goal.returns
 unfolding flat_map

@@ -4,6 +4,7 @@ use mathlib.Core.Bool.{true, false}
 use mathlib.Core.List.{List, ◌∷◌}
 use Prim.Native.Nat.{ℕ, ◌+◌, ◌-◌, ◌≤◌, ◌<◌}
 use lib.ListN.{length}
+use Rattle.scope.specs.Reason.{number_of}
 use Rattle.scope.specs.Parsed.{Answer, answered, refusal}
 use Rattle.scope.specs.Steps.{Live, follows, deleted}
 use Rattle.theory.proofs.laws.StepTokens.{Tokens, up_to0}
@@ -145,7 +146,7 @@ module _ (s : List ℕ) (lim : Limits) (A : Answer ℕ) (tally : Tally) (clause 
   InvariantIn tr Wipe at want n = Wiping want at
   InvariantIn tr Delete at want n = Deleting want at
   InvariantIn tr Proved at want n = A ≡ answered tally.steps
-  InvariantIn tr (Refused k) at want n = A ≡ refusal k tally.steps
+  InvariantIn tr (Refused k) at want n = A ≡ refusal (number_of k) tally.steps
 
   abbrev pub InvariantAt : List ℕ → Machine → Type 0
   InvariantAt tr m = InvariantIn tr m.phase m.at m.want m.set

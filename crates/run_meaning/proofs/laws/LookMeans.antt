@@ -9,6 +9,7 @@ use lib.Dec.{leb}
 use lib.ListN.{length, take, length-set}
 use lib.Seq.{take-suc-set}
 use borrow.Author.Tests.{ne_eqb, leb-false}
+use Rattle.scope.specs.declared.refusal.Reason.{Reason}
 use Rattle.scope.specs.Parsed.{Answer, refusal, got}
 use Rattle.scope.specs.Number.{number}
 use Rattle.theory.specs.Marked as steps
@@ -147,9 +148,9 @@ module _ (s : List ℕ) (lim : Limits) (A : Answer ℕ) (c : Check) (R : ℕ →
             → InvariantAt s lim A c.tally c.clause R ws ms' (recorded tr n l) (walked (length tr) (steps.one_open l) id next n)
         unfolding walked hints_show in_hints
         one-open id next left q (last_id z t) =
-            rw (onward-end Walk (Refused 16) id next (recorded_at (length tr) n) z) (answer_by (steps.one_open l) d [] q ∙ rw w.adding.step.counts)
+            rw (onward-end Walk (Refused Reason.BadHint) id next (recorded_at (length tr) n) z) (answer_by (steps.one_open l) d [] q ∙ rw w.adding.step.counts)
         one-open id next left q (more_ids z rest t) =
-            rw (onward-more Walk (Refused 16) id next (recorded_at (length tr) n) z)
+            rw (onward-more Walk (Refused Reason.BadHint) id next (recorded_at (length tr) n) z)
             (record {
               adding = adding';
               trail = trail';

@@ -1,20 +1,22 @@
 -- What a check answers: the plain run's answer for the formula that stands in the stores: laws.
 use mathlib.Core.Path.{◌≡◌, refl, sym, ap, ◌∙◌}
+use mathlib.Core.Bool.{true}
 use mathlib.Core.List.{List, ◌++◌, flat_map}
 use mathlib.Core.Option.{none, some}
-use Prim.Native.Nat.{ℕ, zero, suc, ◌≤◌, ◌<◌}
+use Prim.Native.Nat.{ℕ, suc, ◌≤◌, ◌<◌}
 use native.Mathlib.Omega.{arith}
 use lib.ListN.{length}
+use Rattle.std.specs.Prelude.{Result}
 use borrow.Author.Tests.{eq-eqb, ne_eqb}
 use Rattle.scope.specs.Parsed.{Answer}
 use Rattle.theory.proofs.laws.Marked.{all_open}
 use Rattle.scope.specs.Formula.{words}
 use Rattle.scope.specs.PlainRun.{Limits, by_id, start}
 use Rattle.scope.specs.PlainRun as scope
-use Rattle.theory.proofs.laws.MarkedRun.{run, plain_run}
+use Rattle.theory.proofs.laws.MarkedRun.{plain_run}
 use Rattle.theory.proofs.laws.SameRun.{plain-marked}
-use Rattle.scope.specs.Answers.{check_means}
-use Rattle.scope.specs.declared.CheckAnswer.{CheckAnswer}
+use Rattle.scope.specs.Answers.{means}
+use Rattle.scope.specs.declared.refusal.Refusal.{Refusal}
 use Rattle.directory.specs.declared.Row.{Row}
 use Rattle.lookup.specs.declared.Probe.{Probe}
 use Rattle.marks.specs.Marks.{marks_of}
@@ -29,9 +31,11 @@ use Rattle.building.proofs.laws.Marked.{BuiltFor}
 use Rattle.holding.specs.Built.{Each, Narrow}
 use Rattle.holding.proofs.laws.Built.{built-for, built_holding, built_live}
 use Rattle.directory.specs.Directory.{rows_of}
-use Rattle.laws.specs.Booleans.{impossible}
+use Rattle.laws.specs.Booleans.{impossible, never_true}
 use Rattle.hints.specs.declared.machine.Phase.{Phase}
 use Rattle.hints.specs.declared.machine.Phase.TheVariants.{Next, Walk, Followed, Keep, Wipe, Delete, Proved, Refused}
+use Rattle.hints.specs.declared.machine.Turn as enum
+use Rattle.hints.specs.declared.machine.Turn.TheVariants as turn
 use Rattle.hints.specs.declared.machine.Machine.{Machine}
 use Rattle.turns.specs.declared.check.Check.{Check}
 use Rattle.reading.proofs.laws.Listing.{list-cut}
@@ -87,7 +91,7 @@ module _ (s : List ℕ) (lim : Limits) (A : Answer ℕ) (c : Check) (R : ℕ
           few id next n)
       by (wipes id next l n z q t) = impossible (cc)
       by (machine_laws.deletes id next l n z q t) = impossible (cc)
-      by (idle z) = absurd (omega (arith, ap turn_of e))
+      by (idle z) = never_true (sym (rw e at z))
 
   wipe_turn : m.phase ≡ Wipe → c.clause.hints ≤ m.at → length ms' ≡ length ms
       → Wiping s lim A c.tally c.clause R ws ms m.want m.at
@@ -103,7 +107,7 @@ module _ (s : List ℕ) (lim : Limits) (A : Answer ℕ) (c : Check) (R : ℕ
           (clause_wiped s lim A c R ws ms tr m.set m.want m.at w (row_clause p.hit ws) ms' (clause_is w.base
           ∙ live-some _ _ l) t long tr' id next n past)
       by (machine_laws.deletes id next l n z q t) = impossible (cc)
-      by (idle z) = absurd (omega (arith, ap turn_of e))
+      by (idle z) = never_true (sym (rw e at z))
 
   delete_turn : m.phase ≡ Delete → c.clause.hints ≤ m.at → (R' : ℕ → Row) → Dies lim.rows_lent R R' p.at
       → Deleting s lim A c.tally c.clause R ws ms m.want m.at → InvariantAt s lim A c.tally c.clause R' ws ms' tr' r
@@ -123,7 +127,7 @@ module _ (s : List ℕ) (lim : Limits) (A : Answer ℕ) (c : Check) (R : ℕ
               ∙ live-some _ _ l) h
               (ap (λ x. x.id) (sym i) ∙ j) tr' id next n past)
           found (miss i j) = absurd (l (ap (λ x. x.live) i))
-      by (idle z) = absurd (omega (arith, ap turn_of e))
+      by (idle z) = never_true (sym (rw e at z))
 
 -- no store is longer than a machine can have, and rows can say how many variables there are
 pub record Short (s : List ℕ) (lim : Limits) : Type 0 where
@@ -135,47 +139,50 @@ pub record Short (s : List ℕ) (lim : Limits) : Type 0 where
 -- a turn keeps what holds
 module _ (s : List ℕ) (lim : Limits) (A : Answer ℕ) (short : Short s lim) (w v : World)
     (long : length v.marks ≡ length w.marks) (few : length w.trail < largest) (past : Past w.check w.machine) where
-  look_keeps : (p : Probe) → turn_of w.machine.phase ≡ 0
+  look_keeps : (p : Probe) → turn_of w.machine.phase ≡ turn.Look
       → Finds lim.rows_lent w.rows w.check.tally.rows w.machine.want p
       → Advances s w.machine p.hit w.words w.marks w.trail v.machine v.marks v.trail
       → Invariant s lim A w → InvariantAt s lim A w.check.tally w.check.clause w.rows w.words v.marks v.trail
       v.machine
   look_keeps p t f a = go w.machine.phase refl t
     where
-      go : (ph : Phase) → w.machine.phase ≡ ph → turn_of ph ≡ 0
+      go : (ph : Phase) → w.machine.phase ≡ ph → turn_of ph ≡ turn.Look
           → InvariantIn s lim A w.check.tally w.check.clause w.rows w.words w.marks w.trail ph w.machine.at
           w.machine.want w.machine.set
           → InvariantAt s lim A w.check.tally w.check.clause w.rows w.words v.marks v.trail v.machine
-      go Next e t x = absurd (omega arith)
+      go Next e t x = impossible (cc)
       go Walk e t x = walk_turn s lim A w.check w.rows w.words w.marks w.trail w.machine p v.machine v.marks v.trail f a e few x
-      go Followed e t x = absurd (omega arith)
-      go Keep e t x = absurd (omega arith)
+      go Followed e t x = impossible (cc)
+      go Keep e t x = impossible (cc)
       go Wipe e t x = wipe_turn s lim A w.check w.rows w.words w.marks w.trail w.machine p v.machine v.marks v.trail f a e
           past long x
-      go Delete e t x = absurd (omega arith)
-      go Proved e t x = absurd (omega arith)
-      go (Refused k) e t x = absurd (omega arith)
+      go Delete e t x = impossible (cc)
+      go Proved e t x = impossible (cc)
+      go (Refused k) e t x = impossible (cc)
 
   -- what holds in the phase of a turn
-  in-phase : (n : ℕ) → turn_of w.machine.phase ≡ n → 1 ≤ n → n ≤ 4 → Invariant s lim A w
+  in-phase : (n : enum.Turn) → turn_of w.machine.phase ≡ n → machine_laws.lone n ≡ true → Invariant s lim A w
       → InvariantIn s lim A w.check.tally w.check.clause w.rows w.words w.marks w.trail (machine_laws.phase_of n)
       w.machine.at
       w.machine.want w.machine.set
-  in-phase n t l h x = rw (turn-phase w.machine.phase t l h) at x
+  in-phase n t l x = rw (turn-phase w.machine.phase t l) at x
 
   pub turn_keeps : Turn s lim.last_variable lim.rows_lent w v → Invariant s lim A w → Invariant s lim A v
   turn_keeps (looks p t f r d a c ws) x = rw (c, ws) (by (turn_of w.machine.phase) refl)
     where
-      by : (n : ℕ) → turn_of w.machine.phase ≡ n
+      by : (n : enum.Turn) → turn_of w.machine.phase ≡ n
           → InvariantAt s lim A w.check.tally w.check.clause v.rows w.words v.marks v.trail v.machine
-      by zero e = rw (r e) (look_keeps p e f a x)
-      by (suc zero) e =
+      by turn.Look e = rw (r e) (look_keeps p e f a x)
+      by turn.Delete e =
           delete_turn s lim A w.check w.rows w.words w.marks w.trail w.machine p v.machine v.marks v.trail f a
-          (turn-phase w.machine.phase e (omega arith) (omega arith))
-          past v.rows (d e) (in-phase 1 e (omega arith) (omega arith) x)
-      by (suc (suc n)) e = absurd (omega arith)
+          (turn-phase w.machine.phase e refl)
+          past v.rows (d e) (in-phase turn.Delete e refl x)
+      by turn.Keep e = never_true (rw e at t)
+      by turn.Judge e = never_true (rw e at t)
+      by turn.Read e = never_true (rw e at t)
+      by turn.End e = never_true (rw e at t)
   turn_keeps (keeps t a c k e ms) x =
-      let y = in-phase 2 t (omega arith) (omega arith) x in
+      let y = in-phase turn.Keep t refl x in
       let d = k.copies y.adding.literals y.adding.middle y.adding.literals-at in
       let l = rw (ms, c, d) at long in
       rw (e, ms, c, a.appends (omega (arith, y.rows_fit_lem)), d)
@@ -183,11 +190,11 @@ module _ (s : List ℕ) (lim : Limits) (A : Answer ℕ) (short : Short s lim) (w
       v.trail l)
   turn_keeps (judges t c e r ws ms tr) x =
       rw (e, c, r, ws, ms, tr) (clause_judged s lim A w.check w.rows w.words w.marks w.trail w.machine.set w.machine.at
-      (in-phase 3 t (omega arith) (omega arith) x))
+      (in-phase turn.Judge t refl x))
   turn_keeps (reads t a e r ws) x =
       rw (e, r, ws)
       (step-read s lim A w.check w.rows w.words w.marks v.trail w.machine.at v.check v.marks
-      (in-phase 4 t (omega arith) (omega arith) x) short.few_bytes long a)
+      (in-phase turn.Read t refl x) short.few_bytes long a)
 
 -- a run keeps what holds
 pub record Held (s : List ℕ) (lim : Limits) (A : Answer ℕ) (w : World) : Type 0 where
@@ -206,20 +213,20 @@ ran-keeps s lim A short w v (run.more u v' r t long trail) x =
       kept = turn_keeps s lim A short u v long y.few y.past t y.kept;
     }
 
-ended-answer : (s : List ℕ) (lim : Limits) (A : Answer ℕ) (w : World) → 5 ≤ turn_of w.machine.phase → Invariant s lim A w
-    → check_means (answer_of w.check.tally.steps w.machine.phase) ≡ A
+ended-answer : (s : List ℕ) (lim : Limits) (A : Answer ℕ) (w : World) → turn_of w.machine.phase ≡ turn.End → Invariant s lim A w
+    → means (answer_of w.check.tally.steps w.machine.phase) ≡ A
 ended-answer s lim A w h = go w.machine.phase h
   where
-    go : (ph : Phase) → 5 ≤ turn_of ph
+    go : (ph : Phase) → turn_of ph ≡ turn.End
         → InvariantIn s lim A w.check.tally w.check.clause w.rows w.words w.marks w.trail ph w.machine.at
         w.machine.want w.machine.set
-        → check_means (answer_of w.check.tally.steps ph) ≡ A
-    go Next t x = absurd (omega arith)
-    go Walk t x = absurd (omega arith)
-    go Followed t x = absurd (omega arith)
-    go Keep t x = absurd (omega arith)
-    go Wipe t x = absurd (omega arith)
-    go Delete t x = absurd (omega arith)
+        → means (answer_of w.check.tally.steps ph) ≡ A
+    go Next t x = impossible (cc)
+    go Walk t x = impossible (cc)
+    go Followed t x = impossible (cc)
+    go Keep t x = impossible (cc)
+    go Wipe t x = impossible (cc)
+    go Delete t x = impossible (cc)
     go Proved t x = sym x
     go (Refused k) t x = sym x
 
@@ -248,9 +255,9 @@ built-stands f rest last cap n R ws ms b good few fits marked unmarked =
     }
 
 -- where a formula stands in the stores, a check answers what the plain run does
-pub driven-means : (s : List ℕ) (last n used : ℕ) (ys : List Row) (ws ms : List ℕ) (r : CheckAnswer) (f : List (List ℕ)) {ys' : List Row} {ws' ms' : List ℕ}
+pub driven-means : (s : List ℕ) (last n used : ℕ) (ys : List Row) (ws ms : List ℕ) (r : Result ℕ Refusal) (f : List (List ℕ)) {ys' : List Row} {ws' ms' : List ℕ}
     → Few s ws (length ys) → outcome r ys' ws' ms' ≡ driven_by s last n used ys ws ms → last ≤ 4294967295 → length ws ≤ 9223372036854775807
-    → Stands f last (length ys) n used (rows_of ys) ws ms → check_means r ≡ plain_run (limits last (length ws) (length ys)) f s
+    → Stands f last (length ys) n used (rows_of ys) ws ms → means r ≡ plain_run (limits last (length ws) (length ys)) f s
 unfolding plain_run start
 driven-means s last n used ys ws ms r f few e least short-words x =
     let d = driven-chain s last n used ys ws ms few e in
@@ -267,16 +274,16 @@ driven-means s last n used ys ws ms r f few e least short-words x =
       enough = omega arith;
       answer = rw (x.live, x.count, x.size);
     } in
-    ap check_means d.answer
+    ap means d.answer
     ∙ ended-answer s lim A d.end d.over (ran-keeps s lim A short (run.ready n used R ws ms d.trail) d.end d.ran
     (record { past = omega arith; few = d.short_trail; kept = begins })).kept
 
 -- the same for a formula that stood in the words with each clause's last word marked, of which the directory was built
-pub check-means : (s : List ℕ) (last n : ℕ) (ys₀ ys : List Row) (ws₀ ws ms : List ℕ) (r : CheckAnswer) (f : List (List ℕ)) (rest : List ℕ) {ys' : List Row} {ws' ms' : List ℕ}
+pub check-means : (s : List ℕ) (last n : ℕ) (ys₀ ys : List Row) (ws₀ ws ms : List ℕ) (r : Result ℕ Refusal) (f : List (List ℕ)) (rest : List ℕ) {ys' : List Row} {ws' ms' : List ℕ}
     → Plain f → Each (Good last) f → Narrow f → last ≤ 4294967295 → length ws ≤ 9223372036854775807 → ws₀ ≡ flat_map mark f ++ rest → length f ≤ length ys₀ → last ≤ length ms → marks_of ms ≡ all_open
     → Built ws₀ ws ys₀ ys (words f) n → length ys ≡ length ys₀ → Few s ws (length ys)
     → outcome r ys' ws' ms' ≡ driven_by s last n (words f) ys ws ms
-    → check_means r ≡ scope.plain_run (limits last (length ws) (length ys₀)) f s
+    → means r ≡ scope.plain_run (limits last (length ws) (length ys₀)) f s
 check-means s last n ys₀ ys ws₀ ws ms r f rest plain good narrow least short e fits marked unmarked b long few d =
     let stands : Stands f last (length ys) n (words f) (rows_of ys) ws ms =
     rw long (built-stands f rest last (length ys₀) n (rows_of ys) ws ms (built-for f rest b plain e fits) good narrow fits marked unmarked) in

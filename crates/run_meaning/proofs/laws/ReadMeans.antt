@@ -5,9 +5,11 @@ use mathlib.Core.List.{List, [], ◌∷◌}
 use Prim.Native.Nat.{ℕ, zero, suc, ◌+◌, ◌-◌, ◌≤◌, ◌<◌}
 use native.Mathlib.Omega.{arith}
 use lib.Dec.{ltb}
+use Rattle.std.specs.Prelude.{Option, Some}
 use lib.ListN.{length, get_or, drop}
 use lib.Seq.{drop-cons}
 use borrow.Author.Tests.{ltb-true}
+use Rattle.scope.specs.declared.refusal.Reason.{Reason}
 use Rattle.scope.specs.Parsed.{Parsed, Answer, refusal, got, refused}
 use Rattle.scope.specs.Number.{Front, broken, whole, front, within, number}
 use Rattle.theory.proofs.laws.Marked as steps_laws
@@ -22,8 +24,8 @@ use Rattle.marks.specs.Marks.{marks_of}
 use Rattle.laws.specs.Booleans.{impossible, and-true}
 use Rattle.theory.proofs.laws.Tokens.{tokens-stop}
 use Rattle.steps.specs.declared.step.Clause.{Clause}
-use Rattle.steps.specs.declared.step.Read.{Read}
-use Rattle.steps.specs.declared.step.Read.TheVariants.{Adds, Deletes}
+use Rattle.steps.specs.declared.step.Step.{Step}
+use Rattle.steps.specs.declared.step.Step.TheVariants.{Adds, Deletes}
 use Rattle.hints.specs.declared.machine.Phase.TheVariants.{Next, Walk, Delete, Refused}
 use Rattle.turns.specs.declared.check.Check.{Check}
 use Rattle.reading.proofs.laws.Reading.{tokens_at, AddsAt, DeletesAt, MisformedAt, Open, ReadsStep, adds, deletes, misformed}
@@ -137,14 +139,14 @@ module _ (s : List ℕ) (lim : Limits) (A : Answer ℕ) (c : Check) (R : ℕ →
       unfolding hints_show
       none_show = rw one_more
 
-      pub step_adds : InvariantAt s lim A (counted c.tally) k R ws ms' tr (entered s (stepped c (Adds k)))
+      pub step_adds : InvariantAt s lim A (counted c.tally) k R ws ms' tr (entered s (stepped c (Some (Adds k))))
       step_adds = go (number s k.hints) refl
         where
           by : (id next : ℕ) (hs : List ℕ) → a.hints ≡ hs → Ahead s next id (tokens_at s a.next) hs
-              → InvariantAt s lim A (counted c.tally) k R ws ms' tr (onward Walk (Refused 16) id next 0)
-          by id next hs q (last_id z t) = rw (onward-end Walk (Refused 16) id next 0 z) (answer_adds [] q ∙ none_show)
+              → InvariantAt s lim A (counted c.tally) k R ws ms' tr (onward Walk (Refused Reason.BadHint) id next 0)
+          by id next hs q (last_id z t) = rw (onward-end Walk (Refused Reason.BadHint) id next 0 z) (answer_adds [] q ∙ none_show)
           by id next hs q (more_ids z rest t) =
-              rw (onward-more Walk (Refused 16) id next 0 z)
+              rw (onward-more Walk (Refused Reason.BadHint) id next 0 z)
               (record {
                 adding = adding;
                 trail = record { trailed = λ h v f. ap (λ m. m v) a.marks };
@@ -156,7 +158,7 @@ module _ (s : List ℕ) (lim : Limits) (A : Answer ℕ) (c : Check) (R : ℕ →
               })
 
           go : (x : Parsed ℕ) → number s k.hints ≡ x
-              → InvariantAt s lim A (counted c.tally) k R ws ms' tr (first_id Walk (Refused 16) k.hints x)
+              → InvariantAt s lim A (counted c.tally) k R ws ms' tr (first_id Walk (Refused Reason.BadHint) k.hints x)
           go (got id next) e = by id next a.hints refl (ids-ahead s k.hints id next a.hints (tokens_at s a.next) e
               a.hints_stand.listed)
           go (refused j o) e = let x = list-cut s k.hints j o e in let y = a.hints_stand.listed in impossible (cc)
@@ -175,7 +177,7 @@ module _ (s : List ℕ) (lim : Limits) (A : Answer ℕ) (c : Check) (R : ℕ →
       unfolding perform well_formed
       answer_deletes ids q = taken.2 ∙ rw (d.step, q)
 
-      pub step_deletes : InvariantAt s lim A (counted c.tally) ids_clause R ws ms tr (entered s (stepped c (Deletes from)))
+      pub step_deletes : InvariantAt s lim A (counted c.tally) ids_clause R ws ms tr (entered s (stepped c (Some (Deletes from))))
       unfolding deleted
       step_deletes = go (number s from) refl
         where
@@ -219,7 +221,7 @@ step-read s lim A c R ws ms tr at r ms' w short long (takes x h rs q) = rw q (by
     clean : Open lim.last_variable ms
     clean = (w.base.marked, w.unmarked)
 
-    by : (x : Read) → ReadsStep (read_step (tokens_at s at)) s at c.tally.highest lim.last_variable ms ms' x
+    by : (x : Option Step) → ReadsStep (read_step (tokens_at s at)) s at c.tally.highest lim.last_variable ms ms' x
         → InvariantAt s lim A (stepped c x).tally (stepped c x).clause R ws ms' tr (entered s (stepped c x))
     by x (adds k a i f) = step_adds s lim A c R ws ms tr at w h short k a ms' long (f clean)
     by x (deletes from a i e d) = rw e (step_deletes s lim A c R ws ms tr at w h short from a d)

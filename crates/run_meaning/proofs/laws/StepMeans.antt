@@ -10,6 +10,7 @@ use lib.Dec.{eqb, ltb, leb}
 use lib.ListN.{length, get_or, drop}
 use lib.Seq.{sets, length-sets, drop-cons}
 use borrow.Author.Tests.{eq-eqb, ne_eqb, leb-true, ltb-true, ltb-false}
+use Rattle.scope.specs.declared.refusal.Reason.{Reason}
 use Rattle.scope.specs.Parsed.{Answer, refusal, got}
 use Rattle.scope.specs.Number.{Front, broken, whole, front, within, number}
 use Rattle.scope.specs.Steps.{Live, put, follows, deleted}
@@ -291,7 +292,7 @@ module _ (s : List ℕ) (lim : Limits) (A : Answer ℕ) (c : Check) (R : ℕ →
     Judged p = InvariantAt s lim A c.tally c.clause R ws ms tr (record { phase = p; at = at; want = 0; set = n })
 
     -- the empty clause
-    empty_judged : w.adding.literals ≡ [] → (t : Bool) → ltb at (length s) ≡ t → Judged (cond t (Refused 18) Proved)
+    empty_judged : w.adding.literals ≡ [] → (t : Bool) → ltb at (length s) ≡ t → Judged (cond t (Refused Reason.BadEnd) Proved)
     empty_judged q true t =
         w.answer ∙ rw (q, ← w.after_at, w.adding.step.counts)
         (more_bytes s at (w.adding.step.done + 1) (ltb-true at (length s) t))
@@ -302,7 +303,7 @@ module _ (s : List ℕ) (lim : Limits) (A : Answer ℕ) (c : Check) (R : ℕ →
     other_judged : (l : ℕ) (ls : List ℕ) → w.adding.literals ≡ l ∷ ls
         → (t : Bool) → (leb (c.tally.words + length w.adding.literals) lim.words_lent && leb (c.tally.rows + 1)
         lim.rows_lent) ≡ t
-        → Judged (cond t Keep (Refused 17))
+        → Judged (cond t Keep (Refused Reason.ClauseTooLong))
     other_judged l ls q true t =
         let p = and-true (leb (c.tally.words + length w.adding.literals) lim.words_lent)
         (leb (c.tally.rows + 1) lim.rows_lent) t in
@@ -328,9 +329,9 @@ module _ (s : List ℕ) (lim : Limits) (A : Answer ℕ) (c : Check) (R : ℕ →
       where
         go : (cl : List ℕ) → w.adding.literals ≡ cl
             → Judged
-            (cond (eqb c.clause.size 0) (cond (ltb at (length s)) (Refused 18) Proved)
+            (cond (eqb c.clause.size 0) (cond (ltb at (length s)) (Refused Reason.BadEnd) Proved)
             (cond (leb (c.tally.words + c.clause.size) (length ws) && leb (c.tally.rows + 1) lim.rows_lent) Keep
-            (Refused 17)))
+            (Refused Reason.ClauseTooLong)))
         go [] q =
             let z : c.clause.size ≡ 0 = sym w.adding.size ∙ ap length q in
             rw (eq-eqb c.clause.size 0 z) (empty_judged q (ltb at (length s)) refl)

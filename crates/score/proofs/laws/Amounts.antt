@@ -1,17 +1,18 @@
 -- The sums over the constraints of an accepted file: laws.
 use Prim.Native.Nat.{ℕ, ◌+◌, ◌*◌, ◌<◌, ◌≤◌}
-use mathlib.Core.Path.{◌≡◌, ◌∙◌}
+use mathlib.Core.Path.{◌≡◌, refl, ◌∙◌}
+use Rattle.std.proofs.Common.{Result, Ok, Err}
+use Rattle.std.specs.Result.{IsOk}
 use mathlib.Core.Bool.{Bool, true, false, cond}
 use mathlib.Core.List.{List}
 use lib.ListN.{length, drop}
 use lib.Dec.{eqb}
 use native.Mathlib.Omega.{arith}
 use native.Mathlib.Nat.{add-zero, zero-add, add_assoc, mul-le-mul}
-use Rattle.scope.specs.Kinds.{Kind, Constraint}
+use Rattle.scope.specs.Kinds.{Kind}
 use Rattle.constraint.specs.declared.kinds.Head.{Head}
-use Rattle.scope.specs.declared.Refusal.{Refusal}
+use Rattle.scope.specs.declared.refusal.Refusal.{Refusal}
 use Rattle.constraint.specs.declared.kinds.Constraint as decl
-use Rattle.constraint.specs.declared.kinds.Next.{Next}
 use Rattle.constraint.specs.Answers.{counts_in, kind_of, constraint_of, said_next}
 use Rattle.constraint.proofs.laws.Valid.{DecodedAt}
 use Rattle.constraint.specs.Walk.{Walk}
@@ -48,11 +49,15 @@ module _ {s : List ℕ} {h : Head} {b u x gs l₀ : List ℕ} (w : Walkable s h 
 
   module _ {f : Kind → ℕ} {l : List ℕ} {next hard soft i : ℕ} (a : Charged s h f l next hard soft i) where
     -- the next constraint, which the call put into the store l'
-    module _ (t : i < h.constraints) (l' : List ℕ) (y : Next) (e : said_next l' y ≡ decoded_at (counts_in h) s next) where
-      pub never_refused : {g : Refusal} → y ≡ Next.Refused g → ⊥
-      never_refused r = walk_refused a.walk t l' y e r
+    module _ (t : i < h.constraints) (l' : List ℕ) (y : Result (decl.Constraint × ℕ) Refusal) (e : said_next l' y ≡ decoded_at (counts_in h) s next) where
+      pub never_refused : IsOk y
+      never_refused = by y refl
+        where
+          by : (r : Result (decl.Constraint × ℕ) Refusal) → y ≡ r → IsOk r
+          by (Ok p) q = refl
+          by (Err g) q = absurd (walk_refused a.walk t l' y e q)
 
-      module _ {c : decl.Constraint} {after : ℕ} (r : y ≡ Next.Read c after) where
+      module _ {c : decl.Constraint} {after : ℕ} (r : y ≡ Ok (c, after)) where
         turn : Turn a.walk t l' y e (constraint_of l' c) after
         turn = walk_read a.walk t l' y e r
 

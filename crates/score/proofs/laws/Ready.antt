@@ -11,7 +11,7 @@ use Rattle.scope.specs.Parsed.{got, repeat}
 use Rattle.scope.specs.Kinds.{Event}
 use Rattle.scope.specs.Instance.{Instance}
 use Rattle.parsing.specs.Numbers.{Ascending, none, more}
-use Rattle.tables.specs.Rows.{row_at, rows, events_of}
+use Rattle.tables.specs.Rows.{row_at, events_of}
 use Rattle.tables.specs.Room.{group_room}
 use Rattle.tables.proofs.laws.Laws.{length-events}
 use Rattle.tables.proofs.laws.Reading.{event-row, group-ascends}
@@ -19,7 +19,6 @@ use Rattle.constraint.specs.declared.kinds.Head.{Head}
 use Rattle.constraint.specs.Answers.{counts_in}
 use Rattle.constraint.specs.Decoded.{decoded_at}
 use Rattle.instance.specs.Answers.{instance_of}
-use Rattle.instance.specs.Start.{SizesIn}
 use Rattle.instance.specs.Laws.{Accepted}
 use Rattle.instance.proofs.laws.Laws.{event-rows, group-rows, groups_most}
 use Rattle.timetable.specs.Right.{Lasts, no_event}

@@ -2,14 +2,13 @@
 use Prim.Native.Nat.{ℕ}
 use mathlib.Core.Path.{◌≡◌, sym}
 use mathlib.Core.List.{List}
-use Rattle.scope.specs.Parsed.{refused}
 use Rattle.scope.specs.Instance.{parse}
 use Rattle.scope.specs.Operations.{score_of, same_sheet_of}
-use Rattle.scope.specs.Answers.{given}
-use Rattle.scope.specs.declared.Refusal.{Refusal}
+use Rattle.scope.specs.Answers.{given, refused_by}
+use Rattle.scope.specs.declared.refusal.Refusal.{Refusal}
 
 -- a file that is refused
-module _ (s : List ℕ) (x : Refusal) (e : refused x.number x.value ≡ parse s) where
+module _ (s : List ℕ) (x : Refusal) (e : refused_by x ≡ parse s) where
   pub score_file : (b : List ℕ) → given x ≡ score_of s b
   unfolding score_of
   score_file b = rw (sym e)

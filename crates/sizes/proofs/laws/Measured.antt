@@ -9,8 +9,10 @@ use Rattle.scope.specs.Parsed.{Parsed, got, refused, Answer, answered, with, the
 use Rattle.scope.specs.Instance.{Instance, parse}
 use Rattle.scope.specs.Formula.{variables, bounded_variables, most_bound, most_variables}
 use Rattle.scope.specs.Operations.{of_size, of_bound, formula_size, sizes_of}
-use Rattle.scope.specs.Answers.{given}
-use Rattle.scope.specs.declared.Refusal.{Refusal}
+use Rattle.scope.specs.Answers.{given, refused_by}
+use Rattle.scope.specs.declared.refusal.Reason.{Reason}
+use Rattle.scope.specs.declared.refusal.Refusal.{Refusal}
+use Rattle.std.proofs.Common.{Result, Ok, Err}
 use Rattle.scope.specs.declared.FormulaSize.{FormulaSize}
 use Rattle.constraint.specs.declared.kinds.Head.{Head}
 use Rattle.instance.specs.Answers.{instance_of}
@@ -19,8 +21,6 @@ use Rattle.sizing.specs.declared.Size.{Size}
 use Rattle.sizing.specs.Sums.{sum}
 use Rattle.sizing.specs.Whole.{stored}
 use Rattle.part_sizes.specs.declared.walk.Total.{Total}
-use Rattle.sizes.specs.declared.sized.Measured.{Measured}
-use Rattle.sizes.specs.declared.sized.Bounded.{Bounded}
 use Rattle.sizes.specs.Whole.{WholeOf, Numbers}
 use Rattle.sizes.proofs.laws.Whole.{whole_numbers, total_size}
 use Rattle.sizes.proofs.laws.Opened.{accepted-instance}
@@ -54,7 +54,7 @@ bound-then s B f = go (parse s)
     go (refused k v) = refl
 
 -- a file that the reader refused
-module _ (s : List ℕ) {f : Refusal} (e : refused f.number f.value ≡ parse s) where
+module _ (s : List ℕ) {f : Refusal} (e : refused_by f ≡ parse s) where
   pub size_refused : RefusedBy (sized_of s) f
   unfolding sized_of
   size_refused = record { answer = rw (← e) }
@@ -66,7 +66,7 @@ module _ (s : List ℕ) {f : Refusal} (e : refused f.number f.value ≡ parse s)
 -- an accepted file
 module _ {s d te tg : List ℕ} {h : Head} (a : Accepted s d te tg h) where
   -- 7 first
-  pub bound_high : (B : ℕ) → leb B most_bound ≡ false → RefusedBy (bounded_of s B) (record { number = 7; value = B })
+  pub bound_high : (B : ℕ) → leb B most_bound ≡ false → RefusedBy (bounded_of s B) (record { reason = Reason.BoundTooHigh; value = B })
   unfolding bounded_of
   bound_high B e = record { answer = rw (a.parsed, e) }
 
@@ -76,7 +76,7 @@ module _ {s d te tg : List ℕ} {h : Head} (a : Accepted s d te tg h) where
     numbers = whole_numbers (instance_of s d te tg h) (accepted-instance a) w.formula w.within
 
     size_by : (b : Bool) → leb t.formula.variables most_variables ≡ b
-        → measured_as s d te tg (cond b (Measured.Sized h t.formula) (Measured.Refused too_many))
+        → measured_as s d te tg (cond b (Ok (h, t.formula)) (Err too_many))
     unfolding sized_of
     size_by true e =
         let few = rw numbers.variables at e in
@@ -89,7 +89,7 @@ module _ {s d te tg : List ℕ} {h : Head} (a : Accepted s d te tg h) where
         }
     size_by false e = record { answer = rw (a.parsed, rw numbers.variables at e) }
 
-    pub size_judged : {r : Measured} → r ≡ judged_size h t.formula → measured_as s d te tg r
+    pub size_judged : {r : Result (Head × Size) Refusal} → r ≡ judged_size h t.formula → measured_as s d te tg r
     size_judged e = rw e (size_by (leb t.formula.variables most_variables) refl)
 
     total : stored (sum t.formula t.tail) ≡ formula_size (instance_of s d te tg h) B
@@ -97,7 +97,7 @@ module _ {s d te tg : List ℕ} {h : Head} (a : Accepted s d te tg h) where
 
     bound_by : B ≤ 4095 → (b : Bool) → leb (stored (sum t.formula t.tail)).variables most_variables ≡ b
         → bounded_as s B d te tg
-        (cond b (Bounded.Sized h t.formula (stored (sum t.formula t.tail))) (Bounded.Refused too_many))
+        (cond b (Ok (h, t.formula, stored (sum t.formula t.tail))) (Err too_many))
     unfolding bounded_of
     bound_by l true e =
         let few = rw total at e in
@@ -112,7 +112,7 @@ module _ {s d te tg : List ℕ} {h : Head} (a : Accepted s d te tg h) where
         }
     bound_by l false e = record { answer = rw (a.parsed, le-leb B most_bound l, rw total at e) }
 
-    pub bound_judged : {r : Bounded} → B ≤ 4095 → r ≡ judged_total h t → bounded_as s B d te tg r
+    pub bound_judged : {r : Result (Head × Size × FormulaSize) Refusal} → B ≤ 4095 → r ≡ judged_total h t → bounded_as s B d te tg r
     bound_judged l e = rw e (bound_by l (leb (stored (sum t.formula t.tail)).variables most_variables) refl)
 
 -- what the operation of sizing answers

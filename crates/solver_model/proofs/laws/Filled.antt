@@ -9,6 +9,8 @@ use lib.Dec.{eqb}
 use lib.ListN.{length, get_or, take, drop, replicate, get_or-replicate, drop_of_length-le}
 use lib.Seq.{drop-cons, take_at, length-take-le}
 use borrow.Author.Tests.{le-leb, lt-leb, eq-eqb, ne_eqb, eqb-true}
+use Rattle.std.specs.Prelude.{Ok, Err}
+use Rattle.scope.specs.declared.refusal.Reason.{Reason}
 use Rattle.laws.specs.Booleans.{impossible}
 use Rattle.scope.specs.Parsed.{answered, refusal}
 use Rattle.scope.specs.Cnf.{pos}
@@ -16,10 +18,8 @@ use Rattle.scope.specs.Kinds.{from, up_to, member}
 use Rattle.scope.specs.Score.{unless_found}
 use Rattle.scope.specs.SolverText.{gathered, times_given, not_once, model_given, model_in}
 use Rattle.solver_lines.specs.Noting.{left, stopped, noting, text_tokens}
-use Rattle.solver_model.specs.Settled.{unsettled, settled_to, settled_at, SettledAs}
-use Rattle.solver_model.specs.Filled.{settled_means, given_means, FilledAs}
-use Rattle.solver_model.specs.declared.settling.Settled.{Settled}
-use Rattle.solver_model.specs.declared.filling.Given.{Given}
+use Rattle.solver_model.specs.Settled.{Settled, unsettled, settled_to, settled_at, SettledAs}
+use Rattle.solver_model.specs.Filled.{Given, settled_means, given_means, FilledAs}
 use Rattle.solver_model.proofs.laws.Gathered.{Noted, agree, agrees-fault, agrees-noted}
 use Rattle.solver_model.proofs.laws.Bytes.{byte_after, length-noted, noted-bytes, given_once, settles}
 
@@ -87,10 +87,10 @@ module _ (st : List ℕ) (zeros : st ≡ replicate (length st) 0) (text : List �
 
     by_settled : {st'' : List ℕ} (r : Settled) → settled_at r ≡ not_once noting_all.literals (up_to (length st)) → st'' ≡ settled_to st'
         → given_means (settled_means r) st'' ≡ model_in (length st) text
-    by_settled Settled.Each f q =
+    by_settled (Ok _) f q =
         let m = settled noting_all.literals st' bytes_told (length st) 0 (omega (arith, kept)) (sym f) in
         sym (model_told ∙ rw (← f, q, m))
-    by_settled (Settled.Not v) f q = sym (model_told ∙ rw (← f))
+    by_settled (Err v) f q = sym (model_told ∙ rw (← f))
 
     pub gather_settled : {st'' : List ℕ} {r : Settled} → SettledAs st' st'' r → given_means (settled_means r) st'' ≡ model_in (length st) text
     gather_settled {st''} {r} s =
@@ -107,11 +107,11 @@ front-zeros st k e h = rw (length-take-le k st h) (ap (take k) e ∙ take-zeros 
 
 -- 9, 10, then what is gathered at the front of the store
 module _ (n : ℕ) (text : List ℕ) (model : ℕ) (st : List ℕ) where
-  pub filled_short : length st < n → FilledAs n text model st st (Given.Refused (record { number = 9; value = 0 }))
+  pub filled_short : length st < n → FilledAs n text model st st (Err (record { reason = Reason.TooShort; value = 0 }))
   filled_short h = record { answer = rw (lt-leb n (length st) h); wanted = λ e. impossible (cc); room = λ e. impossible (cc) }
 
   module _ (h : n ≤ length st) where
-    pub filled_wrong : (model ≡ n → ⊥) → FilledAs n text model st st (Given.Refused (record { number = 10; value = n }))
+    pub filled_wrong : (model ≡ n → ⊥) → FilledAs n text model st st (Err (record { reason = Reason.WrongLength; value = n }))
     filled_wrong d =
         record { answer = rw (le-leb n (length st) h, ne_eqb model n d); wanted = λ e. impossible (cc); room = λ e. impossible (cc) }
 

@@ -10,12 +10,12 @@ use lib.ListN.{length, get_or, set, take, drop, take-append-drop, drop_of_length
 use lib.Seq.{drop-cons, drop-set-lt, take-suc-set, take_all}
 use borrow.Author.Tests.{ne_eqb}
 use Rattle.solver_model.specs.Settled.{unsettled, settled_to, SettledAs}
-use Rattle.solver_model.specs.declared.settling.Settled.{Settled}
+use Rattle.std.specs.Prelude.{Ok, Err}
 
 -- the turns of the walk, of which i bytes are settled
 module _ (st₀ st : List ℕ) (i : ℕ) (so_far : unsettled 1 st₀ ≡ unsettled (i + 1) (drop i st)) (filled : settled_to st₀ ≡ take i st ++ settled_to (drop i st)) where
   module _ (h : i < length st) where
-    pub settled_stop : (eqb (get_or st i 0) 0 || eqb (get_or st i 0) 3) ≡ true → SettledAs st₀ st (Settled.Not (i + 1))
+    pub settled_stop : (eqb (get_or st i 0) 0 || eqb (get_or st i 0) 3) ≡ true → SettledAs st₀ st (Err (i + 1))
     unfolding unsettled settled_to
     settled_stop b =
         record {
@@ -40,7 +40,7 @@ module _ (st₀ st : List ℕ) (i : ℕ) (so_far : unsettled 1 st₀ ≡ unsettl
           filled
           ∙ rw (drop-cons st i 0 h, ne_eqb (get_or st i 0) 0 m, ne_eqb (get_or st i 0) 3 t, add-one i, drop-set-lt (suc i) st i (get_or st i 0 - 1) (omega arith), take-suc-set st i (get_or st i 0 - 1) h, append_assoc)
 
-  pub settled_end : length st ≤ i → SettledAs st₀ st Settled.Each
+  pub settled_end : length st ≤ i → SettledAs st₀ st (Ok tt)
   unfolding unsettled settled_to
   settled_end h =
       record {

@@ -14,17 +14,16 @@ use Rattle.scope.specs.SolverText.{model_in}
 use Rattle.scope.specs.Operations.{decode_of, solver_text_of}
 use Rattle.scope.specs.Answers.{decode_means}
 use Rattle.scope.specs.declared.Objective.{Objective}
-use Rattle.scope.specs.declared.Refusal.{Refusal}
+use Rattle.scope.specs.declared.refusal.Refusal.{Refusal}
+use Rattle.std.specs.Prelude.{Ok, Err}
 use Rattle.constraint.specs.declared.kinds.Head.{Head}
 use Rattle.instance.specs.Answers.{instance_of}
 use Rattle.sizing.specs.declared.Size.{Size}
 use Rattle.sizes.specs.Measured.{sized_of, SizedBy, RefusedBy}
 use Rattle.sizes.proofs.laws.Measured.{size-then}
-use Rattle.evaluation.specs.declared.Evaluation.{Evaluation}
-use Rattle.evaluation.specs.Evaluated.{part_of, answer_of}
+use Rattle.evaluation.specs.Evaluated.{Evaluation, part_of, answer_of}
 use Rattle.model.specs.Answers.{EvaluatedAs}
-use Rattle.solver_model.specs.declared.filling.Given.{Given}
-use Rattle.solver_model.specs.Filled.{given_means, filled_of, FilledAs}
+use Rattle.solver_model.specs.Filled.{Given, given_means, filled_of, FilledAs}
 use Rattle.solver_text.specs.Read.{read_means, Room, handed_over, ReadAs, filled_by, left_by, ReadInto}
 
 -- a model, and what decoding gives of it
@@ -52,22 +51,22 @@ after_filled file output model store i = go (leb (variables i) store) (eqb model
 
 -- a file that is refused
 pub read-refused : {file : List ℕ} (output : List ℕ) (model : ℕ) (store : List ℕ) {f : Refusal} → RefusedBy (sized_of file) f
-    → ReadAs file output model store store (Evaluation.Refused f)
+    → ReadAs file output model store store (Err f)
 unfolding solver_text_of
 read-refused {file} output model store r =
     record { answer = sym (size-then file (after file output model (length store)) ∙ rw r.answer); inside = omega arith; room = tt }
 
 -- an evaluated model
 evaluated-read : (file m : List ℕ) (e : Evaluation) → decode_means (part_of e m) (answer_of e) ≡ decode_of file m → read_means e m ≡ decoded_with file m
-evaluated-read file m (Evaluation.Holds n o) h = rw (← h)
-evaluated-read file m (Evaluation.Refused f) h = rw (← h)
+evaluated-read file m (Ok d) h = rw (← h)
+evaluated-read file m (Err f) h = rw (← h)
 
 room_of : (e : Evaluation) {model store : ℕ} → model ≤ store → Room e model store
-room_of (Evaluation.Holds n o) h = h
-room_of (Evaluation.Refused f) h = tt
+room_of (Ok d) h = h
+room_of (Err f) h = tt
 
 -- a model that was filled stands at the front of the store
-pub front_fits : {n : ℕ} {output : List ℕ} {model : ℕ} {store store' : List ℕ} → FilledAs n output model store store' Given.Model → length store' ≡ length store
+pub front_fits : {n : ℕ} {output : List ℕ} {model : ℕ} {store store' : List ℕ} → FilledAs n output model store store' (Ok tt) → length store' ≡ length store
     → model ≤ length store'
 front_fits g k = omega (arith, g.wanted refl, g.room refl)
 
@@ -84,11 +83,11 @@ module _ {file d te tg : List ℕ} {h : Head} {z : Size} (b : SizedBy file d te 
       ∙ rw b.answer (after_filled file output model (length store) i)
       ∙ ap (λ (a : Answer (List ℕ)). then a (decoded_with file)) (sym (rw b.numbers.variables at f.answer))
 
-  pub read_given : {output : List ℕ} {model : ℕ} {store store' : List ℕ} {f : Refusal} → FilledAs z.variables output model store store' (Given.Refused f)
-      → ReadAs file output model store store' (Evaluation.Refused f)
+  pub read_given : {output : List ℕ} {model : ℕ} {store store' : List ℕ} {f : Refusal} → FilledAs z.variables output model store store' (Err f)
+      → ReadAs file output model store store' (Err f)
   read_given g = record { answer = sym (filled_then g); inside = omega arith; room = tt }
 
-  pub read_evaluated : {output : List ℕ} {model : ℕ} {store store' : List ℕ} → FilledAs z.variables output model store store' Given.Model → length store' ≡ length store
+  pub read_evaluated : {output : List ℕ} {model : ℕ} {store store' : List ℕ} → FilledAs z.variables output model store store' (Ok tt) → length store' ≡ length store
       → {e : Evaluation} → EvaluatedAs file (take model store') e → ReadAs file output model store store' e
   read_evaluated {output} {model} {store} {store'} g k {e} v =
       let l = front_fits g k in
@@ -114,12 +113,12 @@ module _ (file output model store : List ℕ) where
   pub read_into : (e : Evaluation) {zeros store' model' store'' : List ℕ} → length zeros ≡ length store → ReadAs file output (length model) zeros store' e
       → model' ≡ handed_over e store' model → length store' ≡ length zeros → store'' ≡ replicate (length store') 0
       → ReadInto file output model store model' store'' e
-  read_into (Evaluation.Holds n o) {zeros} {store'} {model'} {store''} z r h k s =
-      let a : read_means (Evaluation.Holds n o) model' ≡ told = rw (h, ← z) r.answer in
+  read_into (Ok d) {zeros} {store'} {model'} {store''} z r h k s =
+      let a : read_means (Ok d) model' ≡ told = rw (h, ← z) r.answer in
       record {
-        leaves = by_answer (Evaluation.Holds n o) a (ap (λ (x : Answer Read). filled_by x model) a) (rw (k, z) at s);
+        leaves = by_answer (Ok d) a (ap (λ (x : Answer Read). filled_by x model) a) (rw (k, z) at s);
         inside = omega (arith, ap length h, length-take-le (length model) store' r.room, r.inside);
       }
-  read_into (Evaluation.Refused f) {zeros} {store'} {model'} {store''} z r h k s =
-      let a : read_means (Evaluation.Refused f) model' ≡ told = rw (← z) r.answer in
-      record { leaves = by_answer (Evaluation.Refused f) a (h ∙ ap (λ (x : Answer Read). filled_by x model) a) (rw (k, z) at s); inside = omega arith }
+  read_into (Err f) {zeros} {store'} {model'} {store''} z r h k s =
+      let a : read_means (Err f) model' ≡ told = rw (← z) r.answer in
+      record { leaves = by_answer (Err f) a (h ∙ ap (λ (x : Answer Read). filled_by x model) a) (rw (k, z) at s); inside = omega arith }

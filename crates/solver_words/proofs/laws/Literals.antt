@@ -11,9 +11,9 @@ use borrow.Author.Tests.{ne_eqb, eqb-true, eqb-false, lt-ltb, le-ltb, ltb-true, 
 use Rattle.laws.specs.Booleans.{impossible}
 use Rattle.scope.specs.Cnf.{pos, neg}
 use Rattle.scope.specs.SolverText.{numeral, at_most, variable_in, literal_if, after_zero, word_of, literal}
-use Rattle.solver_words.specs.declared.numeral.Variable.{Variable}
+use Rattle.std.specs.Prelude.{Some, None}
 use Rattle.solver_words.specs.declared.word.Word.{Word}
-use Rattle.solver_words.specs.Reading.{word_from, before, numeral_at, variable_at, variable_said, positive_of, negative_of, closed_by, closing_at, word_said, next_of, WordRead}
+use Rattle.solver_words.specs.Reading.{Variable, word_from, before, numeral_at, variable_at, variable_said, positive_of, negative_of, closed_by, closing_at, word_said, next_of, WordRead}
 use Rattle.solver_words.proofs.laws.Words.{word_past, word_more, word_space, word_line_end}
 use Rattle.solver_words.proofs.laws.Numerals.{numeral-grows}
 
@@ -50,22 +50,22 @@ record Signed (w : Word) (sign : ℕ → ℕ) (o : Option ℕ) (e : ℕ) : Type 
   ends : next_of w e ≡ e
 
 positive-read : (v : Variable) (o : Option ℕ) (e : ℕ) → variable_said v ≡ before o e → Signed (positive_of v) pos o e
-positive-read (Variable.Of x next) none e h = impossible (cc)
-positive-read (Variable.Of x next) (some y) e h =
+positive-read (Some (x, next)) none e h = impossible (cc)
+positive-read (Some (x, next)) (some y) e h =
     let q : ◌≡◌ {A = ℕ × ℕ} (x, next) (y, e) = cc in
     let a : x ≡ y = ap (λ (p : ℕ × ℕ). p.0) q in
     record { said = rw a; ends = ap (λ (p : ℕ × ℕ). p.1) q }
-positive-read Variable.Nothing none e h = record { said = refl; ends = refl }
-positive-read Variable.Nothing (some y) e h = impossible (cc)
+positive-read None none e h = record { said = refl; ends = refl }
+positive-read None (some y) e h = impossible (cc)
 
 negative-read : (v : Variable) (o : Option ℕ) (e : ℕ) → variable_said v ≡ before o e → Signed (negative_of v) neg o e
-negative-read (Variable.Of x next) none e h = impossible (cc)
-negative-read (Variable.Of x next) (some y) e h =
+negative-read (Some (x, next)) none e h = impossible (cc)
+negative-read (Some (x, next)) (some y) e h =
     let q : ◌≡◌ {A = ℕ × ℕ} (x, next) (y, e) = cc in
     let a : x ≡ y = ap (λ (p : ℕ × ℕ). p.0) q in
     record { said = rw a; ends = ap (λ (p : ℕ × ℕ). p.1) q }
-negative-read Variable.Nothing none e h = record { said = refl; ends = refl }
-negative-read Variable.Nothing (some y) e h = impossible (cc)
+negative-read None none e h = record { said = refl; ends = refl }
+negative-read None (some y) e h = impossible (cc)
 
 -- a 0 that nothing follows
 closing-read : (w : List ℕ) (next : ℕ) → (word_said (closed_by w next) ≡ after_zero w) × (next_of (closed_by w next) (next + length w) ≡ next + length w)

@@ -10,7 +10,7 @@ use lib.ListN.{length, get_or}
 use borrow.Author.Tests.{le-leb, lt-leb, eqb-true, eqb-false}
 use Rattle.laws.specs.Booleans.{impossible}
 use Rattle.scope.specs.SolverText.{numeral, at_most}
-use Rattle.solver_words.specs.declared.numeral.Variable.{Variable}
+use Rattle.std.specs.Prelude.{Some, None}
 use Rattle.solver_words.specs.Reading.{word_from, numeral_from, variable_said, ended_by}
 use Rattle.solver_words.proofs.laws.Words.{word_space, word_line_end, word_more}
 
@@ -49,11 +49,11 @@ module _ (n : ℕ) (s : List ℕ) (v at : ℕ) {whole : Option (ℕ × ℕ)} (so
   pub numeral_below : at < length s → get_or s at 0 < 48 → v ≤ n → variable_said (ended_by (get_or s at 0) v at) ≡ whole
   numeral_below h l few = space (eqb (get_or s at 0) 32) refl
     where
-      line : (t : Bool) → eqb (get_or s at 0) 10 ≡ t → (get_or s at 0 ≡ 32 → ⊥) → variable_said (cond t (Variable.Of v at) Variable.Nothing) ≡ whole
+      line : (t : Bool) → eqb (get_or s at 0) 10 ≡ t → (get_or s at 0 ≡ 32 → ⊥) → variable_said (cond t (Some (v, at)) None) ≡ whole
       line true e d = numeral_end (word_line_end s at h (eqb-true (get_or s at 0) 10 e)) few
       line false e d = numeral_low h d (eqb-false (get_or s at 0) 10 e) l
 
-      space : (t : Bool) → eqb (get_or s at 0) 32 ≡ t → variable_said (cond (t || eqb (get_or s at 0) 10) (Variable.Of v at) Variable.Nothing) ≡ whole
+      space : (t : Bool) → eqb (get_or s at 0) 32 ≡ t → variable_said (cond (t || eqb (get_or s at 0) 10) (Some (v, at)) None) ≡ whole
       space true e = numeral_end (word_space s at h (eqb-true (get_or s at 0) 32 e)) few
       space false e = line (eqb (get_or s at 0) 10) refl (eqb-false (get_or s at 0) 32 e)
 

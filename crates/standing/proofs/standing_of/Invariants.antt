@@ -1,5 +1,4 @@
 use mathlib.Core.Path.{◌≡◌}
-use Prim.Native.Nat.{◌-◌}
 use lib.Seq.{slice}
 use Rattle.theory.specs.Marked.{standing, falsified}
 use Rattle.marks.specs.Marks.{marks_of}
@@ -8,6 +7,3 @@ use Rattle.standing.proofs.standing_of.Given as goal
 
 abbrev pub invariant-loop-i : goal.invariant-loop-i
 invariant-loop-i l = standing (marks_of l.marks) (stands l.s) (slice l.i l.end l.words) ≡ standing (marks_of l.marks) falsified (slice l.first l.end l.words)
-
-abbrev pub decreases-loop-i : goal.decreases-loop-i
-decreases-loop-i l = l.end - l.i

@@ -1,8 +1,6 @@
 -- `table_lists::groups_at` meets its contract. The loop's invariant: the groups are the rows of the table so far, and those
 -- still to be read.
-use Prim.Native.Nat.{◌-◌, ◌≤◌}
-use mathlib.Core.Path.{◌≡◌}
-use lib.ListN.{length}
+use Rattle.std.proofs.Common.{◌≡◌, ◌-◌, ◌≤◌, length}
 use Rattle.scope.specs.Parsed.{repeat}
 use Rattle.scope.specs.Number.{listed}
 use Rattle.scope.specs.Instance.{groups_at}
@@ -11,10 +9,6 @@ use Rattle.tables.specs.Rows.{rows}
 use Rattle.table_lists.proofs.groups_at.Given as goal
 
 abbrev pub invariant-loop-g : goal.invariant-loop-g
-invariant-loop-g l = (l.g ≤ l.count)
-    × (l.count ≤ 1024)
+invariant-loop-g l = (l.count ≤ 1024)
     × (length l.table ≡ length l.initial.table)
     × (groups_at 1024 l.times l.s l.at ≡ before (rows l.table l.g) (repeat (l.count - l.g) (listed l.times l.s) l.next))
-
-abbrev pub decreases-loop-g : goal.decreases-loop-g
-decreases-loop-g l = l.count - l.g

@@ -2,20 +2,9 @@
 use Prim.Native.Nat.{ℕ, ◌*◌, ◌≤◌}
 use mathlib.Core.Path.{◌≡◌, refl}
 use mathlib.Core.Bool.{Bool, true, false, cond}
-use mathlib.Core.List.{List, [], ◌∷◌}
+use mathlib.Core.List.{List}
 use native.Mathlib.Omega.{arith}
-use lib.Dec.{eqb}
-use lib.ListN.{length, get_or}
 use Rattle.tables.specs.Room.{dated, group_room}
-
--- by the first byte, where there is one
-pub dated-none : (s : List ℕ) → length s ≡ 0 → false ≡ dated s
-dated-none [] e = refl
-dated-none (b ∷ s) e = let z : ⊥ = omega arith in elim z [ ]
-
-pub dated-first : (s : List ℕ) → (length s ≡ 0 → ⊥) → eqb (get_or s 0 0) 0 ≡ dated s
-dated-first [] e = elim (e refl) [ ]
-dated-first (b ∷ s) e = refl
 
 least_by : (b : Bool) → 1024 ≤ cond b 2048 1024
 least_by true = omega arith

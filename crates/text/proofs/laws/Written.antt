@@ -12,7 +12,7 @@ use Rattle.scope.specs.Instance.{Instance}
 use Rattle.scope.specs.Text.{text}
 use Rattle.scope.specs.Operations.{text_size_of, text_of}
 use Rattle.scope.specs.Answers.{given}
-use Rattle.scope.specs.declared.Refusal.{Refusal}
+use Rattle.scope.specs.declared.refusal.Refusal.{Refusal}
 use Rattle.constraint.specs.declared.kinds.Head.{Head}
 use Rattle.instance.specs.Answers.{instance_of}
 use Rattle.sizing.specs.declared.Size.{Size}

@@ -1,18 +1,14 @@
 -- `print_text` meets its contract: a longer file, the text, or a refusal.
-use native.Mathlib.Omega.{arith}
-use lib.ListN.{length}
+use Rattle.std.proofs.Common.{length, arith}
 use Rattle.text_program.proofs.laws.Prints.{long-ran, accepted_ran, refused_ran}
-use borrow.Author.Rules.{rules}
 use Rattle.text_program.proofs.print_text.Goals as goal
 
 pub returns-then-input-gt65536 : goal.returns-then-input-gt65536
 returns-then-input-gt65536 c = let a = c.args in
     long-ran a.input.now (length a.buffer.now) c.if-input-gt65536.true c.put_refusal.ensures
 
-pub returns-in-Bytes : goal.returns-in-Bytes
-returns-in-Bytes c = let b = c.args.buffer.now in
-    accepted_ran _ b (omega arith) (omega arith) c.text-a.auto.out (rw c.in-Bytes.is at c.text-a.ensures)
+pub returns-in-Ok : goal.returns-in-Ok
+returns-in-Ok c = accepted_ran _ c.args.buffer.now (omega arith) (omega arith) c.text.auto.out c.in-Ok.ensures
 
-pub returns-in-Refused : goal.returns-in-Refused
-returns-in-Refused c = let b = c.args.buffer.now in
-    refused_ran _ b (omega arith) (rw c.in-Refused.is at c.text-a.ensures) c.put_refusal-in-Refused.ensures
+pub returns-in-Err : goal.returns-in-Err
+returns-in-Err c = refused_ran _ c.args.buffer.now (omega arith) c.in-Err.ensures c.put_refusal-in-Err.ensures

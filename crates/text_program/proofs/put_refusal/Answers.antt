@@ -1,7 +1,7 @@
 -- `put_refusal` meets its contract: four runs of stores.
 use Rattle.sink.specs.Run.{then}
-use borrow.Author.Rules.{rules}
 use Rattle.text_program.proofs.put_refusal.Goals as goal
 
 pub returns : goal.returns
-returns c = then (then (then c.write_number-a.ensures c.put_byte-b.ensures) c.write_number-c.ensures) c.put_byte.ensures
+returns c = let a = rw (c.from.ensures, c.number.ensures) at c.write_number-a.ensures in
+    then (then (then a c.put-b.ensures) c.write_number-c.ensures) c.put.ensures

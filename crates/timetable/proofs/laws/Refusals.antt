@@ -3,24 +3,24 @@ use Prim.Native.Nat.{ℕ, ◌*◌}
 use mathlib.Core.Path.{◌≡◌, refl, sym, ◌∙◌}
 use mathlib.Core.Bool.{Bool, true, false}
 use mathlib.Core.List.{List}
-use mathlib.Core.Option.{Option, none, some}
+use mathlib.Core.Option.{Option as Maybe, none, some}
 use lib.ListN.{length}
 use lib.Dec.{eqb}
 use borrow.Author.Tests.{eq-eqb, ne_eqb, eqb-true}
 use Rattle.scope.specs.Parsed.{Answer, answered, refusal, provided, then}
 use Rattle.scope.specs.Instance.{Instance}
 use Rattle.scope.specs.Score.{slots, truth, first_above, first_wrong, unless_found, of_timetable}
-use Rattle.timetable.specs.declared.bytes.Found.{Found}
-use Rattle.timetable.specs.Answers.{found_at, place_of}
+use Rattle.std.proofs.Common.{Option, Some, None}
+use Rattle.timetable.specs.Answers.{found_at}
 use Rattle.timetable.specs.Right.{Lasts, Passed, wrong_from}
 use Rattle.timetable.proofs.laws.Right.{wrong-event}
 
 -- what was found is refused, and what was not found is passed
-module _ {A : Type 0} (k : ℕ) (a : Answer A) (f : Found) (o : Option ℕ) (e : found_at f ≡ o) where
-  found_stops : (v w : ℕ) → f ≡ Found.At v → w ≡ place_of f → refusal k w ≡ unless_found k o a
-  found_stops v w t p = rw (← e, p, t)
+module _ {A : Type 0} (k : ℕ) (a : Answer A) (f : Option ℕ) (o : Maybe ℕ) (e : found_at f ≡ o) where
+  found_stops : (v : ℕ) → f ≡ Some v → refusal k v ≡ unless_found k o a
+  found_stops v t = rw (← e, t)
 
-  found_none : (r : Answer A) → f ≡ Found.Nothing → r ≡ a → r ≡ unless_found k o a
+  found_none : (r : Answer A) → f ≡ None → r ≡ a → r ≡ unless_found k o a
   found_none r t p = rw (← e, t) p
 
 module _ {A : Type 0} (i : Instance) (b d : List ℕ) (T n : ℕ) (a : Answer A) (l : Lasts i T n d) where
@@ -35,27 +35,27 @@ module _ {A : Type 0} (i : Instance) (b d : List ℕ) (T n : ℕ) (a : Answer A)
   length_right h = rw (wanted, eq-eqb (length b) (2 * (n * T)) h)
 
   -- then the bytes, then the events
-  module _ (h : length b ≡ 2 * (n * T)) (f : Found) (e : found_at f ≡ first_above 0 b) where
-    pub bytes_wrong : (v w : ℕ) → f ≡ Found.At v → w ≡ place_of f → refusal 11 w ≡ of_timetable i b a
-    bytes_wrong v w t p = found_stops 11 (unless_found 12 (first_wrong i (truth i b) 1 i.events) a) f (first_above 0 b) e v w t p ∙ sym (length_right h)
+  module _ (h : length b ≡ 2 * (n * T)) (f : Option ℕ) (e : found_at f ≡ first_above 0 b) where
+    pub bytes_wrong : (v : ℕ) → f ≡ Some v → refusal 11 v ≡ of_timetable i b a
+    bytes_wrong v t = found_stops 11 (unless_found 12 (first_wrong i (truth i b) 1 i.events) a) f (first_above 0 b) e v t ∙ sym (length_right h)
 
-    module _ (t : f ≡ Found.Nothing) (g : Found) (u : found_at g ≡ wrong_from b d (n * T) T 0 n) where
+    module _ (t : f ≡ None) (g : Option ℕ) (u : found_at g ≡ wrong_from b d (n * T) T 0 n) where
       events_left : of_timetable i b a ≡ unless_found 12 (wrong_from b d (n * T) T 0 n) a
       events_left =
           length_right h
           ∙ sym (found_none 11 (unless_found 12 (first_wrong i (truth i b) 1 i.events) a) f (first_above 0 b) e _ t refl)
           ∙ rw (wrong-event i b d T n l)
 
-      pub event_wrong : (v w : ℕ) → g ≡ Found.At v → w ≡ place_of g → refusal 12 w ≡ of_timetable i b a
-      event_wrong v w k p = found_stops 12 a g (wrong_from b d (n * T) T 0 n) u v w k p ∙ sym events_left
+      pub event_wrong : (v : ℕ) → g ≡ Some v → refusal 12 v ≡ of_timetable i b a
+      event_wrong v k = found_stops 12 a g (wrong_from b d (n * T) T 0 n) u v k ∙ sym events_left
 
-      pub timetable_right : g ≡ Found.Nothing → a ≡ of_timetable i b a
+      pub timetable_right : g ≡ None → a ≡ of_timetable i b a
       timetable_right k = found_none 12 a g (wrong_from b d (n * T) T 0 n) u a k refl ∙ sym events_left
 
 pub ruleset refusals = (length_wrong, bytes_wrong, event_wrong, timetable_right)
 
 -- the refusals do not depend on what comes after them
-then_found : {A : Type 0} (k : ℕ) (o : Option ℕ) (a : Answer (Unit {0})) (b c : Answer A) → then a (λ _. b) ≡ c
+then_found : {A : Type 0} (k : ℕ) (o : Maybe ℕ) (a : Answer (Unit {0})) (b c : Answer A) → then a (λ _. b) ≡ c
     → then (unless_found k o a) (λ _. b) ≡ unless_found k o c
 then_found k none a b c h = h
 then_found k (some v) a b c h = refl
@@ -73,7 +73,7 @@ then-timetable i b a =
     (then_found 11 (first_above 0 b) _ a _ (then_found 12 events (answered tt) a a refl))
 
 -- bytes that are not refused have the length wanted, and no event is wrong
-found-answered : {A : Type 0} (k : ℕ) (o : Option ℕ) (a : Answer A) {x : A} → answered x ≡ unless_found k o a → (o ≡ none) × (answered x ≡ a)
+found-answered : {A : Type 0} (k : ℕ) (o : Maybe ℕ) (a : Answer A) {x : A} → answered x ≡ unless_found k o a → (o ≡ none) × (answered x ≡ a)
 found-answered k none a e = (refl, e)
 found-answered k (some v) a e = (cc, cc)
 

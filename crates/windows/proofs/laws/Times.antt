@@ -8,6 +8,7 @@ use lib.Dec.{eqb, leb, ltb}
 use lib.ListN.{length, drop, length-append}
 use native.Mathlib.Omega.{arith}
 use borrow.Author.Tests.{eqb-true, eqb-false}
+use Rattle.std.proofs.lemmas.Bool.{false≢true}
 use Rattle.scope.specs.Parsed.{Parsed, got, refused, and_then, unless}
 use Rattle.scope.specs.Number.{Front, broken, whole, group, front, within, number_from, number, limited}
 use Rattle.scope.specs.Calendar.{Period, period_count, calendar_at, windows_after}
@@ -77,11 +78,8 @@ dated-got (got days end) {t} {next} e =
     (sym (ap (λ (t : Times). t.days) k), rw h)
 dated-got (refused k v) {t} {next} e = refused-got ((t.days ≡ some []) × (refused k v ≡ got [] next)) e
 
-true-not-false : (Q : Type 0) → true ≡ false → Q
-true-not-false Q e = let z : ◌≡◌ {A = ℕ} 0 1 = ap (λ b. cond b 0 1) e in let f : ⊥ = omega arith in elim f [ ]
-
 by_first : (s : List ℕ) → dated s ≡ true → (bs : List ℕ) × (s ≡ 0 ∷ bs)
-by_first [] e = true-not-false ((bs : List ℕ) × ([] ≡ 0 ∷ bs)) (sym e)
+by_first [] e = absurd (false≢true e)
 by_first (b ∷ bs) e = (bs, rw (eqb-true b 0 e))
 
 module _ (s : List ℕ) {count : ℕ} (r : TimesRead s count) where
@@ -106,7 +104,7 @@ module _ (s : List ℕ) {count : ℕ} (r : TimesRead s count) where
 undated-by : (s : List ℕ) (T m : ℕ) {t : Times} {next : ℕ} → limited 0 125 s 0 ≡ got T m → (z : Bool) → eqb T 0 ≡ z
     → cond z (and_then (calendar_at s m) (λ days end. got (record { count = period_count days; days = some days }) end)) (got (record { count = T; days = none }) m) ≡ got t next
     → dated s ≡ false → t.days ≡ none
-undated-by s T m {t} f true z e d = true-not-false (t.days ≡ none) (sym (limited-zero s (f ∙ ap (λ v. got v m) (eqb-true T 0 z))) ∙ d)
+undated-by s T m {t} f true z e d = absurd (false≢true (sym d ∙ limited-zero s (f ∙ ap (λ v. got v m) (eqb-true T 0 z))))
 undated-by s T m {t} f false z e d =
     let same : ◌≡◌ {A = Times} (record { count = T; days = none }) t = cc in sym (ap (λ (t : Times). t.days) same)
 

@@ -8,8 +8,6 @@ use native.Mathlib.Omega.{arith}
 use Rattle.scope.specs.Parsed.{Parsed, got, refused, and_then, repeat}
 use Rattle.scope.specs.Calendar.{Period as Span, limited_in, period_count, window_of, window_at, windows_at}
 use Rattle.scope.specs.Instance.{Times, groups_at, all_groups_at}
-use Rattle.scope.specs.declared.Refusal.{Refusal}
-use Rattle.number.specs.Answers.{refused_by}
 use Rattle.parsing.proofs.laws.Each.{each_at}
 use Rattle.parsing.proofs.laws.Parsing.{and_then-got, before}
 use Rattle.parsing.proofs.laws.Calendar.{CalendarRead, calendar-got, limited_in-got}
@@ -17,12 +15,10 @@ use Rattle.tables.specs.Rows.{row_of, rows}
 use Rattle.table_lists.proofs.laws.Writing.{put_row, rows_more}
 use Rattle.tables.proofs.laws.Laws.{length_rows}
 use Rattle.tables.proofs.laws.Reading.{groups-got}
+use Rattle.std.proofs.Common.{Option}
 use Rattle.calendar.specs.declared.days.Period.{Period}
 use Rattle.calendar.specs.Rows.{day_row, blank_day, rows_after, calendar_rows}
 use Rattle.calendar.proofs.laws.Rows.{length-day_row}
-use Rattle.windows.specs.declared.window.WindowRead.{WindowRead}
-use Rattle.windows.specs.declared.window.WindowRead.TheVariants.{Value, Refused}
-use Rattle.windows.specs.Answers.{said_window}
 use Rattle.windows.specs.Window.{window_fields, in_window}
 use Rattle.windows.specs.Times.{days_in, Calendared}
 use Rattle.windows.proofs.laws.Row.{row-shown}
@@ -49,22 +45,21 @@ module _ (days : List (List Span)) (s : List ℕ) (at : ℕ) where
       and_then-twice (limited_in at 0 1440 s next) _ _
       ∙ and_then-same (limited_in at 0 1440 s next) _ _ (λ from more. and_then-twice (limited_in at 0 1440 s more) _ _)))
 
-  module _ (x : WindowRead) (e : said_window x ≡ window_fields s at) where
-    pub window_value : {d a b n : ℕ} → x ≡ Value d a b n → window_at days s at ≡ got (window_of days d a b) n
-    window_value h = window_by_fields ∙ rw (sym e ∙ ap said_window h)
+  pub window_value : {d a b n : ℕ} → got (d, a, b) n ≡ window_fields s at → window_at days s at ≡ got (window_of days d a b) n
+  window_value e = window_by_fields ∙ rw (← e)
 
-    pub window_refused : {f : Refusal} → x ≡ Refused f → window_at days s at ≡ refused_by f
-    window_refused h = window_by_fields ∙ rw (sym e ∙ ap said_window h)
+  pub window_refused : {k v : ℕ} → refused k v ≡ window_fields s at → window_at days s at ≡ refused k v
+  window_refused e = window_by_fields ∙ rw (← e)
 
 -- the day of a window that was read is one of seven
 pub record DayIn (d : ℕ) : Type 0 where
   pub low : 1 ≤ d
   pub high : d ≤ 7
 
-pub window-day : (s : List ℕ) (at : ℕ) (x : WindowRead) {d a b n : ℕ} → said_window x ≡ window_fields s at → x ≡ Value d a b n → DayIn d
+pub window-day : (s : List ℕ) (at : ℕ) {d a b n : ℕ} → got (d, a, b) n ≡ window_fields s at → DayIn d
 unfolding window_fields
-window-day s at x {d} {a} {b} {n} e h =
-    let k = and_then-got (limited_in at 1 7 s at) (λ d next. and_then (limited_in at 0 1440 s next) (λ from more. and_then (limited_in at 0 1440 s more) (λ to end. got (d, from, to) end))) (sym e ∙ ap said_window h) in
+window-day s at {d} {a} {b} {n} e =
+    let k = and_then-got (limited_in at 1 7 s at) (λ d next. and_then (limited_in at 0 1440 s next) (λ from more. and_then (limited_in at 0 1440 s more) (λ to end. got (d, from, to) end))) (sym e) in
     let l = and_then-got (limited_in at 0 1440 s k.next) (λ from more. and_then (limited_in at 0 1440 s more) (λ to end. got (k.value, from, to) end)) k.rest in
     let m = and_then-got (limited_in at 0 1440 s l.next) (λ to end. got (k.value, l.value, to) end) l.rest in
     let w = limited_in-got at 1 7 s at {v = k.value} {next = k.next} k.first in
@@ -73,7 +68,7 @@ window-day s at x {d} {a} {b} {n} e h =
     record { low = omega (arith, w.low); high = omega (arith, w.high) }
 
 -- the row of a day in the array of a calendar
-row-at : (t : ℕ) (ds : List (List Span)) (k : ℕ) (z : List Period) (more : List (List Period)) → k < length ds
+row-at : (t : ℕ) (ds : List (List Span)) (k : ℕ) (z : List (Option Period)) (more : List (List (Option Period))) → k < length ds
     → get_or (rows_after t ds ++ more) k z ≡ day_row (t + period_count (take k ds)) (get_or ds k [])
 unfolding rows_after period_count
 row-at t [] k z more h = let f : ⊥ = omega arith in absurd f
@@ -82,7 +77,7 @@ row-at t (d ∷ ds) (suc k) z more h =
     let e : t + length d + period_count (take k ds) ≡ t + (length d + period_count (take k ds)) = omega arith in
     rw e at (row-at (t + length d) ds k z more (omega arith))
 
-module _ (s : List ℕ) (c : Calendared s) (array : List (List Period)) (e : array ≡ calendar_rows (days_in s)) (d : ℕ) (i : DayIn d) (z : List Period) where
+module _ (s : List ℕ) (c : Calendared s) (array : List (List (Option Period))) (e : array ≡ calendar_rows (days_in s)) (d : ℕ) (i : DayIn d) (z : List (Option Period)) where
   known : CalendarRead s 1 (days_in s) c.end
   known = calendar-got s 1 c.read
 

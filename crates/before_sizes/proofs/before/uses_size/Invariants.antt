@@ -1,6 +1,6 @@
 -- `before::uses_size` meets its contract. The loop's invariant: the sum, and the uses of the resources still to be looked at, are
 -- the whole.
-use Prim.Native.Nat.{suc, ◌*◌, ◌-◌, ◌≤◌}
+use Prim.Native.Nat.{suc, ◌*◌, ◌-◌}
 use mathlib.Core.Path.{◌≡◌}
 use mathlib.Core.List.{List}
 use Rattle.scope.specs.Kinds.{Event, from, up_to}
@@ -10,10 +10,6 @@ use Rattle.before_sizes.specs.Before.{Users}
 use Rattle.before_sizes.proofs.before.uses_size.Given as goal
 
 abbrev pub invariant-loop-i : goal.invariant-loop-i
-invariant-loop-i l = (l.i ≤ l.resources)
-    × Within (l.i * 384125) l.sum
+invariant-loop-i l = Within (l.i * 384125) l.sum
     × ((es : List Event) → Users l.users es
     → uses_size l.times es (up_to l.resources) ≡ together l.sum (uses_size l.times es (from (suc l.i) (l.resources - l.i))))
-
-abbrev pub decreases-loop-i : goal.decreases-loop-i
-decreases-loop-i l = l.resources - l.i

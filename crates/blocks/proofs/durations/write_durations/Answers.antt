@@ -1,18 +1,15 @@
-use mathlib.Core.Path.{◌≡◌, refl, sym}
-use Prim.Native.Nat.{◌+◌, ◌-◌, ◌≤◌}
+use mathlib.Core.Path.{refl, sym}
+use Prim.Native.Nat.{◌+◌}
 use native.Mathlib.Omega.{arith}
-use lib.ListN.{length}
-use Rattle.sink.specs.World.{world, step}
-use Rattle.literals.specs.Numbered.{all_numbered}
 use Rattle.items.proofs.laws.Held.{held-length, front_literals}
 use Rattle.items.proofs.laws.Lists.{plain_room, plain_wrote, lists_turn, lists_room, lists-end}
-use Rattle.items.specs.Written.{Left, left_start, left_room, left_end}
-use Rattle.blocks.proofs.EventDuration.{ys-length, ys-proper, durations_left, durations_turn, durations_end}
+use Rattle.items.specs.Written.{left_start, left_room, left_end}
+use Rattle.blocks.proofs.EventDuration.{ys-length, ys-proper, durations_turn, durations_end}
 use borrow.Author.Rules.{rules}
 use Rattle.blocks.proofs.durations.write_durations.Goals as goal
 
 pub loop-e-init : goal.loop-e-init
-loop-e-init c = (omega arith, refl, refl, refl, c.requires.1.some, left_start refl)
+loop-e-init c = (refl, refl, refl, c.requires.1.some, left_start refl)
 
 pub y_of_event-n-requires : goal.y_of_event-n-requires
 y_of_event-n-requires c = let p = c.requires.0 in (p.times, (record { low = omega arith; high = omega (arith, p.events) }, omega (arith, p.times)))
@@ -34,7 +31,7 @@ write_counted-w-requires c = let a = c.args in
     let T = p.0.times in
     let n = ys-length a.times (l.e + 1) in
     let turn = durations_turn a.times a.events a.durations.now l.e p.0.room c.loop-e-test.true in
-    let room = left_room l.invariant.4 l.invariant.5 p.1 in (
+    let room = left_room l.invariant.3 l.invariant.4 p.1 in (
       front_literals h (ys-proper a.times (l.e + 1) T (record { low = omega arith; high = omega (arith, p.0.events) })) (omega (arith, h.count)),
       (
         omega (arith, held-length h, h.count),
@@ -48,15 +45,14 @@ loop-e-preserved c = let a = c.args in
     let l = c.loop-e in
     let turn = durations_turn a.times a.events a.durations.now l.e p.0.room c.loop-e-test.true in
     let w = c.write_counted-w.ensures in (
-      omega arith,
       search rules,
       search rules,
       search rules,
-      omega (arith, w.next, l.invariant.4),
-      lists_turn 0 l.next turn l.invariant.5 (plain_wrote 0 _ _ l.next c.y_of_event-n.ensures w),
+      omega (arith, w.next, l.invariant.3),
+      lists_turn 0 l.next turn l.invariant.4 (plain_wrote 0 _ _ l.next c.y_of_event-n.ensures w),
     )
 
 pub returns : goal.returns
 returns c = let a = c.args in
     let l = c.loop-e in
-    left_end (lists-end 0 l.next (durations_end a.times a.events a.durations.now l.e c.requires.0.room c.loop-e-test.false)) l.invariant.5
+    left_end (lists-end 0 l.next (durations_end a.times a.events a.durations.now l.e c.requires.0.room c.loop-e-test.false)) l.invariant.4

@@ -1,7 +1,6 @@
 -- `blocks::starts::write_starts` meets its contract.
 use mathlib.Core.Path.{sym, ◌∙◌}
 use Rattle.blocks.proofs.Passed.{starts_passed}
-use borrow.Author.Rules.{rules}
 use Rattle.blocks.proofs.starts.write_starts.Goals as goal
 
 pub returns-then-skips : goal.returns-then-skips

@@ -5,7 +5,6 @@ use Rattle.scope.specs.Kinds.{up_to}
 use Rattle.user_table.specs.Filled.{users_at}
 use Rattle.literals.specs.Numbered.{use_gates}
 use Rattle.blocks.proofs.Passed.{gates_passed}
-use borrow.Author.Rules.{rules}
 use Rattle.blocks.proofs.uses.write_uses.Goals as goal
 
 pub returns-then-skips : goal.returns-then-skips

@@ -1,28 +1,23 @@
-use mathlib.Core.Path.{sym, ap, ◌∙◌}
-use native.Mathlib.Omega.{arith}
-use Rattle.number.specs.Answers.{said}
+use Rattle.std.proofs.Common.{sym, ◌∙◌, arith}
+use Rattle.number.proofs.laws.Sequence.{handed-on}
 use Rattle.parsing.proofs.laws.Calendar.{limited_in-got}
-use Rattle.calendar.proofs.laws.Counting.{period_value, period_refused, day-counted, day-uncounted, counted_more, counted_refused, counted_end}
+use Rattle.calendar.proofs.laws.Counting.{day-counted, day-uncounted, counted_more, counted_refused, counted_end}
 use Rattle.calendar.proofs.calendar.day_at.Goals as goal
 
-pub returns-in_default : goal.returns-in_default
-returns-in_default c = let told = c.in_default.is in
-    rw told (sym (day-uncounted _ _ (sym c.limited_in-c.ensures ∙ ap said told)))
+pub returns-in_err-count : goal.returns-in_err-count
+returns-in_err-count c = rw (handed-on _ _ c.from_residual.ensures) (sym (day-uncounted _ _ (sym c.in_err-count.ensures)))
 
 pub loop-i-init : goal.loop-i-init
-loop-i-init c = let e = sym c.limited_in-c.ensures ∙ ap said c.in-Value.is in
-    (omega arith, (limited_in-got _ _ _ _ _ e).high, day-counted _ _ e)
+loop-i-init c = let e = sym c.in_ok-count.ensures in
+    ((limited_in-got _ _ _ _ _ e).high, day-counted _ _ e)
 
-pub returns-in_default-p : goal.returns-in_default-p
-returns-in_default-p c = let told = c.in_default-p.is in
-    let f = c.period_at-p in
-    rw (c.refusal_in.ensures, told)
-    (sym (c.loop-i.invariant.2 ∙ counted_refused _ _ _ _ _ c.loop-i-test.true (period_refused _ f.ensures told)))
+pub returns-in_err-end : goal.returns-in_err-end
+returns-in_err-end c = rw (handed-on _ _ c.from_residual-in_err-end.ensures)
+    (sym (c.loop-i.invariant.1 ∙ counted_refused _ _ _ _ _ c.loop-i-test.true (sym c.in_err-end.ensures)))
 
 pub loop-i-preserved : goal.loop-i-preserved
 loop-i-preserved c = let l = c.loop-i in
-    let here = period_value _ c.period_at-p.ensures c.in-Value-p.is in
-    (omega arith, l.invariant.1, l.invariant.2 ∙ counted_more _ _ _ _ _ c.loop-i-test.true here)
+    (l.invariant.0, l.invariant.1 ∙ counted_more _ _ _ _ _ c.loop-i-test.true (sym c.in_ok-end.ensures))
 
 pub returns : goal.returns
-returns c = let l = c.loop-i in sym (l.invariant.2 ∙ counted_end _ _ _ _ _ l.invariant.0 c.loop-i-test.false)
+returns c = let l = c.loop-i in sym (l.invariant.1 ∙ counted_end _ _ _ _ _ (omega arith) c.loop-i-test.false)

@@ -23,4 +23,4 @@ pub shape_of-out : goal.shape_of-out
 shape_of-out c = simp length-set (omega (arith, c.out-4-1.given, c.out-3-1.given, c.out-2-1.given, simp length-set at c.out-1.given))
 
 pub returns : goal.returns
-returns c = let a = c.args in record { holds = either_stored a.times a.y a.early a.late a.v a.q c.requires.1.0 c.monus-soon.result c.monus-soon.ensures a.out.now a.at (omega arith) c.store_run-a.ensures.holds c.store_run-b.ensures.holds c.store_run-c.ensures.holds c.store_run-d.ensures.holds (omega (arith, c.out-4-1.given, c.out-3-1.given, c.out-2-1.given, simp length-set at c.out-1.given)); value = omega arith }
+returns c = let a = c.args in record { holds = either_stored a.times a.y a.early a.late a.v a.q c.requires.1.0 c.saturating_sub-soon.result c.saturating_sub-soon.ensures a.out.now a.at (omega arith) c.store_run-a.ensures.holds c.store_run-b.ensures.holds c.store_run-c.ensures.holds c.store_run-d.ensures.holds (omega (arith, c.out-4-1.given, c.out-3-1.given, c.out-2-1.given, simp length-set at c.out-1.given)); value = omega arith }

@@ -10,8 +10,5 @@ use Prim.Native.Nat.{◌+◌, ◌-◌, ◌*◌, ◌≤◌}
 use Rattle.chain_lists.proofs.gap_nodes.store_too_late.Given as goal
 
 abbrev pub invariant-loop-t : goal.invariant-loop-t
-invariant-loop-t l = (1 ≤ l.t) × (l.t ≤ l.late + 1) × (l.k ≡ l.at + 4 * (l.t - 1)) × (length l.out ≡ length l.initial.out)
+invariant-loop-t l = (l.k ≡ l.at + 4 * (l.t - 1)) × (length l.out ≡ length l.initial.out)
     × Ahead (take l.at l.initial.out ++ nodes_words l.q (late_gates l.lo l.hi l.late l.v l.q)) (l.q + (l.t - 1)) (map (late_gate l.lo l.hi l.v l.q) (from l.t (l.late + 1 - l.t))) l.out l.k
-
-abbrev pub decreases-loop-t : goal.decreases-loop-t
-decreases-loop-t l = l.late + 1 - l.t

@@ -10,8 +10,5 @@ use Prim.Native.Nat.{◌+◌, ◌-◌, ◌*◌, ◌≤◌}
 use Rattle.chain_lists.proofs.gap_nodes.store_too_soon.Given as goal
 
 abbrev pub invariant-loop-t : goal.invariant-loop-t
-invariant-loop-t l = (2 ≤ l.t) × (l.t ≤ l.early + 2) × (l.o ≡ l.v + l.early + (l.t - 2)) × (l.k ≡ l.at + 4 * (l.t - 2)) × (length l.out ≡ length l.initial.out)
-    × Ahead (take l.at l.initial.out ++ nodes_words (l.v + l.early) (soon_gates l.y l.early l.v)) l.o (map (soon_gate l.y l.v) (from l.t (l.early + 1 - l.t))) l.out l.k
-
-abbrev pub decreases-loop-t : goal.decreases-loop-t
-decreases-loop-t l = l.early + 1 - l.t
+invariant-loop-t l = (l.t ≤ l.early + 2) × (l.k ≡ l.at + 4 * (l.t - 2)) × (length l.out ≡ length l.initial.out)
+    × Ahead (take l.at l.initial.out ++ nodes_words (l.v + l.early) (soon_gates l.y l.early l.v)) (l.v + l.early + (l.t - 2)) (map (soon_gate l.y l.v) (from l.t (l.early + 1 - l.t))) l.out l.k

@@ -4,5 +4,5 @@ use Rattle.chain_lists.proofs.or_chain.next_to.Goals as goal
 pub returns-then-up : goal.returns-then-up
 returns-then-up c = rw c.if-up.true
 
-pub returns : goal.returns
-returns c = rw c.if-up.false c.monus.ensures
+pub returns-else-up : goal.returns-else-up
+returns-else-up c = rw c.if-up.false c.saturating_sub.ensures

@@ -9,8 +9,5 @@ use Prim.Native.Nat.{◌+◌, ◌-◌, ◌*◌, ◌≤◌}
 use Rattle.chain_lists.proofs.or_chain.store_more.Given as goal
 
 abbrev pub invariant-loop-q : goal.invariant-loop-q
-invariant-loop-q l = (l.p ≤ l.q) × (l.q ≤ l.end) × (l.y + (l.end - l.q) ≤ l.x + l.n) × (l.k ≡ l.at + 4 * (l.q - l.p)) × (length l.out ≡ length l.initial.out)
-    × Ahead (take l.at l.initial.out ++ nodes_words (l.p + 1) (more_gates l.p (stepping l.up l.x l.n))) (l.q + 1) (more_gates l.q (stepping l.up l.y (l.end - l.q))) l.out l.k
-
-abbrev pub decreases-loop-q : goal.decreases-loop-q
-decreases-loop-q l = l.end - l.q
+invariant-loop-q l = (l.y + (l.p + l.n - l.q) ≤ l.x + l.n) × (l.k ≡ l.at + 4 * (l.q - l.p)) × (length l.out ≡ length l.initial.out)
+    × Ahead (take l.at l.initial.out ++ nodes_words (l.p + 1) (more_gates l.p (stepping l.up l.x l.n))) (l.q + 1) (more_gates l.q (stepping l.up l.y (l.p + l.n - l.q))) l.out l.k

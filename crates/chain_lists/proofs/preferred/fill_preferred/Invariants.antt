@@ -8,9 +8,6 @@ use mathlib.Core.Path.{◌≡◌}
 use Prim.Native.Nat.{◌-◌, ◌≤◌}
 use Rattle.chain_lists.proofs.preferred.fill_preferred.Given as goal
 
-abbrev pub invariant-loop-t : goal.invariant-loop-t
-invariant-loop-t l = (l.t ≤ l.times) × (l.k ≤ l.t) × (length l.out ≡ 34816) × (length l.members ≡ 125) × Bounded l.v l.t l.w × Passed l.times (row_at l.groups l.row) l.k l.t
-    × Left l.y l.s l.v (reached (get_or l.durations (l.event - 1) 0) (row_at l.groups l.row) 0 (up_to l.times)) (rest_of l.times (get_or l.durations (l.event - 1) 0) (row_at l.groups l.row) l.w.near l.t) l.w l.members l.out
-
-abbrev pub decreases-loop-t : goal.decreases-loop-t
-decreases-loop-t l = l.times - l.t
+abbrev pub invariant-loop-passed : goal.invariant-loop-passed
+invariant-loop-passed l = (l.k ≤ l.passed) × (length l.out ≡ 34816) × (length l.members ≡ 125) × Bounded l.v l.passed l.w × Passed l.times (row_at l.groups l.row) l.k l.passed
+    × Left l.y l.s l.v (reached (get_or l.durations (l.event - 1) 0) (row_at l.groups l.row) 0 (up_to l.times)) (rest_of l.times (get_or l.durations (l.event - 1) 0) (row_at l.groups l.row) l.w.near l.passed) l.w l.members l.out

@@ -15,7 +15,7 @@ use borrow.Author.Rules.{rules}
 use Rattle.clauses.proofs.lists.write_lists.Goals as goal
 
 pub loop-t-init : goal.loop-t-init
-loop-t-init c = let p = c.requires in (omega arith, refl, refl, p.2, p.1.some, left_start refl)
+loop-t-init c = let p = c.requires in (refl, refl, p.2, p.1.some, left_start refl)
 
 pub fill-f-requires : goal.fill-f-requires
 fill-f-requires c = let a = c.args in
@@ -23,7 +23,7 @@ fill-f-requires c = let a = c.args in
     let l = c.loop-t in
     let k = kind_of a.list.now a.c.kind in
     let g : l.t < length (counted_in a.durations.now (users_at a.users.now) a.groups.now a.head k).lists = omega (arith, c.loop-t-test.true, c.lists-n.ensures.eq (duration_in a.head.events a.durations.now) (users_at a.users.now) (group_in a.head.groups a.groups.now) a.list.now) in
-    list_fillable a.durations.now a.users.now a.groups.now a.head k l.t g a.c.weight l.next c.bounds_of-b.result (c.bounds_of-b.ensures a.list.now) a.list.now p.0 (left_room l.invariant.4 l.invariant.5 p.1) l.invariant.3
+    list_fillable a.durations.now a.users.now a.groups.now a.head k l.t g a.c.weight l.next c.bounds_of-b.result (c.bounds_of-b.ensures a.list.now) a.list.now p.0 (left_room l.invariant.3 l.invariant.4 p.1) l.invariant.2
 
 pub write_list-w-requires : goal.write_list-w-requires
 write_list-w-requires c = let a = c.args in
@@ -31,7 +31,7 @@ write_list-w-requires c = let a = c.args in
     let l = c.loop-t in
     let k = kind_of a.list.now a.c.kind in
     let g : l.t < length (counted_in a.durations.now (users_at a.users.now) a.groups.now a.head k).lists = omega (arith, c.loop-t-test.true, c.lists-n.ensures.eq (duration_in a.head.events a.durations.now) (users_at a.users.now) (group_in a.head.groups a.groups.now) a.list.now) in
-    list_stored a.durations.now a.users.now a.groups.now a.head k l.t g a.c.weight l.next c.bounds_of-b.result (c.bounds_of-b.ensures a.list.now) a.list.now p.0 (left_room l.invariant.4 l.invariant.5 p.1) l.store l.invariant.3 c.fill-f.ensures
+    list_stored a.durations.now a.users.now a.groups.now a.head k l.t g a.c.weight l.next c.bounds_of-b.result (c.bounds_of-b.ensures a.list.now) a.list.now p.0 (left_room l.invariant.3 l.invariant.4 p.1) l.store l.invariant.2 c.fill-f.ensures
 
 pub loop-t-preserved : goal.loop-t-preserved
 loop-t-preserved c = let a = c.args in
@@ -39,8 +39,7 @@ loop-t-preserved c = let a = c.args in
     let l = c.loop-t in
     let k = kind_of a.list.now a.c.kind in
     let g : l.t < length (counted_in a.durations.now (users_at a.users.now) a.groups.now a.head k).lists = omega (arith, c.loop-t-test.true, c.lists-n.ensures.eq (duration_in a.head.events a.durations.now) (users_at a.users.now) (group_in a.head.groups a.groups.now) a.list.now) in
-    let n = list_turn a.durations.now a.users.now a.groups.now a.head k l.t g a.c.weight l.next c.bounds_of-b.result (c.bounds_of-b.ensures a.list.now) a.list.now p.0 (left_room l.invariant.4 l.invariant.5 p.1) l.store l.invariant.3 c.fill-f.ensures {f = step a.job a.model.now} {x = world l.sink l.text l.words} l.invariant.5 c.write_list-w.ensures in (
-      omega arith,
+    let n = list_turn a.durations.now a.users.now a.groups.now a.head k l.t g a.c.weight l.next c.bounds_of-b.result (c.bounds_of-b.ensures a.list.now) a.list.now p.0 (left_room l.invariant.3 l.invariant.4 p.1) l.store l.invariant.2 c.fill-f.ensures {f = step a.job a.model.now} {x = world l.sink l.text l.words} l.invariant.4 c.write_list-w.ensures in (
       search rules,
       search rules,
       search rules,
@@ -53,4 +52,4 @@ returns c = let a = c.args in
     let l = c.loop-t in
     let k = kind_of a.list.now a.c.kind in
     let e : length (counted_in a.durations.now (users_at a.users.now) a.groups.now a.head k).lists ≤ l.t = omega (arith, c.loop-t-test.false, c.lists-n.ensures.eq (duration_in a.head.events a.durations.now) (users_at a.users.now) (group_in a.head.groups a.groups.now) a.list.now) in
-    left_end (lists-end a.c.weight l.next (none_left a.durations.now a.users.now a.groups.now a.head k l.t e)) l.invariant.5
+    left_end (lists-end a.c.weight l.next (none_left a.durations.now a.users.now a.groups.now a.head k l.t e)) l.invariant.4

@@ -15,10 +15,7 @@ use borrow.Author.Rules.{rules}
 use Rattle.clauses.proofs.lists.write_lists.Given as goal
 
 abbrev pub invariant-loop-t : goal.invariant-loop-t
-invariant-loop-t l = (l.t ≤ l.n) × (length l.text ≡ length l.initial.text) × (length l.words ≡ length l.initial.words) × (length l.store ≡ 34816) × (1 ≤ l.next)
+invariant-loop-t l = (length l.text ≡ length l.initial.text) × (length l.words ≡ length l.initial.words) × (length l.store ≡ 34816) × (1 ≤ l.next)
     × Left (step l.job l.model) l.next (all_numbered l.c.weight (lists_left l.durations l.users l.groups l.head (kind_of l.list l.c.kind) l.t) l.next)
     l.v (all_numbered l.c.weight (lists_left l.durations l.users l.groups l.head (kind_of l.list l.c.kind) 0) l.v)
     (world l.initial.sink l.initial.text l.initial.words) (world l.sink l.text l.words)
-
-abbrev pub decreases-loop-t : goal.decreases-loop-t
-decreases-loop-t l = l.n - l.t

@@ -11,8 +11,8 @@ returns c = let a = c.args in
     let p = c.part_base-base in
     let l = c.write_lists-r.new in
     let w = c.write_lists-r.ensures in
-    let t = c.lesser-t.ensures in
-    let u = c.lesser-w.ensures in record {
+    let t = c.min-t.ensures in
+    let u = c.min-w.ensures in record {
       wrote = rw c.placed-last.ensures
           (record {
             ran =

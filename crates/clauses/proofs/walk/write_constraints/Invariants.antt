@@ -14,10 +14,7 @@ use borrow.Author.Rules.{rules}
 use Rattle.clauses.proofs.walk.write_constraints.Given as goal
 
 abbrev pub invariant-loop-i : goal.invariant-loop-i
-invariant-loop-i l = (l.i ≤ l.head.constraints) × (length l.text ≡ length l.initial.text) × (length l.words ≡ length l.initial.words) × (l.z.at ≤ 9223372036854775807)
+invariant-loop-i l = (length l.text ≡ length l.initial.text) × (length l.words ≡ length l.initial.words) × (l.z.at ≤ 9223372036854775807)
     × Walkable l.file l.durations l.users l.groups l.list l.head l.first
     × Part (step l.job l.model) l.file l.durations l.users l.groups l.head l.first l.i l.next l.v (world l.initial.z l.initial.text l.initial.words) (world l.z l.text l.words)
     × (length l.store ≡ 34816)
-
-abbrev pub decreases-loop-i : goal.decreases-loop-i
-decreases-loop-i l = l.head.constraints - l.i

@@ -1,28 +1,25 @@
 -- `constraint_end::check::ended` meets its contract: the tests of `ends_at` in turn.
-use borrow.Author.Tests.{le-leb, lt-leb, eq-eqb, ne_eqb}
+use borrow.Author.Tests.{le-leb, lt-leb}
 use native.Mathlib.Omega.{arith}
 use Rattle.constraint_end.specs.End.{ends_at}
 use Rattle.constraint_end.proofs.check.ended.Goals as goal
+use Rattle.constraint_end.proofs.check.ended.Goals.{then-e-via-then-e, then-e-via-else-e+then-n-e}
 
 pub returns-then-n-gt255 : goal.returns-then-n-gt255
 unfolding ends_at
 returns-then-n-gt255 c = rw (lt-leb c.args.n 255 (omega arith))
 
-pub returns-then-e-ne0 : goal.returns-then-e-ne0
+pub returns-in-Some : goal.returns-in-Some
 unfolding ends_at
-returns-then-e-ne0 c = rw (le-leb c.args.n 255 (omega arith), ne_eqb _ 0 c.if-e-ne0.true)
+returns-in-Some c = rw (le-leb c.args.n 255 (omega arith), c.in-Some.is)
 
 pub returns-then-e : goal.returns-then-e
 unfolding ends_at
-returns-then-e c = let n = c.args.n in
-    rw (le-leb n 255 (omega arith), eq-eqb _ 0 c.if-e-ne0.false, lt-leb _ _ c.if-e.true)
-
-pub returns-then-e-n : goal.returns-then-e-n
-unfolding ends_at
-returns-then-e-n c = let n = c.args.n in
-    rw (le-leb n 255 (omega arith), eq-eqb _ 0 c.if-e-ne0.false, le-leb _ _ c.if-e.false, le-leb _ _ c.if-e-n.true)
+returns-then-e c =
+    rw (le-leb c.args.n 255 (omega arith), c.in_default.is)
+    (elim c.then-e.branch [ then-e-via-then-e w ↦ rw (lt-leb _ _ w.if-e.true) | then-e-via-else-e+then-n-e w ↦ rw (le-leb _ _ w.if-e.false, lt-leb _ _ w.if-n-e.true) ])
 
 pub returns : goal.returns
 unfolding ends_at
 returns c = let n = c.args.n in
-    rw (le-leb n 255 (omega arith), eq-eqb _ 0 c.if-e-ne0.false, le-leb _ _ c.if-e.false, lt-leb _ _ c.if-e-n.false)
+    rw (le-leb n 255 (omega arith), c.in_default.is, le-leb _ _ c.if-e.false, le-leb _ _ c.if-n-e.false)

@@ -1,6 +1,6 @@
 -- `idle::length_of_idle` meets its contract. The loop's invariant: the sum, and what the groups still to be looked
 -- at come to, are the whole; a group has at most 125 members.
-use Prim.Native.Nat.{◌+◌, ◌*◌, ◌-◌, ◌≤◌}
+use Prim.Native.Nat.{◌+◌, ◌*◌, ◌≤◌}
 use mathlib.Core.Path.{◌≡◌}
 use lib.ListN.{drop}
 use Rattle.number.specs.Lists.{leading}
@@ -8,7 +8,4 @@ use Rattle.constraint_end.specs.Inner.{inner_rows}
 use Rattle.constraint_end.proofs.idle.length_of_idle.Given as goal
 
 abbrev pub invariant-loop-i : goal.invariant-loop-i
-invariant-loop-i l = (l.i ≤ l.count) × (l.sum ≤ 125 * l.i) × (inner_rows l.groups (leading l.count l.list) ≡ l.sum + inner_rows l.groups (drop l.i (leading l.count l.list)))
-
-abbrev pub decreases-loop-i : goal.decreases-loop-i
-decreases-loop-i l = l.count - l.i
+invariant-loop-i l = (l.sum ≤ 125 * l.i) × (inner_rows l.groups (leading l.count l.list) ≡ l.sum + inner_rows l.groups (drop l.i (leading l.count l.list)))

@@ -1,47 +1,46 @@
-use Rattle.std.proofs.Common.{◌≡◌, List, ℕ, ap, sym, subst, ◌<◌, ◌∙◌}
-use Rattle.number.specs.Answers.{said}
-use Rattle.scope.specs.Number.{number}
-use Rattle.reader.proofs.Loops.{Left, left_over, left_more}
-use Rattle.copying.specs.declared.literals.Copying.{Copying}
-use Rattle.copying.specs.Copies.{Copied, copied_by, copied_words, copy_turn, copied_at}
-use Rattle.copying.proofs.Copying.{to_copy, copy_falls}
+use Rattle.reader.proofs.Loops.{nearer}
+use Rattle.reader.proofs.NumberTold.{value-at, no-value-at}
+use Rattle.copying.proofs.Copying.{going-start, going-cut, going-end, going-full, going-more}
 use Rattle.copying.proofs.literals.copy_literals.Goals as goal
+use Rattle.copying.proofs.literals.copy_literals.Goals.{then-l-eq0-via-then-l-eq0, then-l-eq0-via-else-l-eq0+then-words-to}
 
-abbrev with : Copying → List ℕ → Copied
-with p ws = record { state = p; words = ws }
+pub loop-l-init : goal.loop-l-init
+loop-l-init c = let e = c.new-r.ensures in
+    record { bytes_same = cc; going = rw e.1 (going-start c.args.proof.now c.args.at c.args.words.now c.args.first) }
 
--- a turn, by what its calls promise
-turned : (s : List ℕ) (p q : Copying) (ws us : List ℕ) → q ≡ copied_by ws p (number s p.at) → us ≡ copied_words ws p (number s p.at) → with q us ≡ copy_turn s (with p ws)
-turned s p q ws us e f = rw (e, f)
+pub returns-then-l-eq0 : goal.returns-then-l-eq0
+returns-then-l-eq0 c = let l = c.loop-l in
+    let a = c.args in
+    let s = a.proof.now in
+    let told = rw l.invariant.bytes_same at c.number.ensures in
+    let e = value-at s _ _ told c.in-Ok.is in
+    elim c.then-l-eq0.branch [
+      | then-l-eq0-via-then-l-eq0 w ↦ going-end s a.at a.words.now a.first l.r.at l.to l.words l.invariant.going _ _ e w.if-l-eq0.true
+      | then-l-eq0-via-else-l-eq0+then-words-to w ↦
+          going-full s a.at a.words.now a.first l.r.at l.to l.words l.invariant.going _ _ e w.if-l-eq0.false w.if-words-to.true
+    ]
 
-pub loop-p-smaller : goal.loop-p-smaller
-loop-p-smaller c =
-    let s = c.args.proof.now in
-    let read : said c.read_number-t.result ≡ number s c.loop-p.p.at = cc in
-    let p = c.loop-p.p in
-    let ws = c.loop-p.words in
-    let on = turned s p _ ws _ (c.copy_on-p.ensures.value ∙ ap (copied_by ws p) read) (c.copy_on-p.ensures.words_after ∙ ap (copied_words ws p) read) in
-    subst (λ z. to_copy s z < to_copy s (with p ws)) (sym on) (copy_falls s (with p ws) c.loop-p-test.true)
+pub loop-l-smaller : goal.loop-l-smaller
+loop-l-smaller c = let l = c.loop-l in
+    let told = rw l.invariant.bytes_same at c.number.ensures in
+    rw c.moved-r.ensures.1 (nearer c.args.proof.now l.r.at _ _ (value-at _ _ _ told c.in-Ok.is))
 
-pub loop-p-preserved : goal.loop-p-preserved
-loop-p-preserved c =
-    let s = c.args.proof.now in
-    let read : said c.read_number-t.result ≡ number s c.loop-p.p.at = cc in
-    let p = c.loop-p.p in
-    let ws = c.loop-p.words in
-    let on = turned s p _ ws _ (c.copy_on-p.ensures.value ∙ ap (copied_by ws p) read) (c.copy_on-p.ensures.words_after ∙ ap (copied_words ws p) read) in
+pub loop-l-preserved : goal.loop-l-preserved
+loop-l-preserved c = let l = c.loop-l in
+    let a = c.args in
+    let s = a.proof.now in
+    let told = rw l.invariant.bytes_same at c.number.ensures in
+    let e = value-at s _ _ told c.in-Ok.is in
     record {
       bytes_same = cc;
-      place_same = cc;
-      left =
-          subst (Left (λ x. x.state.more) (copy_turn s) (to_copy s) _) (sym on)
-          (left_more (λ x. x.state.more) (copy_turn s) (to_copy s) _ (with p ws) c.loop-p.invariant.left c.loop-p-test.true
-          (copy_falls s (with p ws) c.loop-p-test.true));
+      going =
+          rw c.moved-r.ensures.1
+          (going-more s a.at a.words.now a.first l.r.at l.to l.words l.invariant.going _ _ e c.if-l-eq0.false c.if-words-to.false);
     }
 
 pub returns : goal.returns
-unfolding copied_at
-returns c =
-    let s = c.args.proof.now in
-    ap (λ x. x.words)
-    (left_over (λ x. x.state.more) (copy_turn s) (to_copy s) _ (with c.loop-p.p c.loop-p.words) c.loop-p.invariant.left c.loop-p-test.false)
+returns c = let l = c.loop-l in
+    let a = c.args in
+    let s = a.proof.now in
+    let told = rw l.invariant.bytes_same at c.number.ensures in
+    going-cut s a.at a.words.now a.first l.r.at l.to l.words l.invariant.going _ _ (no-value-at s _ _ told c.in_default.is)

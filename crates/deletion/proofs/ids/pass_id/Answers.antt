@@ -15,5 +15,5 @@ returns-in_default c = let z = sym c.is_dead.ensures ∙ c.if-is_dead.false in
 pub returns : goal.returns
 unfolding passed_id
 returns c = let z = sym c.is_dead.ensures ∙ c.if-is_dead.false in
-    let e = c.in-Value.is in
+    let e = c.in-Ok.is in
     c.step_on.ensures ∙ rw (z, e)

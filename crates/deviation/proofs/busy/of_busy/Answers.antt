@@ -2,7 +2,6 @@
 use native.Mathlib.Omega.{arith}
 use Rattle.deviation.specs.Charge.{busy_charge}
 use Rattle.deviation.proofs.laws.Charge.{resource-row, group_row, group_inside}
-use borrow.Author.Rules.{rules}
 use Rattle.deviation.proofs.busy.of_busy.Goals as goal
 
 pub ones_in-count-requires : goal.ones_in-count-requires

@@ -1,7 +1,6 @@
 -- `deviation::charge::deviation` meets its contract. By the tests of the definition.
 use borrow.Author.Tests.{lt-ltb, le-ltb}
 use Rattle.scope.specs.Score.{deviation}
-use borrow.Author.Rules.{rules}
 use Rattle.deviation.proofs.charge.deviation.Goals as goal
 
 pub returns-then-count-lo : goal.returns-then-count-lo

@@ -1,22 +1,14 @@
 -- `deviation::cluster::groups_used` meets its contract. The sum so far and the sum over the groups left are the whole.
 use Prim.Native.Nat.{◌+◌, ◌≤◌, ◌-◌}
-use mathlib.Core.Path.{◌≡◌, ◌∙◌}
+use mathlib.Core.Path.{◌≡◌}
 use mathlib.Core.Bool.{cond}
-use native.Mathlib.Omega.{arith}
-use native.Mathlib.Nat.{zero-add}
-use borrow.Author.Rules.{rules}
 use lib.ListN.{drop}
 use Rattle.scope.specs.Score.{any}
 use Rattle.number.specs.Lists.{leading}
 use Rattle.tables.specs.Rows.{row_at}
 use Rattle.timetable.specs.Bits.{marks}
-use Rattle.timetable.proofs.laws.Takers.{any-trues}
 use Rattle.deviation.specs.Sums.{total}
-use Rattle.deviation.proofs.laws.Sums.{sum_more, sum_end}
 use Rattle.deviation.proofs.cluster.groups_used.Given as goal
 
 abbrev pub invariant-loop-k : goal.invariant-loop-k
-invariant-loop-k l = (l.k ≤ l.n) × (l.sum ≤ l.k) × (l.sum + total (λ g. cond (any (marks l.bytes l.base (row_at l.groups (g - 1)))) 1 0) (drop l.k (leading l.n l.list)) ≡ total (λ g. cond (any (marks l.bytes l.base (row_at l.groups (g - 1)))) 1 0) (leading l.n l.list))
-
-abbrev pub decreases-loop-k : goal.decreases-loop-k
-decreases-loop-k l = l.n - l.k
+invariant-loop-k l = (l.sum ≤ l.k) × (l.sum + total (λ g. cond (any (marks l.bytes l.base (row_at l.groups (g - 1)))) 1 0) (drop l.k (leading l.n l.list)) ≡ total (λ g. cond (any (marks l.bytes l.base (row_at l.groups (g - 1)))) 1 0) (leading l.n l.list))

@@ -2,7 +2,6 @@
 use native.Mathlib.Omega.{arith}
 use Rattle.deviation.specs.Charge.{cluster_charge}
 use Rattle.deviation.proofs.laws.Charge.{resource-row, groups-listed}
-use borrow.Author.Rules.{rules}
 use Rattle.deviation.proofs.cluster.of_cluster.Goals as goal
 
 pub groups_used-count-requires : goal.groups_used-count-requires

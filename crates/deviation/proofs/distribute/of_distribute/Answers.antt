@@ -1,7 +1,6 @@
 -- `deviation::distribute::of_distribute` meets its contract. The lengths from n to n are n.
 use Rattle.deviation.specs.Charge.{distribute_charge}
 use Rattle.deviation.proofs.laws.Subevents.{wanted-one}
-use borrow.Author.Rules.{rules}
 use Rattle.deviation.proofs.distribute.of_distribute.Goals as goal
 
 pub returns : goal.returns

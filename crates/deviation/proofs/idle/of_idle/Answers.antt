@@ -2,7 +2,6 @@
 use native.Mathlib.Omega.{arith}
 use Rattle.deviation.specs.Charge.{idle_charge}
 use Rattle.deviation.proofs.laws.Charge.{resource-row, groups-listed}
-use borrow.Author.Rules.{rules}
 use Rattle.deviation.proofs.idle.of_idle.Goals as goal
 
 pub groups_idle-count-requires : goal.groups_idle-count-requires

@@ -1,7 +1,6 @@
 -- `deviation::lengths::of_lengths` meets its contract. The lengths outside are shorter or longer.
 use Rattle.deviation.specs.Charge.{lengths_charge}
 use Rattle.deviation.proofs.laws.Subevents.{wanted-outside}
-use borrow.Author.Rules.{rules}
 use Rattle.deviation.proofs.lengths.of_lengths.Goals as goal
 
 pub returns : goal.returns

@@ -2,7 +2,6 @@
 use borrow.Author.Tests.{le-leb, lt-leb}
 use Rattle.scope.specs.Gap.{gap_within}
 use Rattle.deviation.specs.Charge.{precedence_charge}
-use borrow.Author.Rules.{rules}
 use Rattle.deviation.proofs.precedence.of_precedence.Goals as goal
 
 pub returns-then-begin-soonest : goal.returns-then-begin-soonest

@@ -1,14 +1,9 @@
 -- `deviation::preferred::count_held` meets its contract. The walk knows whether the last time passed is held and how many were.
-use Prim.Native.Nat.{ℕ, ◌+◌, ◌*◌, ◌≤◌, ◌-◌}
+use Prim.Native.Nat.{ℕ, ◌*◌, ◌≤◌}
 use mathlib.Core.Bool.{Bool}
-use native.Mathlib.Omega.{arith}
-use borrow.Author.Rules.{rules}
 use Rattle.deviation.specs.Held.{Flagged}
-use Rattle.deviation.proofs.laws.Held.{Counted, counted_start, counted_more, counted_end}
+use Rattle.deviation.proofs.laws.Held.{Counted}
 use Rattle.deviation.proofs.preferred.count_held.Given as goal
 
 abbrev pub invariant-loop-i : goal.invariant-loop-i
-invariant-loop-i l = (l.i ≤ l.n) × (l.held ≤ 255) × (l.count ≤ 255 * l.i) × ((such : ℕ → Bool) → Flagged such l.flags → Counted l.n l.bytes l.takes l.starts such l.i l.count l.held)
-
-abbrev pub decreases-loop-i : goal.decreases-loop-i
-decreases-loop-i l = l.n - l.i
+invariant-loop-i l = (l.held ≤ 255) × (l.count ≤ 255 * l.i) × ((such : ℕ → Bool) → Flagged such l.flags → Counted l.n l.bytes l.takes l.starts such l.i l.count l.held)

@@ -1,7 +1,6 @@
 -- `deviation::spread::of_spread` meets its contract. The rows of starts of the listed events and the group are there.
 use Rattle.deviation.specs.Charge.{spread_charge}
 use Rattle.deviation.proofs.laws.Charge.{events-listed}
-use borrow.Author.Rules.{rules}
 use Rattle.deviation.proofs.spread.of_spread.Goals as goal
 
 pub ones_of_events-count-requires : goal.ones_of_events-count-requires

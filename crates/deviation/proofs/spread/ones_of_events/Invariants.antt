@@ -1,20 +1,13 @@
 -- `deviation::spread::ones_of_events` meets its contract. The sum so far and the sum over the events left are the whole.
 use Prim.Native.Nat.{◌+◌, ◌*◌, ◌≤◌, ◌-◌}
 use mathlib.Core.Path.{◌≡◌}
-use native.Mathlib.Omega.{arith}
-use native.Mathlib.Nat.{zero-add}
-use borrow.Author.Rules.{rules}
 use lib.ListN.{drop}
 use Rattle.scope.specs.Score.{trues}
 use Rattle.number.specs.Lists.{leading}
 use Rattle.tables.specs.Rows.{row_at}
 use Rattle.timetable.specs.Bits.{marks}
 use Rattle.deviation.specs.Sums.{total}
-use Rattle.deviation.proofs.laws.Sums.{sum_more, sum_end}
 use Rattle.deviation.proofs.spread.ones_of_events.Given as goal
 
 abbrev pub invariant-loop-k : goal.invariant-loop-k
-invariant-loop-k l = (l.k ≤ l.n) × (l.sum ≤ 125 * l.k) × (l.sum + total (λ e. trues (marks l.bytes (l.base + (e - 1) * l.times) (row_at l.groups l.g))) (drop l.k (leading l.n l.list)) ≡ total (λ e. trues (marks l.bytes (l.base + (e - 1) * l.times) (row_at l.groups l.g))) (leading l.n l.list))
-
-abbrev pub decreases-loop-k : goal.decreases-loop-k
-decreases-loop-k l = l.n - l.k
+invariant-loop-k l = (l.sum ≤ 125 * l.k) × (l.sum + total (λ e. trues (marks l.bytes (l.base + (e - 1) * l.times) (row_at l.groups l.g))) (drop l.k (leading l.n l.list)) ≡ total (λ e. trues (marks l.bytes (l.base + (e - 1) * l.times) (row_at l.groups l.g))) (leading l.n l.list))

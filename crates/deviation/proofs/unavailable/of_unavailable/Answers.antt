@@ -2,7 +2,6 @@
 use native.Mathlib.Omega.{arith}
 use Rattle.deviation.specs.Charge.{unavailable_charge}
 use Rattle.deviation.proofs.laws.Charge.{resource-row, group_row, group_inside}
-use borrow.Author.Rules.{rules}
 use Rattle.deviation.proofs.unavailable.of_unavailable.Goals as goal
 
 pub ones_in-requires : goal.ones_in-requires

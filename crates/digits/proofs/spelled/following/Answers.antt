@@ -4,15 +4,18 @@ use Rattle.digits.proofs.spelled.following.Goals as goal
 
 pub overflow_add-result : goal.overflow_add-result
 overflow_add-result c = let p = c.requires in
-    let d = last_digit p.0 (omega arith) in
-    omega (arith, first_byte p.0 (omega arith) p.1 (omega (arith, d)) (omega arith))
+    let s = c.args.n.spelt in
+    let d = last_digit s (omega arith) in
+    omega (arith, first_byte s (omega arith) p (omega (arith, d)) (omega arith))
 
-pub returns-then-n-lt10000 : goal.returns-then-n-lt10000
-returns-then-n-lt10000 c = let p = c.requires in
-    let d = last_digit p.0 (omega arith) in
-    next_four p.0 (omega arith) p.1 (omega (arith, d)) (omega arith)
+pub invariant_of-result : goal.invariant_of-result
+invariant_of-result c = let p = c.requires in
+    let s = c.args.n.spelt in
+    let d = last_digit s (omega arith) in
+    record { spelt = next_four s (omega arith) p (omega (arith, d)) (omega arith) }
 
-pub returns : goal.returns
-returns c = let p = c.requires in
-    let d = last_digit p.0 (omega arith) in
-    next_long p.0 (omega arith) p.1 (omega (arith, d)) (omega arith)
+pub invariant_of-result-2 : goal.invariant_of-result-2
+invariant_of-result-2 c = let p = c.requires in
+    let s = c.args.n.spelt in
+    let d = last_digit s (omega arith) in
+    record { spelt = next_long s (omega arith) p (omega (arith, d)) (omega arith) }

@@ -10,4 +10,4 @@ pub bounds-text-end : goal.bounds-text-end
 bounds-text-end c = simp length-set (omega arith)
 
 pub returns : goal.returns
-returns c = record { ran = short-ran c.args.at c.args.text.now c.requires.0 c.requires.1 (omega arith); upper_bound = omega arith }
+returns c = record { ran = short-ran c.args.at c.args.text.now c.args.n.spelt c.requires.0 (omega arith); upper_bound = omega arith }

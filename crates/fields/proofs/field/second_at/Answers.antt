@@ -1,25 +1,38 @@
--- `fields::field::second_at` meets its contract: test by test.
-use borrow.Author.Tests.{lt-ltb, le-ltb, ne_eqb}
+-- `fields::field::second_at` meets its contract: by the kind.
+use mathlib.Core.Logic.{⊎_elim}
+use borrow.Author.Tests.{le-ltb, ne_eqb}
+use native.Mathlib.Omega.{arith}
+use Prim.Native.Nat.{◌≤◌}
+use Rattle.fields.specs.declared.kind.KindName.{KindName}
+use Rattle.fields.specs.Kind.{number_of}
 use Rattle.fields.specs.Table.{second_of}
+use Rattle.fields.proofs.KindNumbers.{other_number, number_high}
 use Rattle.fields.proofs.laws.Flat.{reference_read, list_read, number_read}
 use Rattle.fields.proofs.field.second_at.Goals as goal
 
-pub returns-then-kind-eq11 : goal.returns-then-kind-eq11
+pub returns-in-Precedence : goal.returns-in-Precedence
 unfolding second_of
-returns-then-kind-eq11 c = rw c.if-kind-eq11.true (reference_read _ _ _ _ _ c.reference.ensures)
+returns-in-Precedence c = rw c.in-Precedence.is (reference_read _ _ _ _ _ c.reference.ensures)
 
-pub returns-then-kind-gt8 : goal.returns-then-kind-gt8
+pub returns-in-Distribute : goal.returns-in-Distribute
 unfolding second_of
-returns-then-kind-gt8 c = rw (lt-ltb _ _ c.if-kind-gt8.true, ne_eqb _ 11 c.if-kind-eq11.false) (number_read _ _ _ _ _ _ c.limited.ensures)
+returns-in-Distribute c = let r = number_read _ _ _ _ _ _ c.limited.ensures in
+    ⊎_elim (λ e. rw e r) (λ e. rw e r) c.in-Distribute.is
 
-pub returns-then-kind-gt6 : goal.returns-then-kind-gt6
+pub returns-in-Cluster : goal.returns-in-Cluster
 unfolding second_of
-returns-then-kind-gt6 c = rw (le-ltb _ _ c.if-kind-gt8.false, lt-ltb _ _ c.if-kind-gt6.true) (list_read _ _ _ _ _ _ c.list_at.ensures)
+returns-in-Cluster c = let r = list_read _ _ _ _ _ _ c.list_at.ensures in
+    ⊎_elim (λ e. rw e r) (λ e. rw e r) c.in-Cluster.is
 
-pub returns-then-kind-eq4 : goal.returns-then-kind-eq4
+pub returns-in-Split : goal.returns-in-Split
 unfolding second_of
-returns-then-kind-eq4 c = rw c.if-kind-eq4.true (number_read _ _ _ _ _ _ c.limited-then-kind-eq4.ensures)
+returns-in-Split c = rw c.in-Split.is (number_read _ _ _ _ _ _ c.limited-in-Split.ensures)
 
-pub returns : goal.returns
+pub returns-in_default : goal.returns-in_default
 unfolding second_of
-returns c = rw (le-ltb _ _ c.if-kind-gt8.false, le-ltb _ _ c.if-kind-gt6.false, ne_eqb _ 4 c.if-kind-eq4.false) (reference_read _ _ _ _ _ c.reference-2.ensures)
+returns-in_default c =
+    let k = c.args.kind in
+    let n = c.in_default in
+    let h : number_of k ≤ 6 = omega (arith, number_high k, other_number k KindName.Precedence n.not-Precedence, other_number k KindName.Lengths n.not-Lengths, other_number k KindName.Distribute n.not-Distribute, other_number k KindName.Idle n.not-Idle, other_number k KindName.Cluster n.not-Cluster) in
+    let g : number_of k ≤ 8 = omega (arith, h) in
+    rw (le-ltb 8 _ g, le-ltb 6 _ h, ne_eqb _ 4 (other_number k KindName.Split n.not-Split)) (reference_read _ _ _ _ _ c.reference-in_default.ensures)

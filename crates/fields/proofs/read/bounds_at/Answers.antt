@@ -1,43 +1,61 @@
 -- `fields::read::bounds_at` meets its contract: one field after another is taken from what is left.
-use mathlib.Core.Path.{refl, ◌∙◌}
+use Prim.Native.Nat.{◌≤◌, ◌<◌}
+use mathlib.Core.Path.{◌≡◌, refl, ◌∙◌}
+use mathlib.Core.Logic.{⊎_elim, ◌⊎◌}
+use Rattle.fields.specs.Table.{count_of}
 use native.Mathlib.Omega.{arith}
+use Rattle.fields.specs.declared.kind.KindName.{KindName}
+use Rattle.fields.specs.Kind.{number_of}
+use Rattle.fields.proofs.KindNumbers.{other_number, number_low, number_high}
 use Rattle.fields.proofs.laws.Table.{third_bound, fourth_bound, count-second, count-three, count-four, count-other}
 use Rattle.fields.proofs.laws.Flat.{number_read}
 use Rattle.fields.proofs.Left.{left_more, left_refused, left_end}
 use Rattle.fields.proofs.read.bounds_at.Goals as goal
 
-pub returns-then-kind-lt4 : goal.returns-then-kind-lt4
-returns-then-kind-lt4 c = record { eq = λ l. left_end 2 _ _ _ _ _ _ _ refl (count-second _ c.if-kind-lt4.true) }
+-- kind by kind, the second field is the last
+last-second : (k : KindName) → (k ≡ KindName.Clash) ⊎ ((k ≡ KindName.Unavailable) ⊎ (k ≡ KindName.Preferred)) → count_of (number_of k) ≤ 2
+last-second k h = let n : number_of k < 4 = ⊎_elim (λ e. rw e (omega arith)) (⊎_elim (λ e. rw e (omega arith)) (λ e. rw e (omega arith))) h in count-second _ n
 
-pub returns-then-kind-gt9 : goal.returns-then-kind-gt9
-returns-then-kind-gt9 c = c.last_kinds_at.ensures
+module _ {k : KindName} (a : k ≡ KindName.Clash → ⊥) (b : k ≡ KindName.Unavailable → ⊥) (d : k ≡ KindName.Preferred → ⊥) where
+  four-up : 4 ≤ number_of k
+  four-up = omega (arith, number_low k, other_number k KindName.Clash a, other_number k KindName.Unavailable b, other_number k KindName.Preferred d)
 
-pub returns-in_default : goal.returns-in_default
-returns-in_default c = record {
+module _ {k : KindName} (a : k ≡ KindName.Lengths → ⊥) (b : k ≡ KindName.Precedence → ⊥) where
+  up-to-nine : number_of k ≤ 9
+  up-to-nine = omega (arith, number_high k, other_number k KindName.Lengths a, other_number k KindName.Precedence b)
+
+pub returns-in-Clash : goal.returns-in-Clash
+returns-in-Clash c = record { eq = λ l. left_end 2 _ _ _ _ _ _ _ refl (last-second _ c.in-Clash.is) }
+
+pub returns-in-Lengths : goal.returns-in-Lengths
+returns-in-Lengths c = c.last_kinds_at.ensures
+
+pub returns-in_err-v : goal.returns-in_err-v
+returns-in_err-v c = let n = c.in_default in record {
   eq = λ l.
-      left_refused 2 _ _ _ _ _ _ _ _ _ _ refl (count-three _ c.if-kind-lt4.false) (third_bound _ _ c.if-kind-gt9.false) (number_read _ _ _ _ _ _ c.limited-x.ensures) _ _ c.in_default.is c.refusal_of.ensures;
+      left_refused 2 _ _ _ _ _ _ _ _ _ _ refl (count-three _ (four-up n.not-Clash n.not-Unavailable n.not-Preferred)) (third_bound _ _ (up-to-nine n.not-Lengths n.not-Precedence)) (number_read _ _ _ _ _ _ c.limited.ensures) _ _ _ c.in_err-v.was c.from_residual.ensures;
 }
 
-pub returns-then-kind-eq4 : goal.returns-then-kind-eq4
-returns-then-kind-eq4 c = record {
+pub returns-in-Split : goal.returns-in-Split
+returns-in-Split c = let n = c.in_default in record {
   eq = λ l.
-      left_end 3 _ _ _ _ _ _ _ refl (rw c.if-kind-eq4.true count-four)
-      ∙ left_more 2 _ _ _ _ _ _ _ _ _ _ refl (count-three _ c.if-kind-lt4.false) (third_bound _ _ c.if-kind-gt9.false) (number_read _ _ _ _ _ _ c.limited-x.ensures) _ _ _ c.in-Value.is c.push-third.ensures;
+      left_end 3 _ _ _ _ _ _ _ refl (rw c.in-Split.is count-four)
+      ∙ left_more 2 _ _ _ _ _ _ _ _ _ _ refl (count-three _ (four-up n.not-Clash n.not-Unavailable n.not-Preferred)) (third_bound _ _ (up-to-nine n.not-Lengths n.not-Precedence)) (number_read _ _ _ _ _ _ c.limited.ensures) _ _ _ c.in_ok-v.was c.push-third.ensures;
 }
 
-pub returns-in_default-y : goal.returns-in_default-y
-returns-in_default-y c = let four = count-other _ c.if-kind-lt4.false c.if-kind-eq4.false (λ e. omega arith) in
+pub returns-in_err-u-in_default-kind : goal.returns-in_err-u-in_default-kind
+returns-in_err-u-in_default-kind c = let n = c.in_default in let m = c.in_default-kind in let four = count-other _ (four-up n.not-Clash n.not-Unavailable n.not-Preferred) (other_number _ KindName.Split m.not-Split) (λ e. omega (arith, up-to-nine n.not-Lengths n.not-Precedence)) in
     record {
       eq = λ l.
-          left_refused 3 _ _ _ _ _ _ _ _ _ _ refl (rw four (omega arith)) (fourth_bound _ _ c.if-kind-gt9.false) (number_read _ _ _ _ _ _ c.limited-y.ensures) _ _ c.in_default-y.is c.refusal_of-in_default-y.ensures
-          ∙ left_more 2 _ _ _ _ _ _ _ _ _ _ refl (count-three _ c.if-kind-lt4.false) (third_bound _ _ c.if-kind-gt9.false) (number_read _ _ _ _ _ _ c.limited-x.ensures) _ _ _ c.in-Value.is c.push-third.ensures;
+          left_refused 3 _ _ _ _ _ _ _ _ _ _ refl (rw four (omega arith)) (fourth_bound _ _ (up-to-nine n.not-Lengths n.not-Precedence)) (number_read _ _ _ _ _ _ c.limited-in_default-kind.ensures) _ _ _ c.in_err-u-in_default-kind.was c.from_residual-in_err-u-in_default-kind.ensures
+          ∙ left_more 2 _ _ _ _ _ _ _ _ _ _ refl (count-three _ (four-up n.not-Clash n.not-Unavailable n.not-Preferred)) (third_bound _ _ (up-to-nine n.not-Lengths n.not-Precedence)) (number_read _ _ _ _ _ _ c.limited.ensures) _ _ _ c.in_ok-v.was c.push-third.ensures;
     }
 
-pub returns : goal.returns
-returns c = let four = count-other _ c.if-kind-lt4.false c.if-kind-eq4.false (λ e. omega arith) in
+pub returns-in_ok-u-in_default-kind : goal.returns-in_ok-u-in_default-kind
+returns-in_ok-u-in_default-kind c = let n = c.in_default in let m = c.in_default-kind in let four = count-other _ (four-up n.not-Clash n.not-Unavailable n.not-Preferred) (other_number _ KindName.Split m.not-Split) (λ e. omega (arith, up-to-nine n.not-Lengths n.not-Precedence)) in
     record {
       eq = λ l.
           left_end 4 _ _ _ _ _ _ _ refl (rw four (omega arith))
-          ∙ left_more 3 _ _ _ _ _ _ _ _ _ _ refl (rw four (omega arith)) (fourth_bound _ _ c.if-kind-gt9.false) (number_read _ _ _ _ _ _ c.limited-y.ensures) _ _ _ c.in-Value-y.is c.push-fourth.ensures
-          ∙ left_more 2 _ _ _ _ _ _ _ _ _ _ refl (count-three _ c.if-kind-lt4.false) (third_bound _ _ c.if-kind-gt9.false) (number_read _ _ _ _ _ _ c.limited-x.ensures) _ _ _ c.in-Value.is c.push-third.ensures;
+          ∙ left_more 3 _ _ _ _ _ _ _ _ _ _ refl (rw four (omega arith)) (fourth_bound _ _ (up-to-nine n.not-Lengths n.not-Precedence)) (number_read _ _ _ _ _ _ c.limited-in_default-kind.ensures) _ _ _ c.in_ok-u-in_default-kind.was c.push-fourth.ensures
+          ∙ left_more 2 _ _ _ _ _ _ _ _ _ _ refl (count-three _ (four-up n.not-Clash n.not-Unavailable n.not-Preferred)) (third_bound _ _ (up-to-nine n.not-Lengths n.not-Precedence)) (number_read _ _ _ _ _ _ c.limited.ensures) _ _ _ c.in_ok-v.was c.push-third.ensures;
     }

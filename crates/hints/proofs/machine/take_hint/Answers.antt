@@ -14,7 +14,7 @@ returns-else-id-eq0 c = let e = sym (rw (c.first_word.ensures, c.word_count.ensu
 
 pub returns-in-OneOpen : goal.returns-in-OneOpen
 unfolding walked walked_marks walked_trail
-returns-in-OneOpen c = let e = sym (rw (c.first_word.ensures, c.word_count.ensures) at c.standing_of-s.ensures) ∙ ap stands c.in-OneOpen.is in record { value = rw e (c.step_on.ensures ∙ rw c.record_literal-more.ensures.value); marks_after = rw e (c.put_mark.ensures ∙ rw c.wide-v.ensures); trail_after = rw e c.record_literal-more.ensures.trail_after }
+returns-in-OneOpen c = let e = sym (rw (c.first_word.ensures, c.word_count.ensures) at c.standing_of-s.ensures) ∙ ap stands c.in-OneOpen.is in record { value = rw e (c.step_on.ensures ∙ rw c.record_literal-more.ensures.value); marks_after = rw e (c.put_mark.ensures); trail_after = rw e c.record_literal-more.ensures.trail_after }
 
 pub returns-in-Other : goal.returns-in-Other
 unfolding walked walked_marks walked_trail

@@ -4,7 +4,6 @@ use Rattle.list_nodes.proofs.laws.Ground.{sized}
 use Rattle.scope.specs.Kinds.{counted_of}
 use native.Mathlib.Omega.{arith}
 use mathlib.Core.Path.{◌≡◌, refl}
-use borrow.Author.Rules.{rules}
 use Rattle.list.proofs.by_kind.fill.Goals as goal
 
 pub fill_clash-requires : goal.fill_clash-requires

@@ -1,6 +1,4 @@
 use Rattle.list_clauses.proofs.laws.Filled.{list_wrote}
-use borrow.Author.Rules.{rules}
-use borrow.Author.Rules.{rules}
 use Rattle.list_clauses.proofs.list.write_list.Goals as goal
 
 pub write_counted-requires : goal.write_counted-requires

@@ -1,12 +1,10 @@
-use mathlib.Core.Path.{◌≡◌, refl, sym, ◌∙◌}
-use Prim.Native.Nat.{◌-◌, ◌≤◌}
+use mathlib.Core.Path.{refl, sym, ◌∙◌}
+use Prim.Native.Nat.{◌-◌}
 use native.Mathlib.Omega.{arith}
-use lib.ListN.{length}
-use Rattle.sink.specs.Run.{Todo, todo_start, todo_turn, todo_done}
+use Rattle.sink.specs.Run.{todo_start, todo_turn, todo_done}
 use Rattle.sink.proofs.laws.Skipped.{skipped}
-use Rattle.sink.specs.World.{world, step}
 use Rattle.list_clauses.specs.Stored.{store_clauses}
-use Rattle.list_clauses.proofs.laws.Stored.{LeftNodes, left_lines, left_start, left_all, left_node, left_turn, nodes-end}
+use Rattle.list_clauses.proofs.laws.Stored.{left_start, left_all, left_node, left_turn, nodes-end}
 use borrow.Author.Rules.{rules}
 use Rattle.list_clauses.proofs.nodes.write_nodes.Goals as goal
 

@@ -1,13 +1,9 @@
-use mathlib.Core.Path.{◌≡◌, refl, sym, ◌∙◌}
+use mathlib.Core.Path.{◌≡◌}
 use Prim.Native.Nat.{◌-◌, ◌≤◌}
-use native.Mathlib.Omega.{arith}
 use lib.ListN.{length}
-use Rattle.sink.specs.Run.{Todo, todo_start, todo_turn, todo_done}
-use Rattle.sink.proofs.laws.Skipped.{skipped}
+use Rattle.sink.specs.Run.{Todo}
 use Rattle.sink.specs.World.{world, step}
-use Rattle.list_clauses.specs.Stored.{store_clauses}
-use Rattle.list_clauses.proofs.laws.Stored.{LeftNodes, left_lines, left_start, left_all, left_node, left_turn, nodes-end}
-use borrow.Author.Rules.{rules}
+use Rattle.list_clauses.proofs.laws.Stored.{LeftNodes, left_lines}
 use Rattle.list_clauses.proofs.nodes.write_nodes.Given as goal
 
 abbrev pub invariant-loop-i : goal.invariant-loop-i

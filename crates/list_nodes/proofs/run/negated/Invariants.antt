@@ -5,11 +5,8 @@ use Rattle.scope.specs.Cnf.{opp}
 use lib.ListN.{length, take}
 use mathlib.Core.List.{◌++◌, map}
 use mathlib.Core.Path.{◌≡◌}
-use Prim.Native.Nat.{◌+◌, ◌-◌, ◌≤◌}
+use Prim.Native.Nat.{◌+◌}
 use Rattle.list_nodes.proofs.run.negated.Given as goal
 
 abbrev pub invariant-loop-k : goal.invariant-loop-k
-invariant-loop-k l = (l.at ≤ l.k) × (l.k ≤ l.end) × (l.x ≡ l.first + (l.k - l.at)) × (length l.out ≡ length l.initial.out) × Holds l.out l.k (take l.at l.initial.out ++ map opp (every 1 l.first (l.k - l.at)))
-
-abbrev pub decreases-loop-k : goal.decreases-loop-k
-decreases-loop-k l = l.end - l.k
+invariant-loop-k l = (length l.out ≡ length l.initial.out) × Holds l.out (l.at + l.k) (take l.at l.initial.out ++ map opp (every 1 l.first l.k))

@@ -1,6 +1,6 @@
 -- `literals::events::s_spread` meets its contract. The loop's invariant: the words are the literals of the events passed, as
 -- many for each as the group has members.
-use Prim.Native.Nat.{◌-◌, ◌*◌, ◌≤◌}
+use Prim.Native.Nat.{◌-◌, ◌*◌}
 use mathlib.Core.Path.{◌≡◌}
 use mathlib.Core.List.{map}
 use lib.ListN.{length}
@@ -10,7 +10,4 @@ use Rattle.literals.proofs.Turns.{Flattened}
 use Rattle.literals.proofs.events.s_spread.Given as goal
 
 abbrev pub invariant-loop-k : goal.invariant-loop-k
-invariant-loop-k l = (l.k ≤ l.n) × (l.at ≡ l.k * length (row_at l.groups (l.g - 1))) × (length l.out ≡ length l.initial.out) × Flattened (λ e. map (in_block l.times l.starts e) (row_at l.groups (l.g - 1))) l.list l.out l.at l.k
-
-abbrev pub decreases-loop-k : goal.decreases-loop-k
-decreases-loop-k l = l.n - l.k
+invariant-loop-k l = (l.at ≡ l.k * length (row_at l.groups (l.g - 1))) × (length l.out ≡ length l.initial.out) × Flattened (λ e. map (in_block l.times l.starts e) (row_at l.groups (l.g - 1))) l.events l.out l.at l.k

@@ -3,16 +3,16 @@ use native.Mathlib.Omega.{arith}
 use lib.ListN.{length-set}
 use Rattle.scope.specs.Kinds.{from}
 use Rattle.literals.specs.Variables.{literal_at}
-use Rattle.literals.proofs.laws.Words.{holds-none, holds_as}
+use Rattle.literals.proofs.laws.Words.{holds-none}
 use Rattle.literals.proofs.Turns.{next-time}
 use Rattle.literals.proofs.times.all_times.Goals as goal
 
 pub loop-n-init : goal.loop-n-init
 unfolding from
-loop-n-init c = (omega arith, omega arith, refl, holds-none _)
+loop-n-init c = (refl, holds-none _)
 
 pub loop-n-preserved : goal.loop-n-preserved
-loop-n-preserved c = let l = c.loop-n in (omega arith, omega arith, simp length-set l.invariant.2, next-time (literal_at _) l.out l.n l.t _ l.invariant.3 l.invariant.0 (omega (arith, l.invariant.2)) c.literal.ensures)
+loop-n-preserved c = let l = c.loop-n in (simp length-set l.invariant.0, next-time (literal_at _) l.out l.n l.n _ l.invariant.1 refl (omega (arith, l.invariant.0)) c.literal.ensures)
 
 pub returns : goal.returns
-returns c = let l = c.loop-n in let e : l.n ≡ c.args.times = omega arith in holds_as (rw e) l.invariant.3
+returns c = let l = c.loop-n in let e : l.n ≡ c.args.times = omega arith in rw e at l.invariant.1

@@ -1,5 +1,4 @@
 -- `literals::times::all_times` meets its contract. The loop's invariant: the words are the literals of the times passed.
-use Prim.Native.Nat.{◌-◌, ◌≤◌}
 use mathlib.Core.Path.{◌≡◌}
 use mathlib.Core.List.{map}
 use lib.ListN.{length}
@@ -9,7 +8,4 @@ use Rattle.literals.specs.Words.{Holds}
 use Rattle.literals.proofs.times.all_times.Given as goal
 
 abbrev pub invariant-loop-n : goal.invariant-loop-n
-invariant-loop-n l = (l.n ≡ l.t) × (l.n ≤ l.times) × (length l.out ≡ length l.initial.out) × Holds l.out l.n (map (literal_at l.base) (up_to l.n))
-
-abbrev pub decreases-loop-n : goal.decreases-loop-n
-decreases-loop-n l = l.times - l.n
+invariant-loop-n l = (length l.out ≡ length l.initial.out) × Holds l.out l.n (map (literal_at l.base) (up_to l.n))

@@ -1,15 +1,11 @@
 -- `literals::times::member_is` meets its contract.
 use native.Mathlib.Omega.{arith}
-use borrow.Author.Tests.{eq-eqb, ne_eqb}
 use Rattle.tables.specs.Rows.{row_at}
 use Rattle.literals.proofs.laws.Words.{with_past, with_member}
 use Rattle.literals.proofs.times.member_is.Goals as goal
 
 pub returns-then-row_len-k : goal.returns-then-row_len-k
-returns-then-row_len-k c = record { is = rw (with_past c.args.t (row_at c.args.groups.now c.args.row) c.args.k (omega (arith, c.row_len.ensures))) }
-
-pub returns-then-row_member-t : goal.returns-then-row_member-t
-returns-then-row_member-t c = record { is = rw (with_member c.args.t (row_at c.args.groups.now c.args.row) c.args.k c.row_member.result (omega (arith, c.row_len.ensures)) c.row_member.ensures, eq-eqb _ _ c.if-row_member-t.true) }
+returns-then-row_len-k c = rw (with_past c.args.t (row_at c.args.groups.now c.args.row) c.args.k (omega (arith, c.row_len.ensures)))
 
 pub returns : goal.returns
-returns c = record { is = rw (with_member c.args.t (row_at c.args.groups.now c.args.row) c.args.k c.row_member.result (omega (arith, c.row_len.ensures)) c.row_member.ensures, ne_eqb _ _ c.if-row_member-t.false) }
+returns c = rw (with_member c.args.t (row_at c.args.groups.now c.args.row) c.args.k c.row_member.result (omega (arith, c.row_len.ensures)) c.row_member.ensures, c.from.ensures)

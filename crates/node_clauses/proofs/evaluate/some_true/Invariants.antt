@@ -1,11 +1,7 @@
 use mathlib.Core.Path.{◌≡◌}
-use Prim.Native.Nat.{◌-◌, ◌≤◌}
-use lib.ListN.{length, drop}
+use lib.ListN.{drop}
 use Rattle.scope.specs.Cnf.{bit, clause}
 use Rattle.node_clauses.proofs.evaluate.some_true.Given as goal
 
-abbrev pub invariant-loop-i : goal.invariant-loop-i
-invariant-loop-i l = (l.i ≤ l.i-end) × (l.i-end ≡ length l.lits) × (clause (bit l.model) (drop l.i l.lits) ≡ clause (bit l.model) l.lits)
-
-abbrev pub decreases-loop-i : goal.decreases-loop-i
-decreases-loop-i l = l.i-end - l.i
+abbrev pub invariant-loop-l : goal.invariant-loop-l
+invariant-loop-l l = clause (bit l.model) (drop l.l-index l.lits) ≡ clause (bit l.model) l.lits

@@ -1,3 +1,4 @@
+use borrow.Author.Rules.{rules}
 use mathlib.Core.Path.{◌≡◌, sym}
 use mathlib.Core.List.{List, [], ◌∷◌, ◌++◌, flat_map, append-nil}
 use Prim.Native.Nat.{ℕ, ◌-◌, ◌<◌}
@@ -28,7 +29,7 @@ returns-then-fits c = let a = c.args in
     let b : get_or ws (length ws - 1) 0 < 4294967296 = omega (arith, c.type_inv.clause (length ws - 1)) in
     let x : List ℕ = others ws ++ last_of ws ∷ [] in
     rw (c.placed.ensures, long_split c.requires b)
-    (text_at_once a.job a.model.now a.s a.text.now a.words.now (x ∷ []) _ _ c.in-Text.is (same (one_line a.job.top x) c.long_text.ensures))
+    (text_at_once a.job a.model.now a.s a.text.now a.words.now (x ∷ []) _ _ (search rules) (same (one_line a.job.top x) c.long_text.ensures))
 
 pub emit-requires : goal.emit-requires
 emit-requires c = long_whole c.requires (omega (arith, c.type_inv.clause (length c.args.clause.now - 1)))

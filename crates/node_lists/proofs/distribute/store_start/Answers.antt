@@ -1,5 +1,4 @@
 -- `node_lists::distribute::store_start` meets its contract.
-use borrow.Author.Rules.{rules}
 use Rattle.node_lists.proofs.LengthNodes.{start_within, start_beyond}
 use Rattle.scope.specs.Cnf.{Gate}
 use Rattle.literals.specs.NodeWords.{node_words}
@@ -8,9 +7,6 @@ use lib.ListN.{take}
 use native.Mathlib.Omega.{arith}
 use mathlib.Core.List.{◌++◌}
 use mathlib.Core.Path.{ap}
-use borrow.Author.Rules.{rules}
-use Rattle.list_nodes.proofs.store_until.Reads as store-until-reads
-use Rattle.list_nodes.proofs.store_with.Reads as store-with-reads
 use Rattle.node_lists.proofs.distribute.store_start.Goals as goal
 
 pub returns-then-t-n : goal.returns-then-t-n

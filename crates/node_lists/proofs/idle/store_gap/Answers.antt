@@ -1,7 +1,6 @@
 -- `node_lists::idle::store_gap` meets its contract.
 use Rattle.node_lists.proofs.IdleNodes.{gap-stored}
 use native.Mathlib.Omega.{arith}
-use borrow.Author.Rules.{rules}
 use Rattle.node_lists.proofs.idle.store_gap.Goals as goal
 
 pub returns : goal.returns

@@ -1,13 +1,7 @@
 -- `node_lists::lengths::store_outside` meets its contract.
-use borrow.Author.Rules.{rules}
 use borrow.Author.Tests.{ne_eqb}
 use Rattle.node_lists.proofs.LengthNodes.{above_words, outside_stored}
 use native.Mathlib.Omega.{arith}
-use borrow.Author.Rules.{rules}
-use Rattle.list_nodes.proofs.store_all.Reads as store-all-reads
-use Rattle.list_nodes.proofs.store_none.Reads as store-none-reads
-use Rattle.list_nodes.proofs.store_with.Reads as store-with-reads
-use Rattle.node_lists.proofs.going_on.on_count.Reads as on-count-reads
 use Rattle.node_lists.proofs.lengths.store_outside.Goals as goal
 
 pub returns-then-a-eq1 : goal.returns-then-a-eq1

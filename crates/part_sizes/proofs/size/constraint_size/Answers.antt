@@ -1,5 +1,4 @@
 -- `size::constraint_size` meets its contract: its lists are alike.
-use borrow.Author.Rules.{rules}
 use mathlib.Core.Path.{◌≡◌}
 use native.Mathlib.Omega.{arith}
 use lib.ListN.{length}
@@ -22,4 +21,4 @@ returns c = let a = c.args in
     let p = c.requires in
     let k = counted_in a.durations.now (users_at a.users.now) a.groups.now a.head (kind_of a.list.now a.c.kind) in
     let n : c.lists-most.result ≡ length k.lists = c.lists-most.ensures.eq (duration_in a.head.events a.durations.now) (users_at a.users.now) (group_in a.head.groups a.groups.now) a.list.now in
-    times_sized a.c.weight k c.first_size-one.ensures (omega (arith, n, p.0.few)) (sizable_shape p.0) n (omega (arith, n, p.0.some)) c.multiply.ensures
+    times_sized a.c.weight k c.first_size-one.ensures (omega (arith, n, p.0.few)) (sizable_shape p.0) n (omega (arith, n, p.0.some)) (rw c.from.ensures at c.multiply.ensures)

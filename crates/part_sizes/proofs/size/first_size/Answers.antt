@@ -1,5 +1,4 @@
 -- `size::first_size` meets its contract: what the store holds of the list tells its size.
-use borrow.Author.Rules.{rules}
 use mathlib.Core.Path.{◌∙◌}
 use native.Mathlib.Omega.{arith}
 use Rattle.constraint.specs.Answers.{kind_of}

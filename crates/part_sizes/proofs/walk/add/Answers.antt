@@ -1,5 +1,4 @@
 -- `walk::add` meets its contract.
-use borrow.Author.Rules.{rules}
 use Rattle.part_sizes.proofs.walk.add.Goals as goal
 
 pub returns : goal.returns

@@ -1,34 +1,33 @@
-use Rattle.std.proofs.Common.{◌≡◌, ap, ◌∙◌}
-use Rattle.number.specs.Answers.{said}
-use Rattle.scope.specs.Number.{number}
-use Rattle.reader.proofs.Loops.{left_over, left_more}
-use Rattle.passing.specs.Passed.{passed_by, passed_at}
-use Rattle.passing.proofs.Turns.{to_pass, pass_turn, pass_falls}
+use Rattle.reader.proofs.Loops.{nearer}
+use Rattle.reader.proofs.NumberTold.{value-at, no-value-at}
+use Rattle.passing.proofs.Turns.{going-start, going-cut, going-end, going-more}
 use Rattle.passing.proofs.numbers.pass_numbers.Goals as goal
 
-pub loop-p-smaller : goal.loop-p-smaller
-loop-p-smaller c =
-    let s = c.args.proof.now in
-    let read : said c.read_number-t.result ≡ number s c.loop-p.p.at = cc in
-    let turned : c.pass_on-p.result ≡ pass_turn s c.loop-p.p = c.pass_on-p.ensures ∙ ap (passed_by c.loop-p.p.at) read in
-    rw turned (pass_falls s c.loop-p.p c.loop-p-test.true)
+pub loop-n-init : goal.loop-n-init
+loop-n-init c = let e = c.new-r.ensures in record { bytes_same = cc; going = rw e.1 (going-start c.args.proof.now c.args.at) }
 
-pub loop-p-preserved : goal.loop-p-preserved
-loop-p-preserved c =
-    let s = c.args.proof.now in
-    let read : said c.read_number-t.result ≡ number s c.loop-p.p.at = cc in
-    let turned : c.pass_on-p.result ≡ pass_turn s c.loop-p.p = c.pass_on-p.ensures ∙ ap (passed_by c.loop-p.p.at) read in
+pub returns-then-n-eq0 : goal.returns-then-n-eq0
+returns-then-n-eq0 c = let s = c.args.proof.now in
+    let l = c.loop-n in
+    let told = rw l.invariant.bytes_same at c.number.ensures in
+    going-end s c.args.at l.r.at l.invariant.going _ _ (value-at s _ _ told c.in-Ok.is) c.if-n-eq0.true
+
+pub loop-n-smaller : goal.loop-n-smaller
+loop-n-smaller c = let l = c.loop-n in
+    let told = rw l.invariant.bytes_same at c.number.ensures in
+    rw c.moved-r.ensures.1 (nearer c.args.proof.now l.r.at _ _ (value-at _ _ _ told c.in-Ok.is))
+
+pub loop-n-preserved : goal.loop-n-preserved
+loop-n-preserved c = let s = c.args.proof.now in
+    let l = c.loop-n in
+    let told = rw l.invariant.bytes_same at c.number.ensures in
     record {
       bytes_same = cc;
-      place_same = cc;
-      left =
-          rw turned
-          (left_more (λ p. p.more) (pass_turn s) (to_pass s) _ c.loop-p.p c.loop-p.invariant.left c.loop-p-test.true
-          (pass_falls s c.loop-p.p c.loop-p-test.true));
+      going = rw c.moved-r.ensures.1 (going-more s c.args.at l.r.at l.invariant.going _ _ (value-at s _ _ told c.in-Ok.is) c.if-n-eq0.false);
     }
 
 pub returns : goal.returns
-unfolding passed_at
-returns c =
-    let s = c.args.proof.now in
-    ap (λ p. p.found) (left_over (λ p. p.more) (pass_turn s) (to_pass s) _ c.loop-p.p c.loop-p.invariant.left c.loop-p-test.false)
+returns c = let s = c.args.proof.now in
+    let l = c.loop-n in
+    let told = rw l.invariant.bytes_same at c.number.ensures in
+    going-cut s c.args.at l.r.at l.invariant.going _ _ (no-value-at s _ _ told c.in_default.is)

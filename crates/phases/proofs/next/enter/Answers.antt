@@ -1,5 +1,22 @@
-use borrow.Author.Rules.{rules}
+use mathlib.Core.Path.{◌≡◌, refl, sym, ◌∙◌}
+use mathlib.Core.List.{List}
+use Prim.Native.Nat.{ℕ}
+use Rattle.hints.specs.declared.machine.Phase.{Phase}
+use Rattle.hints.specs.declared.machine.Phase.TheVariants.{Next, Walk, Followed, Keep, Wipe, Delete, Proved, Refused}
+use Rattle.hints.specs.Machine.{stopped}
+use Rattle.turns.specs.Check.{entered_at}
 use Rattle.phases.proofs.next.enter.Goals as goal
+
+-- in a phase that wants no id, the machine stands still
+others : (s : List ℕ) (at id : ℕ) (p : Phase) → (p ≡ Walk → ⊥) → (p ≡ Delete → ⊥) → (p ≡ Wipe → ⊥) → entered_at s at id p ≡ stopped p at
+others s at id Next a b d = refl
+others s at id Walk a b d = absurd (a refl)
+others s at id Followed a b d = refl
+others s at id Keep a b d = refl
+others s at id Wipe a b d = absurd (d refl)
+others s at id Delete a b d = absurd (b refl)
+others s at id Proved a b d = refl
+others s at id (Refused k) a b d = refl
 
 pub returns-in-Walk : goal.returns-in-Walk
 returns-in-Walk c = rw c.in-Walk.is c.first_id.ensures
@@ -7,20 +24,7 @@ returns-in-Walk c = rw c.in-Walk.is c.first_id.ensures
 pub returns-in-Delete : goal.returns-in-Delete
 returns-in-Delete c = rw c.in-Delete.is c.first_id-in-Delete.ensures
 
-pub returns-in-Wipe : goal.returns-in-Wipe
-returns-in-Wipe c = rw c.in-Wipe.is
-
-pub returns-in-Next : goal.returns-in-Next
-returns-in-Next c = rw c.in-Next.is (rw c.in-Next.is at c.stop.ensures)
-
-pub returns-in-Followed : goal.returns-in-Followed
-returns-in-Followed c = rw c.in-Followed.is (rw c.in-Followed.is at c.stop-in-Followed.ensures)
-
-pub returns-in-Keep : goal.returns-in-Keep
-returns-in-Keep c = rw c.in-Keep.is (rw c.in-Keep.is at c.stop-in-Keep.ensures)
-
-pub returns-in-Proved : goal.returns-in-Proved
-returns-in-Proved c = rw c.in-Proved.is (rw c.in-Proved.is at c.stop-in-Proved.ensures)
-
-pub returns-in-Refused : goal.returns-in-Refused
-returns-in-Refused c = rw c.in-Refused.is (rw c.in-Refused.is at c.stop-in-Refused.ensures)
+pub returns-in_default : goal.returns-in_default
+returns-in_default c =
+    let a = c.args in
+    c.stop.ensures ∙ sym (others a.proof.now a.c.clause.hints a.c.clause.id a.c.phase c.in_default.not-Walk c.in_default.not-Delete c.in_default.not-Wipe)

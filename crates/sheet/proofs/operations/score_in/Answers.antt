@@ -2,13 +2,16 @@
 use Rattle.tables.proofs.laws.Room.{room-kept}
 use Rattle.instance.proofs.laws.Laws.{accepted}
 use Rattle.sheet.proofs.laws.Answers.{score_file}
+use Rattle.std.proofs.lemmas.Result.{err_from_is_err_and}
 use borrow.Author.Rules.{rules}
 use Rattle.sheet.proofs.operations.score_in.Goals as goal
 
-pub returns-in-Refused : goal.returns-in-Refused
-returns-in-Refused c = score_file _ _ (rw c.in-Refused.is at c.read-f.ensures) _
+pub returns-in_err-head : goal.returns-in_err-head
+returns-in_err-head c =
+    let p = err_from_is_err_and c.from_residual.result c.from_residual.ensures.1 in
+    rw (p.1, p.2) (score_file _ _ c.in_err-head.ensures _)
 
 pub score_read-requires : goal.score_read-requires
-score_read-requires c = let r = c.read-f in
+score_read-requires c = let r = c.read in
     let g = room-kept c.args.file.now r.auto.groups c.requires in
-    (accepted _ r.new.durations r.new.resources r.new.groups _ (rw c.in-Accepted.is at r.ensures), search rules)
+    (accepted _ r.new.durations r.new.resources r.new.groups _ c.in_ok-head.ensures, search rules)

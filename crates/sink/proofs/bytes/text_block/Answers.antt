@@ -5,7 +5,6 @@ use native.Mathlib.Omega.{arith}
 use Rattle.sink.specs.Run.{out}
 use Rattle.sink.specs.Block.{by_words}
 use Rattle.sink.specs.Parts.{text_parts}
-use Rattle.digits.proofs.Spelling.{spelt-own}
 use Rattle.sink.proofs.bytes.text_block.Goals as goal
 
 pub overflow_cast-top : goal.overflow_cast-top
@@ -15,12 +14,12 @@ pub spell-requires : goal.spell-requires
 spell-requires c = (c.roomy.ensures c.if-roomy.true).0
 
 pub roomy_block-requires : goal.roomy_block-requires
-roomy_block-requires c = (spelt-own c.spell.ensures, (c.roomy.ensures c.if-roomy.true).1)
+roomy_block-requires c = (c.roomy.ensures c.if-roomy.true).1
 
 pub returns-then-roomy : goal.returns-then-roomy
 returns-then-roomy c = let a = c.args in
     c.roomy_block.ensures
-    ∙ ap (λ (v : ℕ). by_words (text_parts v) true a.block.now (out a.at a.text.now)) c.spell.ensures.value
+    ∙ ap (λ (v : ℕ). by_words (text_parts v) true a.block.now (out a.at a.text.now)) c.spell.ensures
 
 pub returns : goal.returns
 returns c = c.tested_block.ensures

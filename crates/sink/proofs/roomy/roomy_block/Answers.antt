@@ -1,21 +1,16 @@
-use mathlib.Core.Path.{refl}
-use Prim.Native.Nat.{◌<◌}
 use native.Mathlib.Omega.{arith}
-use borrow.Author.Rules.{rules}
-use lib.ListN.{length}
 use Rattle.sink.proofs.Turns.{start, turn, finish}
 use Rattle.sink.proofs.roomy.roomy_block.Goals as goal
 
-pub loop-i-init : goal.loop-i-init
-loop-i-init c = (omega arith, refl, refl, omega arith, start)
+pub loop-w-init : goal.loop-w-init
+loop-w-init c = (omega arith, start)
 
 pub roomy_word-p-requires : goal.roomy_word-p-requires
-roomy_word-p-requires c = (c.requires.0, omega arith)
+roomy_word-p-requires c = omega arith
 
-pub loop-i-preserved : goal.loop-i-preserved
-loop-i-preserved c = let l = c.loop-i in
-    let lt : l.i < length c.args.block.now = omega arith in
-    (omega arith, refl, search rules, omega arith, turn l.first _ l.i lt c.roomy_word-p.ensures.text_after l.invariant.4)
+pub loop-w-preserved : goal.loop-w-preserved
+loop-w-preserved c = let l = c.loop-w in
+    (omega arith, turn l.first _ l.w-index c.loop-w-test.true c.roomy_word-p.ensures.text_after l.invariant.1)
 
 pub returns : goal.returns
-returns c = finish _ c.loop-i.i (omega arith) c.loop-i.invariant.4
+returns c = finish _ c.loop-w.w-index c.loop-w-test.false c.loop-w.invariant.1

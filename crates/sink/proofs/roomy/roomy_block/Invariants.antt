@@ -1,4 +1,3 @@
-use mathlib.Core.Path.{◌≡◌}
 use mathlib.Core.Bool.{true}
 use Prim.Native.Nat.{◌+◌, ◌-◌, ◌*◌, ◌≤◌}
 use lib.ListN.{length, drop}
@@ -8,9 +7,6 @@ use Rattle.sink.specs.Parts.{text_parts}
 use Rattle.sink.proofs.Turns.{Left}
 use Rattle.sink.proofs.roomy.roomy_block.Given as goal
 
-abbrev pub invariant-loop-i : goal.invariant-loop-i
-invariant-loop-i l = (l.i ≤ l.i-end) × (l.i-end ≡ length l.block) × (length l.text ≡ length l.initial.text) × (l.p + 22 * (length l.block - l.i) ≤ length l.initial.text)
-    × Left (text_parts l.top.value) l.first (drop l.i l.block) (out l.p l.text) (by_words (text_parts l.top.value) true l.block (out l.at l.initial.text))
-
-abbrev pub decreases-loop-i : goal.decreases-loop-i
-decreases-loop-i l = l.i-end - l.i
+abbrev pub invariant-loop-w : goal.invariant-loop-w
+invariant-loop-w l = (l.p + 22 * (length l.block - l.w-index) ≤ length l.initial.text)
+    × Left (text_parts l.top.value) l.first (drop l.w-index l.block) (out l.p l.text) (by_words (text_parts l.top.value) true l.block (out l.at l.initial.text))

@@ -1,10 +1,10 @@
--- `answer::sizes_in` meets its contract: the stores are long enough, and each case of `measure_bound` is a case of the answer.
-use borrow.Author.Rules.{rules}
+-- `answer::sizes_in` meets its contract: the stores are long enough, and what `measure_bound` answers is handed on.
+use Rattle.number.proofs.laws.Sequence.{handed-on}
 use Rattle.sizes.proofs.laws.Measured.{sizes-answered, sizes-refused}
 use Rattle.sizes.proofs.answer.sizes_in.Goals as goal
 
-pub returns-in-Sized : goal.returns-in-Sized
-returns-in-Sized c = sizes-answered (rw c.in-Sized.is at c.measure_bound-m.ensures)
+pub returns-in_err-z : goal.returns-in_err-z
+returns-in_err-z c = rw (handed-on _ _ c.from_residual.ensures) (sizes-refused _ _ c.in_err-z.ensures)
 
-pub returns-in-Refused : goal.returns-in-Refused
-returns-in-Refused c = sizes-refused _ _ (rw c.in-Refused.is at c.measure_bound-m.ensures)
+pub returns : goal.returns
+returns c = sizes-answered c.in_ok-z.ensures

@@ -1,5 +1,4 @@
 -- `whole::whole_size` meets its contract: the table of users, what stands before the constraints, and the walk over them.
-use borrow.Author.Rules.{rules}
 use mathlib.Core.Path.{refl}
 use Rattle.instance.proofs.laws.Ready.{zeros}
 use Rattle.sizes.proofs.laws.Opened.{opened_rows, opened_users, opened_begun, opened_tabled, opened_walkable, opened_whole}

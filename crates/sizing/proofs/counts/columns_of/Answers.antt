@@ -6,7 +6,7 @@ use Rattle.sizing.proofs.laws.Counts.{columns-hard, columns-soft}
 use Rattle.sizing.proofs.counts.columns_of.Goals as goal
 
 pub returns-then-weight-eq0 : goal.returns-then-weight-eq0
-returns-then-weight-eq0 c = c.lower.ensures ∙ sym (columns-hard c.args.weight c.args.hi c.args.n (omega arith))
+returns-then-weight-eq0 c = c.min.ensures ∙ sym (columns-hard c.args.weight c.args.hi c.args.n (omega arith))
 
 pub returns : goal.returns
 returns c = sym (columns-soft c.args.weight c.args.hi c.args.n (omega arith))

@@ -5,4 +5,4 @@ use Rattle.sizing.proofs.counts.list_size.Goals as goal
 
 pub returns : goal.returns
 unfolding list_size
-returns c = rw (c.count_size.ensures, c.lower-lowered.ensures)
+returns c = rw (c.count_size.ensures, c.min-lowered.ensures)

@@ -4,10 +4,12 @@ use mathlib.Core.Path.{sym}
 use native.Mathlib.Nat.{mul-le-mul}
 use native.Mathlib.Omega.{arith}
 use Rattle.sizing.proofs.laws.Counts.{shorts-hard, shorts-soft}
+use Rattle.sizing.specs.Sums.{none}
 use Rattle.sizing.proofs.counts.shorts_size.Goals as goal
 
 pub returns-then-weight-eq0 : goal.returns-then-weight-eq0
-returns-then-weight-eq0 c = sym (shorts-hard _ _ (omega arith))
+unfolding none
+returns-then-weight-eq0 c = rw c.nothing.ensures (sym (shorts-hard c.args.weight c.args.k (omega arith)))
 
 pub overflow_mul-result-4 : goal.overflow_mul-result-4
 overflow_mul-result-4 c = omega (arith, mul-le-mul c.requires.1 c.requires.0)

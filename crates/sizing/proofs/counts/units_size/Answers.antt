@@ -5,13 +5,16 @@ use native.Mathlib.Nat.{mul-le-mul}
 use native.Mathlib.Omega.{arith}
 use Rattle.sizing.proofs.laws.Sums.{equal}
 use Rattle.sizing.proofs.laws.Counts.{units-hard, units-soft}
+use Rattle.sizing.specs.Sums.{none}
 use Rattle.sizing.proofs.counts.units_size.Goals as goal
 
 pub returns-then-weight-eq0 : goal.returns-then-weight-eq0
-returns-then-weight-eq0 c = equal (omega arith) ∙ sym (units-hard _ _ (omega arith))
+unfolding none
+returns-then-weight-eq0 c = rw c.nothing.ensures (equal (omega arith) ∙ sym (units-hard c.args.weight c.args.k (omega arith)))
 
 pub overflow_mul-result : goal.overflow_mul-result
 overflow_mul-result c = omega (arith, mul-le-mul c.requires.1 c.requires.0)
 
 pub returns : goal.returns
-returns c = sym (units-soft _ _ (omega arith))
+unfolding none
+returns c = rw c.nothing-2.ensures (sym (units-soft c.args.weight c.args.k (omega arith)))

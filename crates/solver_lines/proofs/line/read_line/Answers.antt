@@ -6,8 +6,8 @@ use Rattle.solver_lines.proofs.line.read_line.Goals as goal
 pub returns-then-passed_over : goal.returns-then-passed_over
 returns-then-passed_over c = line_passed _ _ _ c.requires.0 _ _ (sym c.passed_over.ensures ∙ c.if-passed_over.true) c.line_end-end.ensures
 
-pub returns-then-b-ne-VALUES : goal.returns-then-b-ne-VALUES
-returns-then-b-ne-VALUES c = line_other _ _ _ c.requires.0 _ _ (sym c.passed_over.ensures ∙ c.if-passed_over.false) c.if-b-ne-VALUES.true
+pub returns-then-b-ne118 : goal.returns-then-b-ne118
+returns-then-b-ne118 c = line_other _ _ _ c.requires.0 _ _ (sym c.passed_over.ensures ∙ c.if-passed_over.false) c.if-b-ne118.true
 
 pub returns : goal.returns
-returns c = line_values _ _ _ c.requires.0 _ _ (sym c.passed_over.ensures ∙ c.if-passed_over.false) c.if-b-ne-VALUES.false c.read_values.ensures
+returns c = line_values _ _ _ c.requires.0 _ _ (sym c.passed_over.ensures ∙ c.if-passed_over.false) c.if-b-ne118.false c.read_values.ensures

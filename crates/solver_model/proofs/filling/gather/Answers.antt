@@ -2,8 +2,8 @@
 use Rattle.solver_model.proofs.laws.Filled.{gather_fault, gather_settled}
 use Rattle.solver_model.proofs.filling.gather.Goals as goal
 
-pub returns-in-Read : goal.returns-in-Read
-returns-in-Read c = rw c.judge.ensures (gather_settled _ c.requires.0 _ _ _ (rw c.in-Read.is at c.read_lines-l.ensures) c.settle-s.ensures)
+pub returns-in-Ok : goal.returns-in-Ok
+returns-in-Ok c = rw c.judge.ensures (gather_settled _ c.requires.0 _ _ _ (rw c.in-Ok.is at c.read_lines.ensures) c.settle.ensures)
 
-pub returns-in-Fault : goal.returns-in-Fault
-returns-in-Fault c = gather_fault _ c.requires.0 _ (rw c.in-Fault.is at c.read_lines-l.ensures)
+pub returns-in-Err : goal.returns-in-Err
+returns-in-Err c = gather_fault _ c.requires.0 _ (rw c.in-Err.is at c.read_lines.ensures)

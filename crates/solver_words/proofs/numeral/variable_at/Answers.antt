@@ -6,8 +6,8 @@ use Rattle.solver_words.proofs.numeral.variable_at.Goals as goal
 pub returns-then-text-at : goal.returns-then-text-at
 returns-then-text-at c = variable_past _ _ _ c.if-text-at.true
 
-pub returns-then-text-at-le-ZERO : goal.returns-then-text-at-le-ZERO
-returns-then-text-at-le-ZERO c = variable_zero _ _ _ c.if-text-at.false c.if-text-at-le-ZERO.true
+pub returns-then-text-at-le48 : goal.returns-then-text-at-le48
+returns-then-text-at-le48 c = variable_zero _ _ _ c.if-text-at.false c.if-text-at-le48.true
 
 pub returns : goal.returns
-returns c = c.numeral.ensures ∙ variable_more _ _ _ c.if-text-at.false c.if-text-at-le-ZERO.false
+returns c = c.numeral.ensures ∙ variable_more _ _ _ c.if-text-at.false c.if-text-at-le48.false

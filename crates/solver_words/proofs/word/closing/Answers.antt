@@ -5,11 +5,11 @@ use Rattle.solver_words.proofs.word.closing.Goals as goal
 pub returns-then-text-next : goal.returns-then-text-next
 returns-then-text-next c = rw (word_past _ _ c.if-text-next.true)
 
-pub returns-then-b-eq-SPACE : goal.returns-then-b-eq-SPACE
-returns-then-b-eq-SPACE c = rw (word_space _ _ c.if-text-next.false c.if-b-eq-SPACE.true)
+pub returns-then-b-eq32 : goal.returns-then-b-eq32
+returns-then-b-eq32 c = rw (word_space _ _ c.if-text-next.false c.if-b-eq32.true)
 
-pub returns-then-b-eq-LINE_END : goal.returns-then-b-eq-LINE_END
-returns-then-b-eq-LINE_END c = rw (word_line_end _ _ c.if-text-next.false c.if-b-eq-LINE_END.true)
+pub returns-then-b-eq10 : goal.returns-then-b-eq10
+returns-then-b-eq10 c = rw (word_line_end _ _ c.if-text-next.false c.if-b-eq10.true)
 
 pub returns : goal.returns
-returns c = rw (word_more _ _ c.if-text-next.false c.if-b-eq-SPACE.false c.if-b-eq-LINE_END.false)
+returns c = rw (word_more _ _ c.if-text-next.false c.if-b-eq32.false c.if-b-eq10.false)

@@ -1,14 +1,9 @@
 -- `tables::occurrences::count_row` meets its contract. The loop's invariant: the counts are those of the rows before and of the
 -- members passed, so they stay small.
-use Prim.Native.Nat.{◌-◌, ◌≤◌}
-use mathlib.Core.Path.{◌≡◌}
-use lib.ListN.{length}
+use Rattle.std.proofs.Common.{◌≡◌, length}
 use Rattle.tables.specs.Rows.{row_at}
 use Rattle.tables.proofs.Counting.{CountedTo}
 use Rattle.tables.proofs.occurrences.count_row.Given as goal
 
 abbrev pub invariant-loop-k : goal.invariant-loop-k
-invariant-loop-k l = (l.k ≤ l.n) × (l.n ≡ length (row_at l.table l.row)) × (length l.counts ≡ 256) × CountedTo l.table l.row l.k l.counts
-
-abbrev pub decreases-loop-k : goal.decreases-loop-k
-decreases-loop-k l = l.n - l.k
+invariant-loop-k l = (l.n ≡ length (row_at l.table l.row)) × (length l.counts ≡ 256) × CountedTo l.table l.row l.k l.counts

@@ -1,18 +1,18 @@
 -- `write::text_in` meets its contract: each case of `measure` is a case of the answer.
 use lib.ListN.{length}
+use Rattle.std.proofs.lemmas.Result.{err_from_is_err_and}
 use Rattle.tables.proofs.laws.Room.{room-kept}
 use Rattle.text.proofs.laws.Written.{text_fitted, text_refused}
 use borrow.Author.Rules.{rules}
 use Rattle.text.proofs.write.text_in.Goals as goal
 
 pub fit_text-requires : goal.fit_text-requires
-fit_text-requires c = let r = c.measure-m in
-    let g = room-kept c.args.file.now r.auto.groups c.requires in
-    record { sized = rw c.in-Sized.is at r.ensures; stores = search rules }
+fit_text-requires c = let g = room-kept c.args.file.now c.measure.auto.groups c.requires in
+    record { sized = c.in_ok-head.ensures; stores = search rules }
 
-pub returns-in-Sized : goal.returns-in-Sized
-returns-in-Sized c = let z = rw c.in-Sized.is at c.measure-m.ensures in
-    rw (text_fitted z (length c.args.out.now)) at c.fit_text.ensures
+pub returns : goal.returns
+returns c = rw (text_fitted c.in_ok-head.ensures (length c.args.out.now)) at c.fit_text.ensures
 
-pub returns-in-Refused : goal.returns-in-Refused
-returns-in-Refused c = text_refused _ (rw c.in-Refused.is at c.measure-m.ensures) _ _
+pub returns-in_err-head : goal.returns-in_err-head
+returns-in_err-head c = let p = err_from_is_err_and c.from_residual.result c.from_residual.ensures.1 in
+    rw (p.1, p.2) (text_refused _ c.in_err-head.ensures _ _)

@@ -2,9 +2,6 @@ use borrow.Author.Rules.{rules}
 use Rattle.resource_uses.proofs.laws.Bits.{counting}
 use Rattle.timetable.proofs.bytes.ones.Goals as goal
 
-pub loop-i-init : goal.loop-i-init
-loop-i-init c = search (rules, counting)
-
 pub loop-i-preserved : goal.loop-i-preserved
 loop-i-preserved c = search (rules, counting)
 

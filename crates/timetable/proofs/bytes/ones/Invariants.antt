@@ -7,7 +7,4 @@ use Rattle.resource_uses.specs.Bits.{marks}
 use Rattle.timetable.proofs.bytes.ones.Given as goal
 
 abbrev pub invariant-loop-i : goal.invariant-loop-i
-invariant-loop-i l = (l.i ≤ l.n) × (l.count ≤ l.i) × (l.count + trues (marks l.bytes l.base (from (l.i + 1) (l.n - l.i))) ≡ trues (marks l.bytes l.base (up_to l.n)))
-
-abbrev pub decreases-loop-i : goal.decreases-loop-i
-decreases-loop-i l = l.n - l.i
+invariant-loop-i l = (l.count ≤ l.i) × (l.count + trues (marks l.bytes l.base (from (l.i + 1) (l.n - l.i))) ≡ trues (marks l.bytes l.base (up_to l.n)))

@@ -2,9 +2,6 @@ use borrow.Author.Rules.{rules}
 use Rattle.timetable.proofs.laws.Right.{walking}
 use Rattle.timetable.proofs.check.starts_right.Goals as goal
 
-pub loop-i-init : goal.loop-i-init
-loop-i-init c = search (rules, walking)
-
 pub returns-then-not-start_right : goal.returns-then-not-start_right
 returns-then-not-start_right c = search (rules, walking)
 

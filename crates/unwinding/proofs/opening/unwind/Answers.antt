@@ -1,7 +1,6 @@
 use mathlib.Core.Path.{◌∙◌}
 use borrow.Author.Tests.{le-leb, lt-leb}
 use Rattle.turns.specs.Check.{unwound, unwound_marks}
-use borrow.Author.Rules.{rules}
 use Rattle.unwinding.proofs.opening.unwind.Goals as goal
 
 pub returns-then-trail-set : goal.returns-then-trail-set
@@ -10,4 +9,4 @@ returns-then-trail-set c = let z = lt-leb _ _ c.if-trail-set.true in record { va
 
 pub returns : goal.returns
 unfolding unwound unwound_marks
-returns c = let z = le-leb _ _ c.if-trail-set.false in record { value = rw z c.stop.ensures; marks_after = rw z (c.wipe_clause-2.ensures ∙ rw (c.wipe_clause.ensures, c.difference-first.ensures)) }
+returns c = let z = le-leb _ _ c.if-trail-set.false in record { value = rw z c.stop.ensures; marks_after = rw z (c.wipe_clause-2.ensures ∙ rw (c.wipe_clause.ensures, c.saturating_sub-first.ensures)) }

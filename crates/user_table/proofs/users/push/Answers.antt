@@ -3,5 +3,5 @@ use native.Mathlib.Omega.{arith}
 use lib.ListN.{length-set}
 use Rattle.user_table.proofs.users.push.Goals as goal
 
-pub bounds-users-last : goal.bounds-users-last
-bounds-users-last c = simp length-set (omega arith)
+pub bounds-users-at-3 : goal.bounds-users-at-3
+bounds-users-at-3 c = simp length-set (omega arith)

@@ -1,5 +1,0 @@
--- `word::negative` meets its contract: by whether there is a variable.
-use Rattle.solver_words.proofs.word.negative.Goals as goal
-
-pub returns-in-Of : goal.returns-in-Of
-returns-in-Of c = rw c.in-Of.is
