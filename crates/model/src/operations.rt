@@ -51,7 +51,9 @@ fn evaluate_in(file: &[u8], model: &[u8], groups: &mut [u8]) -> Evaluation
     let mut resources = tables::resource_rows();
     let mut list = tables::list();
     let (head, size) = measure(file, &mut durations, &mut resources, groups, &mut list)?;
-    evaluate_read(file, model, head, size, &durations, &resources, groups, &mut list)
+    evaluate_read(
+        file, model, head, size, &durations, &resources, groups, &mut list,
+    )
 }
 
 // The length of the part with Y and S and the falsified soft weight, or refusals 1 to 6, 8, 10, 11, 13, 19 and 22. One run over the
