@@ -1,12 +1,11 @@
 -- Nodes after words that stay.
 use Prim.Native.Nat.{ℕ, ◌+◌, ◌-◌, ◌*◌, ◌≤◌, ◌<◌}
 use mathlib.Core.Path.{◌≡◌, refl, sym, ap, ◌∙◌}
-use mathlib.Core.List.{List, [], ◌∷◌, ◌++◌, append_assoc}
+use mathlib.Core.List.{List, [], ◌∷◌, ◌++◌, append_assoc, append-nil}
 use native.Mathlib.Omega.{arith}
 use native.Mathlib.Numerals.{add-one}
-use lib.ListN.{length, take, drop, set, length-set, length-append, length-drop}
-use lib.Seq.{take-suc-set, length-take-le, take-append_seam}
-use Rattle.std.proofs.lemmas.List.{drop-take}
+use lib.ListN.{length, get_or, take, drop, set, length-set, length-append, length-drop, drop_of_length-le}
+use lib.Seq.{take-suc, take-suc-set, length-take-le, drop-append-le}
 use Rattle.scope.specs.Cnf.{pos, neg, opp, or, and}
 use Rattle.literals.specs.Words.{Holds}
 use Rattle.literals.proofs.laws.Words.{holds_as, holds_more}
@@ -91,18 +90,18 @@ module _ (before : List ℕ) (x y o : ℕ) where
 pub part_length_lem : (row : List ℕ) (from to : ℕ) → to ≤ length row → length (drop from (take to row)) ≡ to - from
 part_length_lem row from to h = length-drop from (take to row) ∙ rw (length-take-le to row h)
 
--- the words of a row from one place up to another, copied after words that stay
-pub copied : (row : List ℕ) (from to : ℕ) → from ≤ to → to ≤ length row → {ys : List ℕ} → ys ≡ take (to - from) (drop from row)
-    → (out rest : List ℕ) (at : ℕ)
-    → at ≤ length out
-    → Holds (take at out ++ (ys ++ rest)) (at + (to - from)) (take at out ++ drop from (take to row))
-copied row from to h l {ys} e out rest at j =
-    let d : from + (to - from) ≡ to = omega arith in
-    let f : ys ≡ drop from (take to row) = e ∙ sym (rw d at (drop-take from (to - from) row)) in
-    let xs = take at out ++ drop from (take to row) in
-    let n : at + (to - from) ≡ length xs =
-    simp length-append (omega (arith, length-take-le at out j, part_length_lem row from to l)) in
-    record {
-      count = n;
-      front = rw (f, n) (ap (take (length xs)) (sym (append_assoc (take at out) (drop from (take to row)) rest)) ∙ take-append_seam xs rest);
-    }
+pub copied_none : (row : List ℕ) (from : ℕ) (out : List ℕ) (at : ℕ) → at ≤ length out → from ≤ length row → Holds out at (take at out ++ drop from (take from row))
+copied_none row from out at h l =
+    let e : drop from (take from row) ≡ [] = drop_of_length-le (take from row) {i = from} (omega (arith, length-take-le from row l)) in
+    holds_as (sym (rw e (append-nil (take at out)))) (holds_kept out at h)
+
+pub copied_more : (row before : List ℕ) (from k : ℕ) {out : List ℕ} {n : ℕ}
+    → Holds out n (before ++ drop from (take k row))
+    → from ≤ k
+    → k < length row
+    → n < length out
+    → Holds (set out n (get_or row k 0)) (n + 1) (before ++ drop from (take (k + 1) row))
+copied_more row before from k h f l j =
+    let e : drop from (take (k + 1) row) ≡ drop from (take k row) ++ (get_or row k 0 ∷ []) =
+    rw (add-one k, take-suc row k 0 l) (drop-append-le from (take k row) (get_or row k 0 ∷ []) (omega (arith, length-take-le k row (omega arith)))) in
+    holds_as (append_assoc before (drop from (take k row)) (get_or row k 0 ∷ []) ∙ ap (◌++◌ before) (sym e)) (holds_more h (get_or row k 0) j)

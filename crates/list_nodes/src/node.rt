@@ -29,9 +29,13 @@ pub fn store_words(row: &[u32], from: usize, to: usize, at: usize, out: &mut [u3
     ensures holds { Holds out.new result (take at out.old ++ drop from (take to row.now)) }
     ensures value { result ≡ at + (to - from) }
 {
-    let end = at + (to - from);
-    out[at..end].copy_from_slice(&row[from..to]);
-    end
+    let mut n = at;
+    // tried with copy_from_slice: the compiler then no longer sees that a store is only written, and clears it first
+    for k in from..to {
+        out[n] = row[k];
+        n += 1;
+    }
+    n
 }
 
 // The OR with the output o of the words of a row from one place up to another.

@@ -8,7 +8,8 @@ ghost use Rattle.scope.specs.Number.{number as number_at, limited as limited_at,
 
 use scope::{Parsed, Reason, Refusal};
 
-// The number at an offset.
+// The number at an offset. It is a call of its own, so that a number of one byte is read in few steps by those below.
+#[inline(never)]
 pub fn number_at(s: &[u8], at: usize) -> Parsed<u32>
     ensures { said result ≡ number_at s.now at }
 {

@@ -4,7 +4,7 @@ ghost use Rattle.scope.specs.Number.{number as number_at};
 ghost use Rattle.turns.specs.Check.{first_id, entered, proceeded, answer_of};
 
 use hints::machine::{Machine, Phase, step_on, stop};
-use number::near;
+use reader::Reader;
 use scope::{Reason, Refusal};
 use turns::check::Check;
 
@@ -12,7 +12,7 @@ use turns::check::Check;
 fn first_id(phase: Phase, over: Phase, proof: &[u8], at: usize) -> Machine
     ensures { result ≡ first_id phase over at (number_at proof.now at) }
 {
-    match near(proof, at) {
+    match Reader::new(proof, at).number() {
         Ok((id, next)) => step_on(phase, over, id, next, 0),
         Err(_) => stop(Phase::Refused(Reason::BadStep), at),
     }

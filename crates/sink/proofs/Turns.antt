@@ -2,10 +2,11 @@
 use mathlib.Core.Path.{◌≡◌, refl, ◌∙◌, sym}
 use mathlib.Core.Bool.{Bool, true}
 use mathlib.Core.List.{List}
-use Prim.Native.Nat.{ℕ, ◌+◌, ◌≤◌, ◌<◌}
+use Prim.Native.Nat.{ℕ, suc, ◌+◌, ◌≤◌, ◌<◌}
 use native.Mathlib.Numerals.{add-one}
-use lib.ListN.{length, drop, get_or, drop_of_length-le}
-use lib.Seq.{drop-cons}
+use native.Mathlib.Omega.{arith}
+use lib.ListN.{length, drop, get_or, set, drop_of_length-le}
+use lib.Seq.{drop-cons, sets}
 use lib.Dec.{leb}
 use Rattle.sink.specs.Block.{Parts, by_word, by_words}
 use Rattle.sink.specs.Parts.{size_parts, judge_parts}
@@ -35,3 +36,7 @@ size-turn n ws i h q g = record { eq = sym (size-first n (leb 2147483648 (get_or
 pub judge-turn : {j j' e : Judgement} (m ws : List ℕ) (i : ℕ) → i < length ws → j' ≡ by_word (judge_parts m) true (get_or ws i 0) j
     → Left (judge_parts m) true (drop i ws) j e → Left (judge_parts m) true (drop (i + 1) ws) j' e
 judge-turn m ws i h q g = record { eq = sym (judge-first m (leb 2147483648 (get_or ws i 0)) (drop (i + 1) ws) _) ∙ (turn true ws i h q g).eq }
+
+-- copied one by one
+pub copy-turn : (l ws : List ℕ) (a i : ℕ) → i < length ws → sets l (a + i) (drop i ws) ≡ sets (set l (a + i) (get_or ws i 0)) (a + (i + 1)) (drop (i + 1) ws)
+copy-turn l ws a i h = let e : a + (i + 1) ≡ suc (a + i) = omega arith in rw (e, drop-cons ws i 0 h, add-one i)

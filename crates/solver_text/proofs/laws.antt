@@ -1,2 +1,3 @@
 -- Laws, for other crates to use.
+pub mod Copied
 pub mod Read
