@@ -8,8 +8,7 @@ ghost use Rattle.scope.specs.Number.{number as number_at, limited as limited_at,
 
 use scope::{Parsed, Reason, Refusal};
 
-// The number at an offset. It is a call of its own, so that a number of one byte is read in few steps by those below.
-#[inline(never)]
+// The number at an offset.
 pub fn number_at(s: &[u8], at: usize) -> Parsed<u32>
     ensures { said result ≡ number_at s.now at }
 {
@@ -65,7 +64,11 @@ pub fn near(s: &[u8], at: usize) -> Parsed<u32>
 pub fn limited(s: &[u8], at: usize, lo: u32, hi: u32) -> Parsed<u32>
     ensures { said result ≡ limited_at lo hi s.now at }
 {
-    let (v, next) = near(s, at)?;
+    // no `?`: compiled, it takes each number apart and puts it together again (measured)
+    let (v, next) = match near(s, at) {
+        Ok(found) => found,
+        Err(bad) => return Err(bad),
+    };
     let outside = Refusal {
         reason: Reason::OutsideLimit,
         value: at as u64,
@@ -83,7 +86,11 @@ pub fn limited(s: &[u8], at: usize, lo: u32, hi: u32) -> Parsed<u32>
 pub fn reference(s: &[u8], at: usize, before: u32, n: u32) -> Parsed<u32>
     ensures { said result ≡ reference_at before n s.now at }
 {
-    let (v, next) = near(s, at)?;
+    // no `?`: compiled, it takes each number apart and puts it together again (measured)
+    let (v, next) = match near(s, at) {
+        Ok(found) => found,
+        Err(bad) => return Err(bad),
+    };
     let bad = Refusal {
         reason: Reason::BadReference,
         value: at as u64,

@@ -27,7 +27,7 @@ fn windows_at(s: &[u8], at: usize, first: u32, table: &mut [u8]) -> Parsed<u32>
     let mut next = start;
     for w in 0..count as usize {
         let ((d, from, to), after) = window_at(s, next)?;
-        let day = days[d as usize - 1];
+        let day = &days[d as usize - 1];
         let base = (first as usize + w) * 126;
         let end = base + 126;
         window_row(day, from, to, &mut table[base..end]);

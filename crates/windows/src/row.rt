@@ -13,10 +13,10 @@ fn fits(p: Period, from: u32, to: u32) -> bool
 }
 
 // The times of the day's periods that lie within the window, into a row of a table.
-pub fn window_row(day: [Option<Period>; 24], from: u32, to: u32, row: &mut [u8])
-    requires day_len { length day ≡ 24 }
+pub fn window_row(day: &[Option<Period>; 24], from: u32, to: u32, row: &mut [u8])
+    requires day_len { length day.now ≡ 24 }
     requires row_len { length row.old ≡ 126 }
-    ensures { row_of row.new ≡ in_window from to day }
+    ensures { row_of row.new ≡ in_window from to day.now }
 {
     let mut n: usize = 0;
     for k in 0..24 {
